@@ -1,0 +1,1 @@
+// Big-endian numbers in byte slices, copies and fills.
