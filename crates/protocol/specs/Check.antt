@@ -1,0 +1,85 @@
+-- Document 01, "Who can cause a refusal": checks 1 to 7 of a card, and how refusals are put in order. A refusal is its number, 0 for none.
+use Prim.Native.Nat.{ℕ, zero, suc, _+_, _*_}
+use mathlib.Core.List.{List}
+use mathlib.Core.Bool.{Bool, cond, not, _&&_, _||_}
+use lib.ListN.{length}
+use lib.Dec.{eqb, ltb}
+use Rattle.protocol.specs.declared.Geometry.{Geometry}
+use Rattle.protocol.specs.Below.{allBelow}
+use Rattle.protocol.specs.Layout.{goodHeader, geometryOf, cardLength, diskLength}
+use Rattle.protocol.specs.Entry.{FRESH, entryAt, goodEntry}
+use Rattle.protocol.specs.Ring.{headOf, tailOf, windowOf, windowNumber, usedAt, settledBlock, isSettled}
+
+infixr 20 _orElse_
+-- "A number is given whenever its condition holds": refusal r, unless all is well
+unfoldable pub refuse : ℕ → Bool → ℕ
+refuse r ok = cond ok 0 r
+
+-- "Lowest number first": the first refusal, or where there is none the second
+unfoldable pub _orElse_ : ℕ → ℕ → ℕ
+zero orElse r = r
+(suc n) orElse r = suc n
+
+-- not 1: "card under 128 bytes, or a header field not as above"
+unfoldable pub headerFits : List ℕ → Bool
+headerFits c = not (ltb (length c) 128) && goodHeader c
+
+-- not 2: "card of the wrong length"
+unfoldable pub cardFits : Geometry → List ℕ → Bool
+cardFits g c = eqb (length c) (cardLength g)
+
+-- not 3: "disk of the wrong length"
+unfoldable pub diskFits : Geometry → List ℕ → Bool
+diskFits g d = eqb (length d) (diskLength g)
+
+-- the number in the window's slot j is below D
+unfoldable pub windowNumberFits : Geometry → List ℕ → ℕ → Bool
+windowNumberFits g c j = ltb (windowNumber g c j) (g .disk)
+
+-- not 4: "Head or Tail not below S, or a window number not below D"
+unfoldable pub ringFits : Geometry → List ℕ → Bool
+ringFits g c =
+    ltb (headOf c) (g .slots) && (ltb (tailOf c) (g .slots) && allBelow (windowNumberFits g c) (windowOf g c))
+
+-- entry i is one that check 5 allows
+unfoldable pub goodEntryAt : Geometry → List ℕ → ℕ → Bool
+goodEntryAt g c i = goodEntry (g .blocks) (g .disk) (entryAt g c i)
+
+-- not 5
+unfoldable pub entriesFit : Geometry → List ℕ → Bool
+entriesFit g c = allBelow (goodEntryAt g c) (g .blocks)
+
+-- entries i and j have "equal numbers, equal current blocks or equal settled blocks (two that have none are not equal)"
+unfoldable pub alike : Geometry → List ℕ → ℕ → ℕ → Bool
+alike g c i j =
+    eqb (entryAt g c i .number) (entryAt g c j .number)
+    || (eqb (entryAt g c i .current) (entryAt g c j .current)
+    || (eqb (settledBlock g c i) (settledBlock g c j) && not (eqb (settledBlock g c i) FRESH)))
+
+-- entries i and j are not two in-use entries that are alike
+unfoldable pub apart : Geometry → List ℕ → ℕ → ℕ → Bool
+apart g c i j = not (usedAt g c i && (usedAt g c j && alike g c i j))
+
+-- entry i is apart from each entry before it
+unfoldable pub apartBefore : Geometry → List ℕ → ℕ → Bool
+apartBefore g c i = allBelow (apart g c i) i
+
+-- not 6
+unfoldable pub entriesApart : Geometry → List ℕ → Bool
+entriesApart g c = allBelow (apartBefore g c) (g .blocks)
+
+-- 1 and 2: the fitter
+unfoldable pub fitRefusal : List ℕ → ℕ
+fitRefusal c = refuse 1 (headerFits c) orElse refuse 2 (cardFits (geometryOf c) c)
+
+-- 3, for the calls that take the disk
+unfoldable pub diskRefusal : Geometry → List ℕ → ℕ
+diskRefusal g d = refuse 3 (diskFits g d)
+
+-- 4 to 6: a damaged card
+unfoldable pub damageRefusal : Geometry → List ℕ → ℕ
+damageRefusal g c = refuse 4 (ringFits g c) orElse refuse 5 (entriesFit g c) orElse refuse 6 (entriesApart g c)
+
+-- 4 to 7: a damaged card or one that an earlier cut left unsettled
+unfoldable pub cardRefusal : Geometry → List ℕ → ℕ
+cardRefusal g c = damageRefusal g c orElse refuse 7 (isSettled g c)

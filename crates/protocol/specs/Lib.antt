@@ -1,0 +1,14 @@
+-- The definitions of document 01, in its order.
+pub mod Below
+pub mod Layout
+pub mod Entry
+pub mod Ring
+pub mod Check
+pub mod Store
+pub mod Format
+pub mod Search
+pub mod Commit
+pub mod Load
+pub mod Recover
+pub mod Read
+pub mod Table

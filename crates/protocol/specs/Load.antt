@@ -1,0 +1,61 @@
+-- Document 01, "Load" and "Evict".
+use Prim.Native.Nat.{ℕ, _+_}
+use mathlib.Core.List.{List, [], _∷_, _++_}
+use mathlib.Core.Bool.{Bool, cond, not}
+use lib.ListN.{getD}
+use lib.Dec.{ltb}
+use Rattle.protocol.specs.declared.Geometry.{Geometry}
+use Rattle.protocol.specs.declared.Entry.{Entry}
+use Rattle.protocol.specs.Layout.{geometryOf, blockAt, diskBlock}
+use Rattle.protocol.specs.Entry.{FRESH, entryOf, unused, entryAt, isModified}
+use Rattle.protocol.specs.Ring.{findEntry, cached, currentOf}
+use Rattle.protocol.specs.Check.{refuse, _orElse_, fitRefusal, diskRefusal, cardRefusal}
+use Rattle.protocol.specs.Store.{Run, Work, words, sectors, entryStore, single}
+use Rattle.protocol.specs.Search.{unusedEntries}
+use Rattle.protocol.specs.Commit.{newBlock, roomFor}
+
+-- checks 1 to 7 of a card and a disk
+unfoldable pub pairRefusal : List ℕ → List ℕ → ℕ
+pairRefusal c d = fitRefusal c orElse diskRefusal (geometryOf c) d orElse cardRefusal (geometryOf c) c
+
+-- 10: "a block number not below D"
+unfoldable pub blockRefusal : Geometry → ℕ → ℕ
+blockRefusal g b = refuse 10 (ltb b (g .disk))
+
+-- "80, number, FRESH, current"
+unfoldable pub cleanEntry : Geometry → List ℕ → ℕ → Entry
+cleanEntry g c b = entryOf 0x80 b FRESH (newBlock g c 0)
+
+-- "copies an uncached disk block into the first free data block (B/8 words), then stores the first unused entry"
+unfoldable pub loadRuns : Geometry → List ℕ → List ℕ → ℕ → List Run
+loadRuns g c d b =
+    words g (newBlock g c 0) (diskBlock g d b) ∷ single (entryStore g (getD (unusedEntries g c) 0 0) (cleanEntry g c b))
+
+-- 12: "load of a cached block"; 14: "load with none free"
+unfoldable pub loadRefusal : List ℕ → List ℕ → ℕ → ℕ
+loadRefusal c d b =
+    pairRefusal c d
+    orElse blockRefusal (geometryOf c) b
+    orElse refuse 12 (not (cached (geometryOf c) c b))
+    orElse refuse 14 (roomFor (geometryOf c) c 1)
+
+-- load of disk block b
+unfoldable pub loadWork : List ℕ → List ℕ → ℕ → Work
+loadWork c d b = record { refusal = loadRefusal c d b; runs = loadRuns (geometryOf c) c d b }
+
+-- "Evict of a modified block writes its B/512 sectors ascending", of a clean block none
+unfoldable pub writeBack : Geometry → List ℕ → ℕ → List Run
+writeBack g c b =
+    cond (isModified (entryAt g c (findEntry g c b))) (sectors g b (blockAt g c (currentOf g c b)) ∷ []) []
+
+-- "then zeros the entry"
+unfoldable pub evictRuns : Geometry → List ℕ → ℕ → List Run
+evictRuns g c b = writeBack g c b ++ single (entryStore g (findEntry g c b) unused)
+
+-- 13: "evict of an uncached block"
+unfoldable pub evictRefusal : List ℕ → List ℕ → ℕ → ℕ
+evictRefusal c d b = pairRefusal c d orElse blockRefusal (geometryOf c) b orElse refuse 13 (cached (geometryOf c) c b)
+
+-- evict of disk block b
+unfoldable pub evictWork : List ℕ → List ℕ → ℕ → Work
+evictWork c d b = record { refusal = evictRefusal c d b; runs = evictRuns (geometryOf c) c b }

@@ -1,0 +1,65 @@
+-- Document 01, "Read", "Look" and "State".
+use Prim.Native.Nat.{ℕ}
+use mathlib.Core.List.{List, []}
+use mathlib.Core.Bool.{Bool, cond, _&&_}
+use lib.ListN.{length}
+use lib.Dec.{eqb}
+use Rattle.protocol.specs.declared.Geometry.{Geometry}
+use Rattle.protocol.specs.declared.Condition.{Condition}
+use Rattle.protocol.specs.declared.Condition.the-variants.{Settled, Unsettled}
+use Rattle.protocol.specs.declared.State.{State}
+use Rattle.protocol.specs.declared.Reported.{Reported}
+use Rattle.protocol.specs.declared.Reported.the-variants.{Is, Refused as RefusedState}
+use Rattle.protocol.specs.declared.Held.{Held}
+use Rattle.protocol.specs.declared.Held.the-variants.{Card, Disk, Refused as RefusedRead}
+use Rattle.protocol.specs.Below.{countBelow}
+use Rattle.protocol.specs.Layout.{geometryOf, blockSize}
+use Rattle.protocol.specs.Entry.{entryAt, isModified}
+use Rattle.protocol.specs.Ring.{usedAt, undoableAt, windowOf, isSettled, cached, contents}
+use Rattle.protocol.specs.Check.{refuse, _orElse_, fitRefusal, damageRefusal}
+use Rattle.protocol.specs.Load.{pairRefusal, blockRefusal}
+
+-- 9: "read's output not B bytes"
+unfoldable pub outputRefusal : Geometry → List ℕ → ℕ
+outputRefusal g out = refuse 9 (eqb (length out) (blockSize g))
+
+unfoldable pub readRefusal : List ℕ → List ℕ → List ℕ → ℕ → ℕ
+readRefusal c d out b =
+    pairRefusal c d orElse outputRefusal (geometryOf c) out orElse blockRefusal (geometryOf c) b
+
+-- "says whether card or disk held it"
+unfoldable pub heldBy : List ℕ → List ℕ → List ℕ → ℕ → Held
+heldBy c d out b =
+    cond (eqb (readRefusal c d out b) 0) (cond (cached (geometryOf c) c b) Card Disk) (RefusedRead (readRefusal c d out b))
+
+-- "copies the contents of a block to an output of B bytes": the output after the call, out before it
+unfoldable pub outputAfter : List ℕ → List ℕ → List ℕ → ℕ → List ℕ
+outputAfter c d out b = cond (eqb (readRefusal c d out b) 0) (contents (geometryOf c) c d b) out
+
+unfoldable pub lookRefusal : List ℕ → List ℕ → ℕ → ℕ
+lookRefusal c d b = pairRefusal c d orElse blockRefusal (geometryOf c) b
+
+-- "hands back the block as a part of the card or of the disk"; "where it refuses, the part is empty"
+unfoldable pub lookedAt : List ℕ → List ℕ → ℕ → List ℕ
+lookedAt c d b = cond (eqb (lookRefusal c d b) 0) (contents (geometryOf c) c d b) []
+
+unfoldable pub stateRefusal : List ℕ → ℕ
+stateRefusal c = fitRefusal c orElse damageRefusal (geometryOf c) c
+
+-- entry i is in use and modified
+unfoldable pub modifiedAt : Geometry → List ℕ → ℕ → Bool
+modifiedAt g c i = usedAt g c i && isModified (entryAt g c i)
+
+-- "settled, with in-use and modified entries counted, or unsettled, with undoable entries and the window's slots counted"
+unfoldable pub conditionOf : Geometry → List ℕ → Condition
+conditionOf g c =
+    cond (isSettled g c)
+    (Settled (countBelow (usedAt g c) (g .blocks)) (countBelow (modifiedAt g c) (g .blocks)))
+    (Unsettled (countBelow (undoableAt g c) (g .blocks)) (windowOf g c))
+
+-- "gives the geometry together with the card's condition"
+unfoldable pub stateOf : List ℕ → Reported
+stateOf c =
+    cond (eqb (stateRefusal c) 0)
+    (Is (record { geometry = geometryOf c; condition = conditionOf (geometryOf c) c }))
+    (RefusedState (stateRefusal c))

@@ -1,0 +1,40 @@
+-- Document 01, "Recover".
+use Prim.Native.Nat.{ℕ}
+use mathlib.Core.List.{List, [], _∷_, _++_}
+use mathlib.Core.Bool.{Bool, true, false, cond, not, _&&_}
+use lib.ListN.{length}
+use lib.Dec.{eqb}
+use Rattle.numbers.specs.Bytes.{part}
+use Rattle.protocol.specs.declared.Geometry.{Geometry}
+use Rattle.protocol.specs.Below.{eachBelow}
+use Rattle.protocol.specs.Layout.{geometryOf}
+use Rattle.protocol.specs.Entry.{entryAt, undone}
+use Rattle.protocol.specs.Ring.{headOf, undoableAt}
+use Rattle.protocol.specs.Check.{_orElse_, fitRefusal, damageRefusal}
+use Rattle.protocol.specs.Store.{Run, Store, Work, entryStore, tailStore, single}
+
+-- two rows of bytes are the same
+unfoldable pub sameBytes : List ℕ → List ℕ → Bool
+sameBytes [] [] = true
+sameBytes [] (y ∷ ys) = false
+sameBytes (x ∷ xs) [] = false
+sameBytes (x ∷ xs) (y ∷ ys) = eqb x y && sameBytes xs ys
+
+-- "Stores that would change no byte are not made and not counted"
+unfoldable pub ifChanging : List ℕ → Store → List Run
+ifChanging c s = cond (sameBytes (part c (s .place) (length (s .bytes))) (s .bytes)) [] (single s)
+
+-- "Each undoable entry becomes zeros if its previous is FRESH, else 82, number, previous, previous"
+unfoldable pub undoRuns : Geometry → List ℕ → ℕ → List Run
+undoRuns g c i = cond (undoableAt g c i) (ifChanging c (entryStore g i (undone (entryAt g c i)))) []
+
+-- "entries in ascending order", "Last, Tail is set to Head"
+unfoldable pub recoverRuns : Geometry → List ℕ → List Run
+recoverRuns g c = eachBelow (undoRuns g c) (g .blocks) ++ ifChanging c (tailStore (headOf c))
+
+unfoldable pub recoverRefusal : List ℕ → ℕ
+recoverRefusal c = fitRefusal c orElse damageRefusal (geometryOf c) c
+
+-- recovery of the card c
+unfoldable pub recoverWork : List ℕ → Work
+recoverWork c = record { refusal = recoverRefusal c; runs = recoverRuns (geometryOf c) c }

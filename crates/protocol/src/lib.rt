@@ -1,0 +1,70 @@
+// The types of the cache's calls. What the calls mean stands in specs/, in the order of document 01; no code is here.
+
+// An entry's previous block where the block number was not cached before: no data block has this number.
+pub const FRESH: u32 = 0xFFFF_FFFF;
+
+// The geometry of a card and its disk: blocks of two to the power k bytes, the ring's slots, the card's data blocks, the disk's blocks.
+pub struct Geometry {
+    pub k: u64,
+    pub slots: u64,
+    pub blocks: u64,
+    pub disk: u64,
+}
+
+// An entry's four fields: flag byte, disk block number, previous and current data block.
+pub struct Entry {
+    pub flags: u8,
+    pub number: u64,
+    pub previous: u32,
+    pub current: u32,
+}
+
+// The answer to a storing call: all its stores were made, and how many; the power failed before the last one; or a refusal's number.
+pub enum Answer {
+    Done(u64),
+    Cut,
+    Refused(u8),
+}
+
+// The answer to a call without a count: done, or a refusal's number.
+pub enum Outcome {
+    Done,
+    Refused(u8),
+}
+
+// A single entry as it was read: its fields, or a refusal's number.
+pub enum Decoded {
+    Fields(Entry),
+    Refused(u8),
+}
+
+// A single entry as it was written: sixteen bytes, all zero where it was refused.
+pub struct Encoded {
+    pub outcome: Outcome,
+    pub bytes: [u8; 16],
+}
+
+// Which medium held a block that was read.
+pub enum Held {
+    Card,
+    Disk,
+    Refused(u8),
+}
+
+// A card's condition: settled, with its in-use and modified entries, or unsettled, with its undoable entries and the window's slots.
+pub enum Condition {
+    Settled { used: u64, modified: u64 },
+    Unsettled { undoable: u64, window: u64 },
+}
+
+// The geometry together with the condition.
+pub struct State {
+    pub geometry: Geometry,
+    pub condition: Condition,
+}
+
+// A card's state, or a refusal's number.
+pub enum Reported {
+    Is(State),
+    Refused(u8),
+}
