@@ -1,2 +1,3 @@
 -- Laws of the definitions, and what is proved of them.
+pub mod Below
 pub mod Table
