@@ -12,3 +12,5 @@ pub mod Load
 pub mod Recover
 pub mod Read
 pub mod Table
+pub mod History
+pub mod CutRule
