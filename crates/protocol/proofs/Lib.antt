@@ -1,4 +1,5 @@
 -- Laws of the definitions, and what is proved of them.
 pub mod Below
 pub mod Invariant
+pub mod Region
 pub mod Table
