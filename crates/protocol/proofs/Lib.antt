@@ -2,4 +2,5 @@
 pub mod Below
 pub mod Invariant
 pub mod Region
+pub mod Stores
 pub mod Table
