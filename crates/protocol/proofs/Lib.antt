@@ -1,5 +1,6 @@
 -- Laws of the definitions, and what is proved of them.
 pub mod Below
+pub mod Codec
 pub mod Invariant
 pub mod Region
 pub mod Stores
