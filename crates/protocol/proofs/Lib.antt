@@ -3,5 +3,6 @@ pub mod Below
 pub mod Codec
 pub mod Invariant
 pub mod Region
+pub mod Shape
 pub mod Stores
 pub mod Table

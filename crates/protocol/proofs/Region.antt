@@ -1,61 +1,18 @@
 -- The card's parts lie apart: a store inside one of them leaves the others. The one product of two variables, a block's place, is met here alone.
 -- Assumes nothing.
-use Prim.Native.Nat.{ℕ, zero, suc, _+_, _*_, _-_, _/_, _%_, _^_, _≤_, _<_}
+use Prim.Native.Nat.{ℕ, zero, suc, _+_, _*_, _-_, _/_, _^_, _≤_, _<_}
 use mathlib.Core.List.{List}
-use mathlib.Core.Bool.{true, _&&_}
 use mathlib.Core.Path.{_≡_, refl, sym, ap, subst, _∙_}
 use mathlib.Core.Logic.{_⊎_, inl, inr, ⊎-elim}
 use native.Mathlib.Nat.{mul-le-mul-right, suc-mul, mul-comm}
 use native.Mathlib.Omega.{arith}
 use lib.ListN.{length}
-use lib.Dec.{leb, eqb}
-use borrow.Author.Tests.{leb-true}
 use Rattle.numbers.specs.Bytes.{part, patch}
 use Rattle.numbers.proofs.Laws.{part-patch-same, part-patch-before, part-patch-after}
 use Rattle.protocol.specs.declared.Geometry.{Geometry}
-use Rattle.protocol.specs.Layout.{between, goodK, goodSlots, goodBlocks, goodDisk, goodGeometry, blockSize, slotPlace, entryPlace, blockPlace, cardLength}
-use Rattle.protocol.proofs.Below.{and-left, and-right, below-or-above}
-
--- ---- the limits of a geometry, as facts on numbers
-
-pub record Limits (g : Geometry) : Type 0 where
-  pub k-low : 9 ≤ g .k
-  pub k-high : g .k ≤ 12
-  pub slots-low : 8 ≤ g .slots
-  pub slots-high : g .slots ≤ 256
-  pub blocks-low : 4 ≤ g .blocks
-  pub blocks-high : g .blocks ≤ 128
-  pub disk-low : 1 ≤ g .disk
-  pub disk-high : g .disk ≤ 65536
-
-low : (a b x : ℕ) → between a b x ≡ true → a ≤ x
-unfolding between
-low a b x h = leb-true a x (and-left (leb a x) (leb x b) h)
-
-high : (a b x : ℕ) → between a b x ≡ true → x ≤ b
-unfolding between
-high a b x h = leb-true x b (and-right (leb a x) (leb x b) h)
-
-pub limits : (g : Geometry) → goodGeometry g ≡ true → Limits g
-unfolding goodGeometry goodK goodSlots goodBlocks goodDisk
-limits g h =
-    let rest = and-right (goodK (g .k)) (goodSlots (g .slots) && (goodBlocks (g .blocks) && goodDisk (g .disk))) h in
-    let rest₂ = and-right (goodSlots (g .slots)) (goodBlocks (g .blocks) && goodDisk (g .disk)) rest in
-    let ks = and-left (goodK (g .k)) (goodSlots (g .slots) && (goodBlocks (g .blocks) && goodDisk (g .disk))) h in
-    let ss =
-        and-left (between 8 256 (g .slots)) (eqb (g .slots % 8) 0) (and-left (goodSlots (g .slots)) (goodBlocks (g .blocks) && goodDisk (g .disk)) rest) in
-    let bs = and-left (between 4 128 (g .blocks)) (eqb (g .blocks % 4) 0) (and-left (goodBlocks (g .blocks)) (goodDisk (g .disk)) rest₂) in
-    let ds = and-right (goodBlocks (g .blocks)) (goodDisk (g .disk)) rest₂ in
-    record
-    { k-low = low 9 12 _ ks
-    ; k-high = high 9 12 _ ks
-    ; slots-low = low 8 256 _ ss
-    ; slots-high = high 8 256 _ ss
-    ; blocks-low = low 4 128 _ bs
-    ; blocks-high = high 4 128 _ bs
-    ; disk-low = low 1 65536 _ ds
-    ; disk-high = high 1 65536 _ ds
-    }
+use Rattle.protocol.specs.Layout.{blockSize, slotPlace, entryPlace, blockPlace, cardLength}
+use Rattle.protocol.proofs.Below.{below-or-above}
+use Rattle.protocol.proofs.Codec.{GeometryFits}
 
 -- a block is a whole number of words and of sectors
 pub record Whole (b : ℕ) : Type 0 where
@@ -71,11 +28,11 @@ whole-power (suc (suc zero)) h = record { in-words = refl; in-sectors = refl; so
 whole-power (suc (suc (suc zero))) h = record { in-words = refl; in-sectors = refl; some-bytes = omega arith; few-bytes = omega arith }
 whole-power (suc (suc (suc (suc j)))) h = absurd (omega arith)
 
-pub whole : (g : Geometry) → Limits g → Whole (blockSize g)
+pub whole : (g : Geometry) → GeometryFits g → Whole (blockSize g)
 unfolding blockSize
 whole g l =
-    let e : 9 + (g .k - 9) ≡ g .k = omega (arith, l) in
-    subst (λ (k : ℕ). Whole (2 ^ k)) e (whole-power (g .k - 9) (omega (arith, l)))
+    let e : 9 + (g .k - 9) ≡ g .k = omega arith in
+    subst (λ (k : ℕ). Whole (2 ^ k)) e (whole-power (g .k - 9) (omega arith))
 
 -- the one fact that is not linear: a block ends where the next one begins or before
 pub block-ends : (i j b : ℕ) → i < j → i * b + b ≤ j * b
@@ -135,7 +92,7 @@ count g (suc (suc (suc (suc zero)))) = g .blocks
 count g (suc (suc (suc (suc (suc zero))))) = g .blocks
 count g (suc (suc (suc (suc (suc (suc a)))))) = 0
 
-pub place : Geometry → Region → ℕ
+unfoldable pub place : Geometry → Region → ℕ
 place g r = base g (r .band) + r .index * unit g (r .band)
 
 abbrev pub size : Geometry → Region → ℕ
@@ -207,7 +164,7 @@ in-card g r b h = omega (arith, within-band g r h, bands-ascend g (r .band) 6 b)
 
 -- ---- the bytes of a part
 
-pub cell : Geometry → List ℕ → Region → List ℕ
+unfoldable pub cell : Geometry → List ℕ → Region → List ℕ
 cell g c r = part c (place g r) (size g r)
 
 -- bytes put over the whole part are read back
