@@ -4,5 +4,6 @@ pub mod Codec
 pub mod Invariant
 pub mod Region
 pub mod Shape
+pub mod Steps
 pub mod Stores
 pub mod Table
