@@ -1,7 +1,9 @@
 -- Laws of the definitions, and what is proved of them.
 pub mod Below
 pub mod Codec
+pub mod Holds
 pub mod Invariant
+pub mod Made
 pub mod Region
 pub mod Shape
 pub mod Steps

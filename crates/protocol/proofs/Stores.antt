@@ -10,7 +10,7 @@ use native.Mathlib.Omega.{arith}
 use lib.ListN.{length, take, drop, length-append, length-take, length-drop}
 use lib.Seq.{take-all, take-append-le, take-add}
 use Rattle.numbers.specs.Bytes.{part, patch}
-use Rattle.numbers.proofs.Laws.{length-patch, patch-nil, patch-append, part-patch-before, part-patch-after}
+use Rattle.numbers.proofs.Laws.{length-patch, patch-nil, patch-append, part-patch-same, part-patch-before, part-patch-after}
 use Rattle.protocol.specs.Below.{eachBelow}
 use Rattle.protocol.specs.Store.{Medium, card, disk, Store, Run, isOn, storedOn, madeOn, flat, single, units}
 use Rattle.protocol.proofs.Below.{below-or-above}
@@ -149,6 +149,16 @@ pub length-units : (m : Medium) (w n at : ℕ) (bs : List ℕ) → length (units
 unfolding units
 length-units m w zero at bs = refl
 length-units m w (suc n) at bs = ap suc (length-units m w n (at + w) (drop w bs))
+
+-- all of them put all the bytes
+pub units-stored : (m : Medium) (w n at : ℕ) (bs xs : List ℕ) → n * w ≡ length bs → at + length bs ≤ length xs
+    → part (madeOn m (units m w n at bs) xs) at (length bs) ≡ bs
+units-stored m w n at bs xs e h =
+    ap (λ (z : List ℕ). part z at (length bs))
+    (ap (λ (ss : List Store). madeOn m ss xs) (sym (take-all n _ (omega (arith, length-units m w n at bs))))
+    ∙ units-made m w n n at bs xs (omega arith) (omega arith)
+    ∙ ap (patch xs at) (take-all (n * w) bs (omega arith)))
+    ∙ part-patch-same xs at bs (length bs) refl h
 
 -- ---- properties at every cut
 
