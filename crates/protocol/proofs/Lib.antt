@@ -1,9 +1,11 @@
 -- Laws of the definitions, and what is proved of them.
+pub mod Allowed
 pub mod Below
 pub mod Codec
 pub mod Holds
 pub mod Invariant
 pub mod Made
+pub mod Recovered
 pub mod Region
 pub mod Shape
 pub mod Steps

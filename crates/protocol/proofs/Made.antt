@@ -74,9 +74,17 @@ pub entry-elsewhere : (g : Geometry) (i : ℕ) (x : Entry) (d : List ℕ) → st
 unfolding storedOn isOn entryStore
 entry-elsewhere g i x d = refl
 
-pub word-elsewhere : (at v : ℕ) (d : List ℕ) → storedOn disk (wordStore at v) d ≡ d
-unfolding storedOn isOn wordStore
-word-elsewhere at v d = refl
+pub tail-elsewhere : (v : ℕ) (d : List ℕ) → storedOn disk (tailStore v) d ≡ d
+unfolding storedOn isOn wordStore tailStore
+tail-elsewhere v d = refl
+
+pub head-elsewhere : (v : ℕ) (d : List ℕ) → storedOn disk (headStore v) d ≡ d
+unfolding storedOn isOn wordStore headStore
+head-elsewhere v d = refl
+
+pub slot-elsewhere : (i v : ℕ) (d : List ℕ) → storedOn disk (slotStore i v) d ≡ d
+unfolding storedOn isOn wordStore slotStore
+slot-elsewhere i v d = refl
 
 -- ---- the words of a data block
 
