@@ -7,6 +7,7 @@ pub mod Invariant
 pub mod Made
 pub mod Recovered
 pub mod Region
+pub mod Searches
 pub mod Shape
 pub mod Steps
 pub mod Stores
