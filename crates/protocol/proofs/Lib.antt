@@ -5,6 +5,7 @@ pub mod Codec
 pub mod Holds
 pub mod Invariant
 pub mod Made
+pub mod Passed
 pub mod Recovered
 pub mod Region
 pub mod Searches

@@ -7,6 +7,7 @@ use mathlib.Core.Path.{_≡_, refl, sym, ap, subst, _∙_}
 use mathlib.Core.Logic.{_⊎_, inl, inr, ⊎-elim}
 use native.Mathlib.Omega.{arith}
 use lib.ListN.{length, take}
+use lib.Seq.{take-length}
 use Rattle.numbers.specs.Bytes.{bytesBE, part, patch, numberAt}
 use Rattle.numbers.proofs.Laws.{length-bytes, length-patch, number-patch-same}
 use Rattle.protocol.specs.declared.Entry.{Entry}
@@ -107,6 +108,10 @@ module _ (g : Geometry) (fit : GeometryFits g) (q : ℕ) (bs : List ℕ) (l : q 
           (confined-take card (place g (block q)) (blockSize g) a (words g q bs) words-confined)
           (regions-apart g (block q) s l i d)
       }
+
+  pub words-changed-all : (c : List ℕ) → Changed g (block q) c (madeOn card (words g q bs) c)
+  words-changed-all c =
+      subst (λ (ss : List Store). Changed g (block q) c (madeOn card ss c)) (take-length (words g q bs)) (words-changed (length (words g q bs)) c)
 
   pub words-elsewhere : (a : ℕ) (d : List ℕ) → madeOn disk (take a (words g q bs)) d ≡ d
   unfolding isOn

@@ -144,6 +144,10 @@ run-in-block {g} {row} {c} {c′} {d} q v x nc np =
     win : (b : ℕ) → inWindow g c′ b ≡ inWindow g c b
     win = window-calm (v .shape) x (calm-block g q)
 
+pub block-kinds : {g : Geometry} {c c′ d : List ℕ} {q : ℕ} → Shape g c d → Changed g (block q) c c′ → (i : ℕ) → i < g .blocks
+    → kindAt g c′ i ≡ kindAt g c i
+block-kinds {g} {c} {c′} {d} {q} s x i l = kind-same g c c′ i (entry-kept x i l (λ p h. omega arith)) (window-calm s x (calm-block g q))
+
 -- any change inside a disk block that a modified live entry stands for
 pub run-in-home : {g : Geometry} {row : ℕ → List ℕ} {c d d′ : List ℕ} (b i q : ℕ) → Inv g row c d → length d′ ≡ length d
     → ((a : ℕ) → a < g .disk → (a ≡ b → ⊥) → diskBlock g d′ a ≡ diskBlock g d a)

@@ -8,7 +8,7 @@ use mathlib.Core.Logic.{_⊎_, inl, inr, ⊎-elim}
 use native.Mathlib.Nat.{suc-mul, zero-sub, sub-zero, zero-mul}
 use native.Mathlib.Omega.{arith}
 use lib.ListN.{length, take, drop, length-append, length-take, length-drop}
-use lib.Seq.{take-all, take-append-le, take-add}
+use lib.Seq.{take-all, take-length, take-append-le, take-add}
 use Rattle.numbers.specs.Bytes.{part, patch}
 use Rattle.numbers.proofs.Laws.{length-patch, patch-nil, patch-append, part-patch-same, part-patch-before, part-patch-after}
 use Rattle.protocol.specs.Below.{eachBelow}
@@ -209,6 +209,13 @@ along-one {P} {Q} s c d p q r = record { during = cut; end = r }
     cut zero = p
     cut (suc zero) = q
     cut (suc (suc a)) = q
+
+-- a run: P wherever it is cut
+pub along-run : {P Q : List ℕ → List ℕ → Type 0} (ss : List Store) (c d : List ℕ)
+    → ((a : ℕ) → P (madeOn card (take a ss) c) (madeOn disk (take a ss) d))
+    → (P (madeOn card ss c) (madeOn disk ss d) → Q (madeOn card ss c) (madeOn disk ss d)) → Along P Q ss c d
+along-run {P} {Q} ss c d p q =
+    record { during = p; end = q (subst (λ (ts : List Store). P (madeOn card ts c) (madeOn disk ts d)) (take-length ss) (p (length ss))) }
 
 -- turn by turn: Q i holds before the runs of f i, and Q (i + 1) after them
 pub along-each : {P : List ℕ → List ℕ → Type 0} (Q : ℕ → List ℕ → List ℕ → Type 0) (f : ℕ → List Run) (n : ℕ) (c d : List ℕ)
