@@ -6,6 +6,7 @@ pub mod Holds
 pub mod Invariant
 pub mod Made
 pub mod Passed
+pub mod Planned
 pub mod Recovered
 pub mod Region
 pub mod Searches
