@@ -31,11 +31,11 @@ good-cases n d e h = ⊎-elim (λ u. inl (blank u)) (λ u. inr (in-use u)) (or-t
         let r = and-right (eqb (e .flags) 0) _ u in
         let s = and-right (eqb (e .number) 0) _ r in
         λ t.
-        record
-        { flags = eqb-true (e .flags) 0 (and-left (eqb (e .flags) 0) _ u) t
-        ; number = eqb-true (e .number) 0 (and-left (eqb (e .number) 0) _ r) t
-        ; previous = eqb-true (e .previous) 0 (and-left (eqb (e .previous) 0) _ s) t
-        ; current = eqb-true (e .current) 0 (and-right (eqb (e .previous) 0) _ s) t
+        record {
+          flags = eqb-true (e .flags) 0 (and-left (eqb (e .flags) 0) _ u) t;
+          number = eqb-true (e .number) 0 (and-left (eqb (e .number) 0) _ r) t;
+          previous = eqb-true (e .previous) 0 (and-left (eqb (e .previous) 0) _ s) t;
+          current = eqb-true (e .current) 0 (and-right (eqb (e .previous) 0) _ s) t;
         }
 
     flags : allowedFlags (e .flags) ≡ true → Flag (e .flags)
@@ -50,13 +50,13 @@ good-cases n d e h = ⊎-elim (λ u. inl (blank u)) (λ u. inr (in-use u)) (or-t
     in-use u =
         let r = and-right (allowedFlags (e .flags)) _ u in
         let s = and-right (ltb (e .number) d) _ r in
-        record
-        { flag = flags (and-left (allowedFlags (e .flags)) _ u)
-        ; numberBelow = ltb-true _ _ (and-left (ltb (e .number) d) _ r)
-        ; currentBelow = ltb-true _ _ (and-left (ltb (e .current) n) _ s)
-        ; previousBelow =
-            ⊎-elim (λ x. inl (ltb-true _ _ x)) (λ x. inr (eqb-true _ _ x))
-            (or-true (ltb (e .previous) n) (eqb (e .previous) FRESH) (and-right (ltb (e .current) n) _ s))
+        record {
+          flag = flags (and-left (allowedFlags (e .flags)) _ u);
+          numberBelow = ltb-true _ _ (and-left (ltb (e .number) d) _ r);
+          currentBelow = ltb-true _ _ (and-left (ltb (e .current) n) _ s);
+          previousBelow =
+              ⊎-elim (λ x. inl (ltb-true _ _ x)) (λ x. inr (eqb-true _ _ x))
+              (or-true (ltb (e .previous) n) (eqb (e .previous) FRESH) (and-right (ltb (e .current) n) _ s));
         }
 
 pub used-good : (n d : ℕ) (e : Entry) → UsedEntry n d e → goodEntry n d e ≡ true

@@ -223,7 +223,7 @@ module _ {g : Geometry} {row : ℕ → List ℕ} {c d : List ℕ} (v : Inv g row
           (λ h.
           let rest = and-right (usedAt g c i) (usedAt g c j && alike g c i j) h in
           let e : i ≡ j =
-              alike-same i j l (omega arith) (and-left (usedAt g c i) _ h) (and-left (usedAt g c j) _ rest) (and-right (usedAt g c j) _ rest) in
+          alike-same i j l (omega arith) (and-left (usedAt g c i) _ h) (and-left (usedAt g c j) _ rest) (and-right (usedAt g c j) _ rest) in
           absurd (omega arith))
           (λ h. ap not h)
           (either (usedAt g c i && (usedAt g c j && alike g c i j)))
@@ -305,5 +305,5 @@ module _ {g : Geometry} {row : ℕ → List ℕ} {c d : List ℕ} (v : Inv g row
   unfolding outputAfter
   read-holds s out b e l =
       let r : readRefusal c d out b ≡ 0 =
-          read-refuses out b ∙ none-first _ (pass 7 s) ∙ none-first _ (pass 9 (eq-eqb _ _ e)) ∙ pass 10 (lt-ltb _ _ l) in
+      read-refuses out b ∙ none-first _ (pass 7 s) ∙ none-first _ (pass 9 (eq-eqb _ _ e)) ∙ pass 10 (lt-ltb _ _ l) in
       rw (eq-eqb _ _ r) (ap (λ (z : Geometry). contents z c d b) geometry-is ∙ contents-hold s b l)

@@ -78,17 +78,17 @@ pub change-media : {n d : ℕ} {row : ℕ → List ℕ} {v w : View} → Safe n 
     → ((b : ℕ) → b < d → (w .home b ≡ v .home b) ⊎ ((i : ℕ) × (q : ℕ) × (i < n) × (v .kind i ≡ live true b q)))
     → Safe n d row w
 change-media {n} {d} {row} {v} {w} s same cur prev homes =
-    record
-    { numberUnder = λ i x l e. s .numberUnder i x l (via kindNumber i l e)
-    ; currentUnder = λ i x l e. s .currentUnder i x l (via kindCurrent i l e)
-    ; previousUnder = λ i x l e. s .previousUnder i x l (via kindPrevious i l e)
-    ; numbers = λ i j x l m e f. s .numbers i j x l m (via kindNumber i l e) (via kindNumber j m f)
-    ; currents = λ i j x l m e f. s .currents i j x l m (via kindCurrent i l e) (via kindCurrent j m f)
-    ; previouses = λ i j x l m e f. s .previouses i j x l m (via kindPrevious i l e) (via kindPrevious j m f)
-    ; crossed = λ i j x l m e f. s .crossed i j x l m (via kindPrevious i l e) (via kindCurrent j m f)
-    ; clean = cleaned
-    ; held = λ i b p l e f. kept (v .kind i) i p l refl (via kindHome i l f) ∙ s .held i b p l (via kindNumber i l e) (via kindHome i l f)
-    ; bare = bared
+    record {
+      numberUnder = λ i x l e. s .numberUnder i x l (via kindNumber i l e);
+      currentUnder = λ i x l e. s .currentUnder i x l (via kindCurrent i l e);
+      previousUnder = λ i x l e. s .previousUnder i x l (via kindPrevious i l e);
+      numbers = λ i j x l m e f. s .numbers i j x l m (via kindNumber i l e) (via kindNumber j m f);
+      currents = λ i j x l m e f. s .currents i j x l m (via kindCurrent i l e) (via kindCurrent j m f);
+      previouses = λ i j x l m e f. s .previouses i j x l m (via kindPrevious i l e) (via kindPrevious j m f);
+      crossed = λ i j x l m e f. s .crossed i j x l m (via kindPrevious i l e) (via kindCurrent j m f);
+      clean = cleaned;
+      held = λ i b p l e f. kept (v .kind i) i p l refl (via kindHome i l f) ∙ s .held i b p l (via kindNumber i l e) (via kindHome i l f);
+      bare = bared;
     }
   where
     via : (f : Kind → Option ℕ) (i : ℕ) {x : Option ℕ} → i < n → f (w .kind i) ≡ x → f (v .kind i) ≡ x
@@ -157,17 +157,17 @@ pub change-entry : {n d : ℕ} {row : ℕ → List ℕ} {v w : View} (i : ℕ) (
     → Owes n d row v i k
     → Safe n d row w
 change-entry {n} {d} {row} {v} {w} i k s il new old blocks homes o =
-    record
-    { numberUnder = under kindNumber d (s .numberUnder) (o .numberUnder)
-    ; currentUnder = under kindCurrent n (s .currentUnder) (o .currentUnder)
-    ; previousUnder = under kindPrevious n (s .previousUnder) (o .previousUnder)
-    ; numbers = apart kindNumber kindNumber (s .numbers) (o .numbers) (o .numbers)
-    ; currents = apart kindCurrent kindCurrent (s .currents) (o .currents) (o .currents)
-    ; previouses = apart kindPrevious kindPrevious (s .previouses) (o .previouses) (o .previouses)
-    ; crossed = apart kindPrevious kindCurrent (s .crossed) (o .previousCurrent) (o .currentPrevious)
-    ; clean = λ j b q l e. cleaned j b q l e (which j l)
-    ; held = λ j b p l e f. homeBlock j b p l e f (which j l)
-    ; bare = bared
+    record {
+      numberUnder = under kindNumber d (s .numberUnder) (o .numberUnder);
+      currentUnder = under kindCurrent n (s .currentUnder) (o .currentUnder);
+      previousUnder = under kindPrevious n (s .previousUnder) (o .previousUnder);
+      numbers = apart kindNumber kindNumber (s .numbers) (o .numbers) (o .numbers);
+      currents = apart kindCurrent kindCurrent (s .currents) (o .currents) (o .currents);
+      previouses = apart kindPrevious kindPrevious (s .previouses) (o .previouses) (o .previouses);
+      crossed = apart kindPrevious kindCurrent (s .crossed) (o .previousCurrent) (o .currentPrevious);
+      clean = λ j b q l e. cleaned j b q l e (which j l);
+      held = λ j b p l e f. homeBlock j b p l e f (which j l);
+      bare = bared;
     }
   where
     which : (j : ℕ) → j < n → Which n v w i k j
@@ -235,17 +235,17 @@ pub settle-all : {n d : ℕ} {row row′ : ℕ → List ℕ} {v w : View} → Sa
     → ((b : ℕ) → b < d → ((i : ℕ) → i < n → kindNumber (v .kind i) ≡ some b → ⊥) → v .home b ≡ row′ b)
     → Safe n d row′ w
 settle-all {n} {d} {row} {row′} {v} {w} s new blocks homes full empty =
-    record
-    { numberUnder = λ i x l e. s .numberUnder i x l (num i l e)
-    ; currentUnder = λ i x l e. s .currentUnder i x l (cur i l e)
-    ; previousUnder = λ i x l e. absurd (no-previous i l e)
-    ; numbers = λ i j x l m e f. s .numbers i j x l m (num i l e) (num j m f)
-    ; currents = λ i j x l m e f. s .currents i j x l m (cur i l e) (cur j m f)
-    ; previouses = λ i j x l m e f. absurd (no-previous i l e)
-    ; crossed = λ i j x l m e f. absurd (no-previous i l e)
-    ; clean = cleaned
-    ; held = λ i b p l e f. blocks p (s .currentUnder i p l (home i l f)) ∙ full i b p l (num i l e) (home i l f)
-    ; bare = λ b l all. homes b l ∙ empty b l (λ i m e. absent i b m e (all i m))
+    record {
+      numberUnder = λ i x l e. s .numberUnder i x l (num i l e);
+      currentUnder = λ i x l e. s .currentUnder i x l (cur i l e);
+      previousUnder = λ i x l e. absurd (no-previous i l e);
+      numbers = λ i j x l m e f. s .numbers i j x l m (num i l e) (num j m f);
+      currents = λ i j x l m e f. s .currents i j x l m (cur i l e) (cur j m f);
+      previouses = λ i j x l m e f. absurd (no-previous i l e);
+      crossed = λ i j x l m e f. absurd (no-previous i l e);
+      clean = cleaned;
+      held = λ i b p l e f. blocks p (s .currentUnder i p l (home i l f)) ∙ full i b p l (num i l e) (home i l f);
+      bare = λ b l all. homes b l ∙ empty b l (λ i m e. absent i b m e (all i m));
     }
   where
     settled-number : (k : Kind) → kindNumber (settledKind k) ≡ kindNumber k

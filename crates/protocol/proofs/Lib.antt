@@ -4,6 +4,7 @@ pub mod Below
 pub mod Codec
 pub mod Holds
 pub mod Invariant
+pub mod Loaded
 pub mod Made
 pub mod Passed
 pub mod Planned

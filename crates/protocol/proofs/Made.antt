@@ -101,12 +101,12 @@ module _ (g : Geometry) (fit : GeometryFits g) (q : ℕ) (bs : List ℕ) (l : q 
   pub words-changed : (a : ℕ) (c : List ℕ) → Changed g (block q) c (madeOn card (take a (words g q bs)) c)
   unfolding cell
   words-changed a c =
-      record
-      { sized = length-made card (take a (words g q bs)) c
-      ; others = λ s i d.
-          confined-part card (place g (block q)) (blockSize g) (take a (words g q bs)) c (place g s) (size g s)
-          (confined-take card (place g (block q)) (blockSize g) a (words g q bs) words-confined)
-          (regions-apart g (block q) s l i d)
+      record {
+        sized = length-made card (take a (words g q bs)) c;
+        others = λ s i d.
+            confined-part card (place g (block q)) (blockSize g) (take a (words g q bs)) c (place g s) (size g s)
+            (confined-take card (place g (block q)) (blockSize g) a (words g q bs) words-confined)
+            (regions-apart g (block q) s l i d);
       }
 
   pub words-changed-all : (c : List ℕ) → Changed g (block q) c (madeOn card (words g q bs) c)
@@ -128,7 +128,7 @@ module _ (g : Geometry) (fit : GeometryFits g) (q : ℕ) (bs : List ℕ) (l : q 
 
 -- ---- the sectors of a disk block
 
-in-disk : (g : Geometry) (b : ℕ) → b < g .disk → diskPlace g b + blockSize g ≤ diskLength g
+pub in-disk : (g : Geometry) (b : ℕ) → b < g .disk → diskPlace g b + blockSize g ≤ diskLength g
 unfolding diskPlace diskLength
 in-disk g b l = block-ends b (g .disk) (blockSize g) l
 

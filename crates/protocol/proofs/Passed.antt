@@ -55,27 +55,27 @@ module _ {g : Geometry} {row : ℕ → List ℕ} {c d : List ℕ} (v : Inv g row
   evict-passed b z =
       let e = ap (λ (y : Geometry). pairRefusal c d orElse refuse 10 (ltb b (y .disk)) orElse refuse 13 (cached y c b)) (sym (geometry-is v)) ∙ z in
       let own = second-zero (pairRefusal c d) _ e in
-      record
-      { settled = passed 6 _ (sym (pair-refuses v) ∙ first-zero (pairRefusal c d) _ e)
-      ; inDisk = ltb-true _ _ (passed 9 _ (first-zero _ (refuse 13 (cached g c b)) own))
-      ; isCached = passed 12 _ (second-zero (refuse 10 (ltb b (g .disk))) _ own)
+      record {
+        settled = passed 6 _ (sym (pair-refuses v) ∙ first-zero (pairRefusal c d) _ e);
+        inDisk = ltb-true _ _ (passed 9 _ (first-zero _ (refuse 13 (cached g c b)) own));
+        isCached = passed 12 _ (second-zero (refuse 10 (ltb b (g .disk))) _ own);
       }
 
   pub load-passed : (b : ℕ) → loadRefusal c d b ≡ 0 → LoadPassed g c b
   unfolding loadRefusal blockRefusal
   load-passed b z =
       let e =
-          ap
-          (λ (y : Geometry). pairRefusal c d orElse refuse 10 (ltb b (y .disk)) orElse refuse 12 (not (cached y c b)) orElse refuse 14 (roomFor y c 1))
-          (sym (geometry-is v))
-          ∙ z in
+      ap
+      (λ (y : Geometry). pairRefusal c d orElse refuse 10 (ltb b (y .disk)) orElse refuse 12 (not (cached y c b)) orElse refuse 14 (roomFor y c 1))
+      (sym (geometry-is v))
+      ∙ z in
       let own = second-zero (pairRefusal c d) _ e in
       let more = second-zero (refuse 10 (ltb b (g .disk))) _ own in
-      record
-      { settled = passed 6 _ (sym (pair-refuses v) ∙ first-zero (pairRefusal c d) _ e)
-      ; inDisk = ltb-true _ _ (passed 9 _ (first-zero (refuse 10 (ltb b (g .disk))) _ own))
-      ; notCached = not-true _ (passed 11 _ (first-zero (refuse 12 (not (cached g c b))) _ more))
-      ; room = passed 13 _ (second-zero (refuse 12 (not (cached g c b))) _ more)
+      record {
+        settled = passed 6 _ (sym (pair-refuses v) ∙ first-zero (pairRefusal c d) _ e);
+        inDisk = ltb-true _ _ (passed 9 _ (first-zero (refuse 10 (ltb b (g .disk))) _ own));
+        notCached = not-true _ (passed 11 _ (first-zero (refuse 12 (not (cached g c b))) _ more));
+        room = passed 13 _ (second-zero (refuse 12 (not (cached g c b))) _ more);
       }
 
   pub commit-passed : (ns bs : List ℕ) → commitRefusal c ns bs ≡ 0 → CommitPassed g c ns bs
@@ -87,11 +87,11 @@ module _ {g : Geometry} {row : ℕ → List ℕ} {c d : List ℕ} (v : Inv g row
       let own₂ = second-zero (refuse 8 (countFits g ns)) _ own in
       let own₃ = second-zero (refuse 9 (dataFits g ns bs)) _ own₂ in
       let own₄ = second-zero (refuse 10 (numbersFit g ns)) _ own₃ in
-      record
-      { settled = passed 6 _ (sym (card-refuses v) ∙ first-zero (cardRefusal g c) _ card)
-      ; counted = passed 7 _ (first-zero (refuse 8 (countFits g ns)) _ own)
-      ; sized = passed 8 _ (first-zero (refuse 9 (dataFits g ns bs)) _ own₂)
-      ; inDisk = passed 9 _ (first-zero (refuse 10 (numbersFit g ns)) _ own₃)
-      ; once = passed 10 _ (first-zero (refuse 11 (numbersApart ns)) _ own₄)
-      ; room = passed 13 _ (second-zero (refuse 11 (numbersApart ns)) _ own₄)
+      record {
+        settled = passed 6 _ (sym (card-refuses v) ∙ first-zero (cardRefusal g c) _ card);
+        counted = passed 7 _ (first-zero (refuse 8 (countFits g ns)) _ own);
+        sized = passed 8 _ (first-zero (refuse 9 (dataFits g ns bs)) _ own₂);
+        inDisk = passed 9 _ (first-zero (refuse 10 (numbersFit g ns)) _ own₃);
+        once = passed 10 _ (first-zero (refuse 11 (numbersApart ns)) _ own₄);
+        room = passed 13 _ (second-zero (refuse 11 (numbersApart ns)) _ own₄);
       }

@@ -114,18 +114,18 @@ pub idle-owes : {n d : ℕ} {row : ℕ → List ℕ} {v : View} (i : ℕ)
     → ((b : ℕ) → b < d → (kindNumber (v .kind i) ≡ some b → kindHome (v .kind i) ≡ none) ⊎ (v .home b ≡ row b))
     → Owes n d row v i idle
 idle-owes {n} {d} {row} {v} i h =
-    record
-    { numberUnder = λ x e. none-some refl e
-    ; currentUnder = λ x e. none-some refl e
-    ; previousUnder = λ x e. none-some refl e
-    ; numbers = λ j x l m e f. none-some refl e
-    ; currents = λ j x l m e f. none-some refl e
-    ; previouses = λ j x l m e f. none-some refl e
-    ; previousCurrent = λ j x l m e f. none-some refl e
-    ; currentPrevious = λ j x l m e f. none-some refl e
-    ; clean = λ b q e. let z : _≡_ {A = ℕ} 0 1 = cc in absurd (omega arith)
-    ; held = λ b p e f. none-some refl e
-    ; bare = λ b l k. h b l
+    record {
+      numberUnder = λ x e. none-some refl e;
+      currentUnder = λ x e. none-some refl e;
+      previousUnder = λ x e. none-some refl e;
+      numbers = λ j x l m e f. none-some refl e;
+      currents = λ j x l m e f. none-some refl e;
+      previouses = λ j x l m e f. none-some refl e;
+      previousCurrent = λ j x l m e f. none-some refl e;
+      currentPrevious = λ j x l m e f. none-some refl e;
+      clean = λ b q e. let z : _≡_ {A = ℕ} 0 1 = cc in absurd (omega arith);
+      held = λ b p e f. none-some refl e;
+      bare = λ b l k. h b l;
     }
 
 -- an entry that stands for its number with its previous block p
@@ -135,18 +135,18 @@ restored-owes : {n d : ℕ} {row : ℕ → List ℕ} {v : View} (i b p : ℕ) (k
     → ((x : ℕ) → kindPrevious k ≡ some x → x ≡ p) → ((b q : ℕ) → k ≡ live false b q → ⊥)
     → Owes n d row v i k
 restored-owes {n} {d} {row} {v} i b p k s l on op oh kn kc kh kp dirty =
-    record
-    { numberUnder = λ x e. s .numberUnder i x l (on ∙ sym kn ∙ e)
-    ; currentUnder = λ x e. s .previousUnder i x l (op ∙ sym kc ∙ e)
-    ; previousUnder = λ x e. s .previousUnder i x l (op ∙ ap some (sym (kp x e)))
-    ; numbers = λ j x m h e f. h (s .numbers j i x m l f (on ∙ sym kn ∙ e))
-    ; currents = λ j x m h e f. h (sym (s .crossed i j x l m (op ∙ sym kc ∙ e) f))
-    ; previouses = λ j x m h e f. h (s .previouses j i x m l f (op ∙ ap some (sym (kp x e))))
-    ; previousCurrent = λ j x m h e f. h (sym (s .crossed i j x l m (op ∙ ap some (sym (kp x e))) f))
-    ; currentPrevious = λ j x m h e f. h (s .previouses j i x m l f (op ∙ sym kc ∙ e))
-    ; clean = λ b′ q e. absurd (dirty b′ q e)
-    ; held = λ b′ q e f. s .held i b′ q l (on ∙ sym kn ∙ e) (oh ∙ sym kh ∙ f)
-    ; bare = λ b′ m h. inl (λ e. none-some (h (kn ∙ sym on ∙ e)) kh)
+    record {
+      numberUnder = λ x e. s .numberUnder i x l (on ∙ sym kn ∙ e);
+      currentUnder = λ x e. s .previousUnder i x l (op ∙ sym kc ∙ e);
+      previousUnder = λ x e. s .previousUnder i x l (op ∙ ap some (sym (kp x e)));
+      numbers = λ j x m h e f. h (s .numbers j i x m l f (on ∙ sym kn ∙ e));
+      currents = λ j x m h e f. h (sym (s .crossed i j x l m (op ∙ sym kc ∙ e) f));
+      previouses = λ j x m h e f. h (s .previouses j i x m l f (op ∙ ap some (sym (kp x e))));
+      previousCurrent = λ j x m h e f. h (sym (s .crossed i j x l m (op ∙ ap some (sym (kp x e))) f));
+      currentPrevious = λ j x m h e f. h (s .previouses j i x m l f (op ∙ sym kc ∙ e));
+      clean = λ b′ q e. absurd (dirty b′ q e);
+      held = λ b′ q e f. s .held i b′ q l (on ∙ sym kn ∙ e) (oh ∙ sym kh ∙ f);
+      bare = λ b′ m h. inl (λ e. none-some (h (kn ∙ sym on ∙ e)) kh);
     }
 
 undo-owes : {g : Geometry} {row : ℕ → List ℕ} {c d : List ℕ} (v : Inv g row c d) (i : ℕ) → i < g .blocks → undoableAt g c i ≡ true
@@ -247,24 +247,24 @@ module _ (g : Geometry) (row : ℕ → List ℕ) (c : List ℕ) where
       → (undoableAt g c″ i ≡ true → (entryAt g c″ i .previous ≡ entryAt g c″ i .current) × (entryAt g c″ i .previous ≡ FRESH → ⊥))
       → Turn (suc i) c″ d″
   advance i c′ d′ c″ d″ l t v eh et ew others role rest =
-      record
-      { inv = v
-      ; heads = eh ∙ t .heads
-      ; tails = et ∙ t .tails
-      ; windows = λ b. ew b ∙ t .windows b
-      ; ahead = λ j h m. others j m (λ e. omega arith) ∙ t .ahead j (omega arith) m
-      ; free = λ j h m.
-          ⊎-elim
-          (λ e. ap (λ (z : ℕ). hasLogRole (entryAt g c″ z)) e ∙ role)
-          (λ k. ap hasLogRole (others j m (λ e. omega arith)) ∙ t .free j k m)
-          (last-or-before j i h)
-      ; rests = λ j h m u.
-          ⊎-elim
-          (λ e. subst Rest (sym e) (rest (ap (undoableAt g c″) (sym e) ∙ u)))
-          (λ k.
-          subst (λ (x : Entry). (x .previous ≡ x .current) × (x .previous ≡ FRESH → ⊥)) (sym (others j m (λ e. omega arith)))
-          (t .rests j k m (sym (undoable-same g c′ c″ j (others j m (λ e. omega arith)) ew) ∙ u)))
-          (last-or-before j i h)
+      record {
+        inv = v;
+        heads = eh ∙ t .heads;
+        tails = et ∙ t .tails;
+        windows = λ b. ew b ∙ t .windows b;
+        ahead = λ j h m. others j m (λ e. omega arith) ∙ t .ahead j (omega arith) m;
+        free = λ j h m.
+            ⊎-elim
+            (λ e. ap (λ (z : ℕ). hasLogRole (entryAt g c″ z)) e ∙ role)
+            (λ k. ap hasLogRole (others j m (λ e. omega arith)) ∙ t .free j k m)
+            (last-or-before j i h);
+        rests = λ j h m u.
+            ⊎-elim
+            (λ e. subst Rest (sym e) (rest (ap (undoableAt g c″) (sym e) ∙ u)))
+            (λ k.
+            subst (λ (x : Entry). (x .previous ≡ x .current) × (x .previous ≡ FRESH → ⊥)) (sym (others j m (λ e. omega arith)))
+            (t .rests j k m (sym (undoable-same g c′ c″ j (others j m (λ e. omega arith)) ew) ∙ u)))
+            (last-or-before j i h);
       }
     where
       Rest : ℕ → Type 0
@@ -408,12 +408,12 @@ recovery {g} {row} {c} {d} v =
   where
     start : Turn g row c 0 c d
     start =
-        record
-        { inv = v
-        ; heads = refl
-        ; tails = refl
-        ; windows = λ b. refl
-        ; ahead = λ j h l. refl
-        ; free = λ j h l. absurd (omega arith)
-        ; rests = λ j h l. absurd (omega arith)
+        record {
+          inv = v;
+          heads = refl;
+          tails = refl;
+          windows = λ b. refl;
+          ahead = λ j h l. refl;
+          free = λ j h l. absurd (omega arith);
+          rests = λ j h l. absurd (omega arith);
         }

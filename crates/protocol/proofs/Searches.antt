@@ -47,7 +47,7 @@ module _ (p : ℕ → Bool) (n start : ℕ) where
           → Found p n start j (getD (walked p n start j) k 0) → Found p n start (suc j) (getD (walked p n start (suc j)) k 0)
       old ys e m f =
           let q : getD (walked p n start (suc j)) k 0 ≡ getD (walked p n start j) k 0 =
-              ap (λ (z : List ℕ). getD z k 0) e ∙ List·getD-append (walked p n start j) ys 0 k m in
+          ap (λ (z : List ℕ). getD z k 0) e ∙ List·getD-append (walked p n start j) ys 0 k m in
           record { step = f .step; before = omega (arith, f .before); at = q ∙ f .at; has = ap p q ∙ f .has }
 
       go : Longer j → (k < length (walked p n start j) → Found p n start j (getD (walked p n start j) k 0))
@@ -60,8 +60,8 @@ module _ (p : ℕ → Bool) (n start : ℕ) where
           (λ m. old (around n start j ∷ []) e m (ih m))
           (λ m.
           let q : getD (walked p n start (suc j)) k 0 ≡ around n start j =
-              ap (λ (z : List ℕ). getD z k 0) e ∙ at-end (walked p n start j) (around n start j) k m
-              (omega (arith, ap length e, length-append (walked p n start j) (around n start j ∷ []))) in
+          ap (λ (z : List ℕ). getD z k 0) e ∙ at-end (walked p n start j) (around n start j) k m
+          (omega (arith, ap length e, length-append (walked p n start j) (around n start j ∷ []))) in
           record { step = j; before = omega arith; at = q; has = ap p q ∙ h })
           (below-or-above k (length (walked p n start j)))
 
@@ -120,11 +120,11 @@ module _ (p : ℕ → Bool) (n start : ℕ) where
           ≡ cond (p (around n start j)) (suc (countBelow (λ i. p (around n start i)) j)) (countBelow (λ i. p (around n start i)) j)
       go (more h e) ih =
           let m : length (walked p n start (suc j)) ≡ suc (countBelow (λ i. p (around n start i)) j) =
-              omega (arith, ap length e, length-append (walked p n start j) (around n start j ∷ [])) in
+          omega (arith, ap length e, length-append (walked p n start j) (around n start j ∷ [])) in
           m ∙ sym (ap (λ (b : Bool). cond b (suc (countBelow (λ i. p (around n start i)) j)) (countBelow (λ i. p (around n start i)) j)) h)
       go (same h e) ih =
           let m : length (walked p n start (suc j)) ≡ countBelow (λ i. p (around n start i)) j =
-              omega (arith, ap length e, length-append (walked p n start j) []) in
+          omega (arith, ap length e, length-append (walked p n start j) []) in
           m ∙ sym (ap (λ (b : Bool). cond b (suc (countBelow (λ i. p (around n start i)) j)) (countBelow (λ i. p (around n start i)) j)) h)
 
 -- ---- counting
@@ -154,7 +154,7 @@ count-round p n s l =
     let m : n ≡ n - s + s = omega arith in
     let m′ : s + (n - s) ≡ n = omega arith in
     let up : countBelow (λ i. p (around n s i)) (n - s) ≡ countBelow (λ j. p (s + j)) (n - s) =
-        count-cong _ _ (n - s) (λ i h. ap p (forth i h)) in
+    count-cong _ _ (n - s) (λ i h. ap p (forth i h)) in
     let down : countBelow (λ j. p (around n s (n - s + j))) s ≡ countBelow p s = count-cong _ _ s (λ i h. ap p (back i h)) in
     ap (countBelow (λ i. p (around n s i))) m
     ∙ count-split (λ i. p (around n s i)) (n - s) s
@@ -221,14 +221,14 @@ held-count used at n (suc m) inj low l = go (either (used m)) (held-count used a
         → cond (used m) (suc (countBelow used m)) (countBelow used m) ≤ countBelow (holds used at (suc m)) n
     go (inl u) ih =
         let grow : countBelow (holds used at (suc m)) n ≡ countBelow (holds used at m) n + 1 =
-            count-grows (holds used at m) (holds used at (suc m)) n (at m) (low m (omega arith) u) fresh now others in
+        count-grows (holds used at m) (holds used at (suc m)) n (at m) (low m (omega arith) u) fresh now others in
         rw u (omega arith)
       where
         fresh : holds used at m (at m) ≡ false
         fresh = any-none (λ i. used i && eqb (at i) (at m)) m (λ i h. ⊎-elim
             (λ e.
             let same : i ≡ m =
-                inj i m (omega arith) (omega arith) (and-left (used i) (eqb (at i) (at m)) e) u (eqb-true _ _ (and-right (used i) (eqb (at i) (at m)) e)) in
+            inj i m (omega arith) (omega arith) (and-left (used i) (eqb (at i) (at m)) e) u (eqb-true _ _ (and-right (used i) (eqb (at i) (at m)) e)) in
             absurd (omega arith))
             (λ e. e)
             (either (used i && eqb (at i) (at m))))
@@ -243,7 +243,7 @@ held-count used at n (suc m) inj low l = go (either (used m)) (held-count used a
             ∙ or-none (holds used at m x)
     go (inr u) ih =
         let same : countBelow (holds used at (suc m)) n ≡ countBelow (holds used at m) n =
-            count-cong _ _ n (λ x h. ap (λ (b : Bool). holds used at m x || (b && eqb (at m) x)) u ∙ or-none (holds used at m x)) in
+        count-cong _ _ n (λ x h. ap (λ (b : Bool). holds used at m x || (b && eqb (at m) x)) u ∙ or-none (holds used at m x)) in
         rw u (omega arith)
 
 -- as many unused entries as free blocks, or more; in the order of a walk too

@@ -81,18 +81,18 @@ module _ {g : Geometry} {c c′ d : List ℕ} (s : Shape g c d) where
       → ((i : ℕ) → i < g .blocks → undoableAt g c′ i ≡ true → isModified (entryAt g c′ i) ≡ true)
       → Shape g c′ d
   shape-frame ep el eh et nums good loaded =
-      record
-      { good = s .good
-      ; headed = ep ∙ s .headed
-      ; cardSized = el ∙ s .cardSized
-      ; diskSized = s .diskSized
-      ; headBelow = subst (λ (z : ℕ). z < g .slots) (sym eh) (s .headBelow)
-      ; tailBelow = subst (λ (z : ℕ). z < g .slots) (sym et) (s .tailBelow)
-      ; window = λ j l.
-          let m : j < windowOf g c = subst (λ (z : ℕ). j < z) (window-kept g c c′ eh et) l in
-          subst (λ (z : ℕ). z < g .disk) (sym (nums j m)) (s .window j m)
-      ; entries = good
-      ; undoableModified = loaded
+      record {
+        good = s .good;
+        headed = ep ∙ s .headed;
+        cardSized = el ∙ s .cardSized;
+        diskSized = s .diskSized;
+        headBelow = subst (λ (z : ℕ). z < g .slots) (sym eh) (s .headBelow);
+        tailBelow = subst (λ (z : ℕ). z < g .slots) (sym et) (s .tailBelow);
+        window = λ j l.
+            let m : j < windowOf g c = subst (λ (z : ℕ). j < z) (window-kept g c c′ eh et) l in
+            subst (λ (z : ℕ). z < g .disk) (sym (nums j m)) (s .window j m);
+        entries = good;
+        undoableModified = loaded;
       }
 
   shape-calm : {r : Region} → Changed g r c c′ → Calm g r
@@ -128,14 +128,14 @@ pub run-in-block : {g : Geometry} {row : ℕ → List ℕ} {c c′ d : List ℕ}
     → ((i : ℕ) → i < g .blocks → kindPrevious (kindAt g c i) ≡ some q → ⊥)
     → Inv g row c′ d
 run-in-block {g} {row} {c} {c′} {d} q v x nc np =
-    record
-    { shape = shape-calm (v .shape) x (calm-block g q) (goods-same c′ (v .shape) same)
-        (modified-same c′ (v .shape) same (λ i l. undoable-same g c c′ i (same i l) win))
-    ; safe = change-media (v .safe)
-        (λ i l. kind-same g c c′ i (same i l) win)
-        (λ i p l e. block-kept x p (v .safe .currentUnder i p l e) (λ t h. nc i l (e ∙ ap some (sym h))))
-        (λ i p l e. block-kept x p (v .safe .previousUnder i p l e) (λ t h. np i l (e ∙ ap some (sym h))))
-        (λ b l. inl refl)
+    record {
+      shape = shape-calm (v .shape) x (calm-block g q) (goods-same c′ (v .shape) same)
+          (modified-same c′ (v .shape) same (λ i l. undoable-same g c c′ i (same i l) win));
+      safe = change-media (v .safe)
+          (λ i l. kind-same g c c′ i (same i l) win)
+          (λ i p l e. block-kept x p (v .safe .currentUnder i p l e) (λ t h. nc i l (e ∙ ap some (sym h))))
+          (λ i p l e. block-kept x p (v .safe .previousUnder i p l e) (λ t h. np i l (e ∙ ap some (sym h))))
+          (λ b l. inl refl);
     }
   where
     same : (i : ℕ) → i < g .blocks → entryAt g c′ i ≡ entryAt g c i
@@ -153,20 +153,20 @@ pub run-in-home : {g : Geometry} {row : ℕ → List ℕ} {c d d′ : List ℕ} 
     → ((a : ℕ) → a < g .disk → (a ≡ b → ⊥) → diskBlock g d′ a ≡ diskBlock g d a)
     → i < g .blocks → kindAt g c i ≡ live true b q → Inv g row c d′
 run-in-home {g} {row} {c} {d} {d′} b i q v len others l e =
-    record
-    { shape = record
-        { good = v .shape .good
-        ; headed = v .shape .headed
-        ; cardSized = v .shape .cardSized
-        ; diskSized = len ∙ v .shape .diskSized
-        ; headBelow = v .shape .headBelow
-        ; tailBelow = v .shape .tailBelow
-        ; window = v .shape .window
-        ; entries = v .shape .entries
-        ; undoableModified = v .shape .undoableModified
-        }
-    ; safe = change-media (v .safe) (λ j m. refl) (λ j p m h. refl) (λ j p m h. refl)
-        (λ a m. ⊎-elim (λ h. inr (i, q, l, e ∙ ap (λ (z : ℕ). live true z q) (sym h))) (λ h. inl (others a m h)) (same-or-other a b))
+    record {
+      shape = record {
+        good = v .shape .good;
+        headed = v .shape .headed;
+        cardSized = v .shape .cardSized;
+        diskSized = len ∙ v .shape .diskSized;
+        headBelow = v .shape .headBelow;
+        tailBelow = v .shape .tailBelow;
+        window = v .shape .window;
+        entries = v .shape .entries;
+        undoableModified = v .shape .undoableModified;
+      };
+      safe = change-media (v .safe) (λ j m. refl) (λ j p m h. refl) (λ j p m h. refl)
+          (λ a m. ⊎-elim (λ h. inr (i, q, l, e ∙ ap (λ (z : ℕ). live true z q) (sym h))) (λ h. inl (others a m h)) (same-or-other a b));
     }
 
 -- ---- entries
@@ -213,21 +213,21 @@ module _ {g : Geometry} {row : ℕ → List ℕ} {c c′ d : List ℕ} (i : ℕ)
   -- an entry of another kind, which owes what the invariant asks
   pub entry-changes : Owes (g .blocks) (g .disk) row (viewOf g c d) i (kindOf (inWindow g c (x .number)) x) → Inv g row c′ d
   entry-changes o =
-      record
-      { shape = shape-new
-      ; safe = change-entry i (kindOf (inWindow g c (x .number)) x) (v .safe) l kind-new kind-old
-          (λ p m. block-kept ch p m (λ q h. omega arith)) (λ b m. refl) o
+      record {
+        shape = shape-new;
+        safe = change-entry i (kindOf (inWindow g c (x .number)) x) (v .safe) l kind-new kind-old
+            (λ p m. block-kept ch p m (λ q h. omega arith)) (λ b m. refl) o;
       }
 
   -- an entry of the same kind: commit's role switch
   pub entry-stays : kindOf (inWindow g c (x .number)) x ≡ kindAt g c i → Inv g row c′ d
   entry-stays k =
-      record
-      { shape = shape-new
-      ; safe = change-media (v .safe) same
-          (λ j p m e. block-kept ch p (v .safe .currentUnder j p m e) (λ q h. omega arith))
-          (λ j p m e. block-kept ch p (v .safe .previousUnder j p m e) (λ q h. omega arith))
-          (λ b m. inl refl)
+      record {
+        shape = shape-new;
+        safe = change-media (v .safe) same
+            (λ j p m e. block-kept ch p (v .safe .currentUnder j p m e) (λ q h. omega arith))
+            (λ j p m e. block-kept ch p (v .safe .previousUnder j p m e) (λ q h. omega arith))
+            (λ b m. inl refl);
       }
     where
       same : (j : ℕ) → j < g .blocks → kindAt g c′ j ≡ kindAt g c j
@@ -238,14 +238,14 @@ module _ {g : Geometry} {row : ℕ → List ℕ} {c c′ d : List ℕ} (i : ℕ)
 -- the slot at Head is outside the window
 pub slot-changes : {g : Geometry} {row : ℕ → List ℕ} {c c′ d : List ℕ} → Inv g row c d → Changed g (slot (headOf c)) c c′ → Inv g row c′ d
 slot-changes {g} {row} {c} {c′} {d} v x =
-    record
-    { shape = shape-frame (v .shape) (header-kept x (λ p h. omega arith)) (x .sized) eh et nums (goods-same c′ (v .shape) same)
-        (modified-same c′ (v .shape) same (λ i l. undoable-same g c c′ i (same i l) win))
-    ; safe = change-media (v .safe)
-        (λ i l. kind-same g c c′ i (same i l) win)
-        (λ i p l e. block-kept x p (v .safe .currentUnder i p l e) (λ q h. omega arith))
-        (λ i p l e. block-kept x p (v .safe .previousUnder i p l e) (λ q h. omega arith))
-        (λ b l. inl refl)
+    record {
+      shape = shape-frame (v .shape) (header-kept x (λ p h. omega arith)) (x .sized) eh et nums (goods-same c′ (v .shape) same)
+          (modified-same c′ (v .shape) same (λ i l. undoable-same g c c′ i (same i l) win));
+      safe = change-media (v .safe)
+          (λ i l. kind-same g c c′ i (same i l) win)
+          (λ i p l e. block-kept x p (v .safe .currentUnder i p l e) (λ q h. omega arith))
+          (λ i p l e. block-kept x p (v .safe .previousUnder i p l e) (λ q h. omega arith))
+          (λ b l. inl refl);
     }
   where
     eh : headOf c′ ≡ headOf c
@@ -343,22 +343,22 @@ module _ {g : Geometry} {row : ℕ → List ℕ} {c c′ d : List ℕ} (v : Inv 
 
   pub head-moves : Inv g row c′ d
   head-moves =
-      record
-      { shape = record
-          { good = v .shape .good
-          ; headed = header-kept x (λ p h. omega arith) ∙ v .shape .headed
-          ; cardSized = x .sized ∙ v .shape .cardSized
-          ; diskSized = v .shape .diskSized
-          ; headBelow = subst (λ (z : ℕ). z < g .slots) (sym moved) (around-below (g .slots) (headOf c) 1 (v .shape .headBelow) (omega arith))
-          ; tailBelow = subst (λ (z : ℕ). z < g .slots) (sym et) (v .shape .tailBelow)
-          ; window = numbers
-          ; entries = goods-same c′ (v .shape) same
-          ; undoableModified = modified-same c′ (v .shape) same undoables
-          }
-      ; safe = change-media (v .safe) kinds
-          (λ i p l e. block-kept x p (v .safe .currentUnder i p l e) (λ q h. omega arith))
-          (λ i p l e. block-kept x p (v .safe .previousUnder i p l e) (λ q h. omega arith))
-          (λ b l. inl refl)
+      record {
+        shape = record {
+          good = v .shape .good;
+          headed = header-kept x (λ p h. omega arith) ∙ v .shape .headed;
+          cardSized = x .sized ∙ v .shape .cardSized;
+          diskSized = v .shape .diskSized;
+          headBelow = subst (λ (z : ℕ). z < g .slots) (sym moved) (around-below (g .slots) (headOf c) 1 (v .shape .headBelow) (omega arith));
+          tailBelow = subst (λ (z : ℕ). z < g .slots) (sym et) (v .shape .tailBelow);
+          window = numbers;
+          entries = goods-same c′ (v .shape) same;
+          undoableModified = modified-same c′ (v .shape) same undoables;
+        };
+        safe = change-media (v .safe) kinds
+            (λ i p l e. block-kept x p (v .safe .currentUnder i p l e) (λ q h. omega arith))
+            (λ i p l e. block-kept x p (v .safe .previousUnder i p l e) (λ q h. omega arith))
+            (λ b l. inl refl);
       }
     where
       numbers : (j : ℕ) → j < windowOf g c′ → windowNumber g c′ j < g .disk
@@ -442,17 +442,17 @@ module _ {g : Geometry} {row : ℕ → List ℕ} {c c′ d : List ℕ} (v : Inv 
       → ((b : ℕ) → b < g .disk → ((i : ℕ) → i < g .blocks → kindNumber (kindAt g c i) ≡ some b → ⊥) → diskBlock g d b ≡ row′ b)
       → Inv g row′ c′ d
   tail-moves {row′} full empty =
-      record
-      { shape = record
-          { good = v .shape .good
-          ; headed = header-kept x (λ p h. omega arith) ∙ v .shape .headed
-          ; cardSized = x .sized ∙ v .shape .cardSized
-          ; diskSized = v .shape .diskSized
-          ; headBelow = subst (λ (z : ℕ). z < g .slots) (sym tail-head) (v .shape .headBelow)
-          ; tailBelow = subst (λ (z : ℕ). z < g .slots) (sym moved) (v .shape .headBelow)
-          ; window = λ j l. absurd (omega (arith, no-window))
-          ; entries = goods-same c′ (v .shape) tail-entry
-          ; undoableModified = λ i l u. absurd-bool u (not-undoable i l)
-          }
-      ; safe = settle-all (v .safe) settled-kinds (λ p l. block-kept x p l (λ q h. omega arith)) (λ b l. refl) full empty
+      record {
+        shape = record {
+          good = v .shape .good;
+          headed = header-kept x (λ p h. omega arith) ∙ v .shape .headed;
+          cardSized = x .sized ∙ v .shape .cardSized;
+          diskSized = v .shape .diskSized;
+          headBelow = subst (λ (z : ℕ). z < g .slots) (sym tail-head) (v .shape .headBelow);
+          tailBelow = subst (λ (z : ℕ). z < g .slots) (sym moved) (v .shape .headBelow);
+          window = λ j l. absurd (omega (arith, no-window));
+          entries = goods-same c′ (v .shape) tail-entry;
+          undoableModified = λ i l u. absurd-bool u (not-undoable i l);
+        };
+        safe = settle-all (v .safe) settled-kinds (λ p l. block-kept x p l (λ q h. omega arith)) (λ b l. refl) full empty;
       }

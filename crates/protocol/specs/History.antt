@@ -43,9 +43,9 @@ answerTo r m = answerOf (r .allowance) (workOf (r .call) m)
 
 unfoldable pub after : Request → Media → Media
 after r m =
-    record
-    { onCard = afterOn card (r .allowance) (workOf (r .call) m) (m .onCard)
-    ; onDisk = afterOn disk (r .allowance) (workOf (r .call) m) (m .onDisk)
+    record {
+      onCard = afterOn card (r .allowance) (workOf (r .call) m) (m .onCard);
+      onDisk = afterOn disk (r .allowance) (workOf (r .call) m) (m .onDisk);
     }
 
 -- "Each gets the card and disk as the call before left them"
