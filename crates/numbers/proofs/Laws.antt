@@ -305,7 +305,7 @@ patch-part (x ∷ xs) zero (suc n) = ap (λ (r : List ℕ). x ∷ r) (patch-part
 patch-part (x ∷ xs) (suc at) n = patch-past x xs at (part xs at n) ∙ ap (λ (r : List ℕ). x ∷ r) (patch-part xs at n)
 
 -- one element
-patch-one : (xs : List ℕ) (at b : ℕ) → patch xs at (b ∷ []) ≡ set xs at b
+pub patch-one : (xs : List ℕ) (at b : ℕ) → patch xs at (b ∷ []) ≡ set xs at b
 unfolding patch
 patch-one [] at b = refl
 patch-one (x ∷ xs) zero b = ap (λ (r : List ℕ). b ∷ r) (patch-nil xs zero)
