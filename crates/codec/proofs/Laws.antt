@@ -74,13 +74,13 @@ pub fields-refused : (n d : ℕ) (bs : List ℕ) (e : Entry) (r : ℕ) → e ≡
 unfolding decoded
 fields-refused n d bs e r p q z = rw (← p, ← q, ne-eqb r 0 z)
 
-pub entry-written : (n d : ℕ) (e : Entry) (r : ℕ) (bs : List ℕ) → r ≡ entryRefusal n d e → r ≡ 0 → bs ≡ patch (replicate 16 0) 0 (entryBytes e)
+pub entry-written : (n d : ℕ) (e : Entry) (r : ℕ) (xs bs : List ℕ) → length xs ≡ 16 → r ≡ entryRefusal n d e → r ≡ 0
+    → bs ≡ patch xs 0 (entryBytes e)
     → _≡_ {A = Encoded} (record { outcome = Done; bytes = bs }) (encoded n d e)
 unfolding encoded outcomeOf
-entry-written n d e r bs q z w =
-    let whole : patch (replicate 16 0) 0 (entryBytes e) ≡ entryBytes e =
-    sym (part-all _ 16 (length-patch (replicate 16 0) 0 (entryBytes e)))
-    ∙ part-patch-same (replicate 16 0) 0 (entryBytes e) 16 (length-entry e) (omega arith) in
+entry-written n d e r xs bs l q z w =
+    let whole : patch xs 0 (entryBytes e) ≡ entryBytes e =
+    sym (part-all _ 16 (length-patch xs 0 (entryBytes e) ∙ l)) ∙ part-patch-same xs 0 (entryBytes e) 16 (length-entry e) (omega arith) in
     rw (← q, eq-eqb r 0 z) (λ t. record { outcome = Done; bytes = (w ∙ whole) t })
 
 pub entry-unwritten : (n d : ℕ) (e : Entry) (r : ℕ) → r ≡ entryRefusal n d e → (r ≡ 0 → ⊥)
