@@ -56,7 +56,7 @@ mod-byte v p h =
     ap (λ (n : ℕ). n % (p * 256)) e ∙ mul-add-mod-self-left (p * 256) a (r * p + s) ∙ mod-eq-of-lt below
 
 -- the w lowest bytes spell what is left of v
-pub be-bytes-mod : (w v : ℕ) → be (bytesBE w v) ≡ v % 256 ^ w
+be-bytes-mod : (w v : ℕ) → be (bytesBE w v) ≡ v % 256 ^ w
 unfolding bytesBE beFrom be
 be-bytes-mod zero v = omega arith
 be-bytes-mod (suc w) v =
@@ -70,7 +70,7 @@ pub be-bytes : (w v : ℕ) → v < 256 ^ w → be (bytesBE w v) ≡ v
 be-bytes w v h = be-bytes-mod w v ∙ mod-eq-of-lt h
 
 -- what lies above the w lowest bytes does not show in them
-pub bytes-above : (w a v : ℕ) → bytesBE w (a * 256 ^ w + v) ≡ bytesBE w v
+bytes-above : (w a v : ℕ) → bytesBE w (a * 256 ^ w + v) ≡ bytesBE w v
 unfolding bytesBE
 bytes-above zero a v = refl
 bytes-above (suc w) a v =
@@ -112,7 +112,7 @@ bytes-below (suc w) v (suc i) h = bytes-below w v i (le-of-suc-le-suc h)
 -- ---- parts
 
 -- an index into a part
-pub part-index : (xs : List ℕ) (at n i : ℕ) → i < length (part xs at n) → (i < n) × (at + i < length xs)
+part-index : (xs : List ℕ) (at n i : ℕ) → i < length (part xs at n) → (i < n) × (at + i < length xs)
 unfolding part
 part-index xs at n i h = omega (arith, length-take n (drop at xs), length-drop at xs)
 
@@ -168,7 +168,7 @@ patch-nil [] at = refl
 patch-nil (x ∷ xs) at = refl
 
 -- past the first element
-patch-past : (x : ℕ) (xs : List ℕ) (at : ℕ) (bs : List ℕ) → patch (x ∷ xs) (suc at) bs ≡ x ∷ patch xs at bs
+pub patch-past : (x : ℕ) (xs : List ℕ) (at : ℕ) (bs : List ℕ) → patch (x ∷ xs) (suc at) bs ≡ x ∷ patch xs at bs
 unfolding patch
 patch-past x xs at [] = ap (λ (r : List ℕ). x ∷ r) (sym (patch-nil xs at))
 patch-past x xs at (b ∷ bs) = refl
