@@ -1,3 +1,4 @@
 -- Laws of the definitions, and what is proved of them.
 pub mod Below
+pub mod Checks
 pub mod Table
