@@ -1,17 +1,17 @@
 -- An entry's and a header's bytes: what was written is read back, field by field, and sixteen bytes that were read are written back as they
 -- stood; what format leaves in each part of the card. By computing with the fields' fixed places; assumes nothing.
 use Prim.Native.Nat.{ℕ, zero, suc, _+_, _*_, _-_, _^_, _≤_, _<_}
-use mathlib.Core.List.{List, [], _∷_, _++_}
+use mathlib.Core.List.{List, _++_}
 use mathlib.Core.Bool.{Bool, true, false, cond, _&&_, _||_}
 use mathlib.Core.Path.{_≡_, refl, sym, ap, _∙_}
 use mathlib.Core.Logic.{⊎-elim}
 use native.Mathlib.Omega.{arith}
-use lib.ListN.{length, getD, take, replicate, length-append, length-replicate, getD-replicate}
-use lib.Seq.{drop-cons, getD-drop, ext-getD}
+use lib.ListN.{length, getD, replicate, length-append, length-replicate, getD-replicate}
+use lib.Seq.{getD-drop, ext-getD}
 use lib.Dec.{eqb, ltb}
 use borrow.Author.Tests.{eqb-true, ltb-true, eq-eqb}
 use Rattle.numbers.specs.Bytes.{beFrom, be, bytesBE, part, numberAt, patch, Bytes}
-use Rattle.numbers.proofs.Laws.{be-bytes, bytes-be, bytes-part, length-part, getD-part, part-part, part-append, part-all, length-patch, patch-append, getD-patch-in, part-patch-same, part-patch-before, part-patch-after}
+use Rattle.numbers.proofs.Laws.{be-bytes, bytes-be, bytes-part, length-part, getD-part, part-part, part-append, part-one, part-all, length-patch, patch-append, getD-patch-in, part-patch-same, part-patch-before, part-patch-after}
 use Rattle.protocol.specs.declared.Geometry.{Geometry}
 use Rattle.protocol.specs.declared.Entry.{Entry}
 use Rattle.protocol.specs.declared.Decoded.the-variants.{Fields, Refused}
@@ -104,13 +104,9 @@ part-number : (xs : List ℕ) (at w m to : ℕ) → Bytes xs → at + w ≤ leng
     → part xs at (w + m) ≡ bytesBE w (numberAt xs at w) ++ part xs to m
 part-number xs at w m to b h e = part-append xs at w m ∙ (λ t. sym (bytes-number xs at w b h) t ++ part xs (e t) m)
 
-part-first : (xs : List ℕ) (at : ℕ) → at < length xs → part xs at 1 ≡ getD xs at 0 ∷ []
-unfolding part
-part-first xs at h = ap (take 1) (drop-cons xs at 0 h)
-
 pub entry-write-back : (xs : List ℕ) (at : ℕ) → Bytes xs → at + 16 ≤ length xs → entryBytes (entryIn xs at) ≡ part xs at 16
 unfolding entryBytes entryIn
-entry-write-back xs at b h = sym (part-append xs at 1 15 ∙ (λ t. part-first xs at (omega arith) t ++ fields t))
+entry-write-back xs at b h = sym (part-append xs at 1 15 ∙ (λ t. part-one xs at (omega arith) t ++ fields t))
   where
     fields : part xs (at + 1) 15
         ≡ bytesBE 7 (numberAt xs (at + 1) 7) ++ (bytesBE 4 (numberAt xs (at + 8) 4) ++ bytesBE 4 (numberAt xs (at + 12) 4))
