@@ -10,10 +10,10 @@ use native.Mathlib.Nat.{zero-add, pow-suc, pow-le-pow-right, zero-lt-suc, div-di
 use native.Mathlib.Numerals.{add-one}
 use native.Mathlib.Omega.{arith}
 use lib.ListN.{replicate, getD-replicate, length-replicate, length, getD, take, drop, set}
-use lib.Seq.{drop-cons, drop-drop, take-all}
+use lib.Seq.{drop-drop, take-all}
 use Rattle.numbers.specs.Bytes.{beFrom, be, bytesBE, part, numberAt, patch}
 use Rattle.numbers.specs.Post.{Number}
-use Rattle.numbers.proofs.Laws.{length-part, part-all, part-append, part-patch-same, patch-nil, set-patch-snoc, length-patch, patch-past, patch-as-parts}
+use Rattle.numbers.proofs.Laws.{length-part, part-one, part-all, part-append, part-patch-same, patch-nil, set-patch-snoc, length-patch, patch-past, patch-as-parts}
 
 -- ---- a number is read, the highest byte first
 
@@ -25,10 +25,6 @@ beFrom-snoc : (acc : ℕ) (bs : List ℕ) (b : ℕ) → beFrom acc (bs ++ (b ∷
 unfolding beFrom
 beFrom-snoc acc [] b = refl
 beFrom-snoc acc (a ∷ bs) b = beFrom-snoc (acc * 256 + a) bs b
-
-part-one : (xs : List ℕ) (at : ℕ) → at < length xs → part xs at 1 ≡ getD xs at 0 ∷ []
-unfolding part
-part-one xs at h = ap (take 1) (drop-cons xs at 0 h)
 
 number-more : (xs : List ℕ) (at i : ℕ) → at + i < length xs → numberAt xs at (i + 1) ≡ numberAt xs at i * 256 + getD xs (at + i) 0
 unfolding numberAt be

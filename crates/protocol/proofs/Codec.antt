@@ -1,17 +1,17 @@
 -- An entry's and a header's bytes: what was written is read back, field by field, and sixteen bytes that were read are written back as they
 -- stood; what format leaves in each part of the card. By computing with the fields' fixed places; assumes nothing.
-use Prim.Native.Nat.{ℕ, zero, suc, _+_, _*_, _-_, _%_, _^_, _≤_, _<_}
-use mathlib.Core.List.{List, [], _∷_, _++_}
+use Prim.Native.Nat.{ℕ, zero, suc, _+_, _*_, _-_, _^_, _≤_, _<_}
+use mathlib.Core.List.{List, _++_}
 use mathlib.Core.Bool.{Bool, true, false, cond, _&&_, _||_}
 use mathlib.Core.Path.{_≡_, refl, sym, ap, _∙_}
 use mathlib.Core.Logic.{⊎-elim}
 use native.Mathlib.Omega.{arith}
-use lib.ListN.{length, getD, take, replicate, length-append, length-replicate, getD-replicate}
-use lib.Seq.{drop-cons, getD-drop, ext-getD}
-use lib.Dec.{eqb, ltb, leb}
-use borrow.Author.Tests.{eqb-true, ltb-true, leb-true, eq-eqb}
+use lib.ListN.{length, getD, replicate, length-append, length-replicate, getD-replicate}
+use lib.Seq.{getD-drop, ext-getD}
+use lib.Dec.{eqb, ltb}
+use borrow.Author.Tests.{eqb-true, ltb-true, eq-eqb}
 use Rattle.numbers.specs.Bytes.{beFrom, be, bytesBE, part, numberAt, patch, Bytes}
-use Rattle.numbers.proofs.Laws.{be-bytes, bytes-be, bytes-part, length-part, getD-part, part-part, part-append, part-all, length-patch, patch-append, getD-patch-in, part-patch-same, part-patch-before, part-patch-after}
+use Rattle.numbers.proofs.Laws.{be-bytes, bytes-be, bytes-part, length-part, getD-part, part-part, part-append, part-one, part-all, length-patch, patch-append, getD-patch-in, part-patch-same, part-patch-before, part-patch-after}
 use Rattle.protocol.specs.declared.Geometry.{Geometry}
 use Rattle.protocol.specs.declared.Entry.{Entry}
 use Rattle.protocol.specs.declared.Decoded.the-variants.{Fields, Refused}
@@ -19,54 +19,8 @@ use Rattle.protocol.specs.Layout.{between, goodK, goodSlots, goodBlocks,
 use Rattle.protocol.specs.Entry.{FRESH, entryOf, entryBytes, entryIn, allowedFlags, isUnused, goodEntry}
 use Rattle.protocol.specs.Check.{refuse, _orElse_}
 use Rattle.protocol.specs.Format.{formatted, entryRefusal, decoded, encoded}
+use Rattle.protocol.proofs.Checks.{Limits, limits}
 use Rattle.protocol.proofs.Below.{and-left, and-right, and-both, or-true, all-of}
-
--- ---- limits
-
-between-both : (low high x : ℕ) → between low high x ≡ true → (low ≤ x) × (x ≤ high)
-unfolding between
-between-both low high x h = (leb-true low x (and-left (leb low x) _ h), leb-true x high (and-right (leb low x) _ h))
-
--- a multiple of m between two limits
-stepped : (low high m x : ℕ) → between low high x && eqb (x % m) 0 ≡ true → (low ≤ x) × (x ≤ high) × (x % m ≡ 0)
-stepped low high m x h =
-    let (a, b) = between-both low high x (and-left (between low high x) _ h) in
-    (a, b, eqb-true (x % m) 0 (and-right (between low high x) _ h))
-
-pub k-limits : (k : ℕ) → goodK k ≡ true → (9 ≤ k) × (k ≤ 12)
-unfolding goodK
-k-limits k h = between-both 9 12 k h
-
-pub slots-limits : (s : ℕ) → goodSlots s ≡ true → (8 ≤ s) × (s ≤ 256) × (s % 8 ≡ 0)
-unfolding goodSlots
-slots-limits s h = stepped 8 256 8 s h
-
-pub blocks-limits : (n : ℕ) → goodBlocks n ≡ true → (4 ≤ n) × (n ≤ 128) × (n % 4 ≡ 0)
-unfolding goodBlocks
-blocks-limits n h = stepped 4 128 4 n h
-
-pub disk-limits : (d : ℕ) → goodDisk d ≡ true → (1 ≤ d) × (d ≤ 65536)
-unfolding goodDisk
-disk-limits d h = between-both 1 65536 d h
-
--- each of the four is within its limits
-pub record GeometryFits (g : Geometry) : Type 0 where
-  pub k : (9 ≤ g .k) × (g .k ≤ 12)
-  pub slots : (8 ≤ g .slots) × (g .slots ≤ 256) × (g .slots % 8 ≡ 0)
-  pub blocks : (4 ≤ g .blocks) × (g .blocks ≤ 128) × (g .blocks % 4 ≡ 0)
-  pub disk : (1 ≤ g .disk) × (g .disk ≤ 65536)
-
-pub geometry-fits : (g : Geometry) → goodGeometry g ≡ true → GeometryFits g
-unfolding goodGeometry
-geometry-fits g h =
-    let hs = and-right (goodK (g .k)) _ h in
-    let hn = and-right (goodSlots (g .slots)) _ hs in
-    record {
-      k = k-limits (g .k) (and-left (goodK (g .k)) _ h);
-      slots = slots-limits (g .slots) (and-left (goodSlots (g .slots)) _ hs);
-      blocks = blocks-limits (g .blocks) (and-left (goodBlocks (g .blocks)) _ hn);
-      disk = disk-limits (g .disk) (and-right (goodBlocks (g .blocks)) _ hn);
-    }
 
 -- ---- an entry
 
@@ -98,9 +52,10 @@ used-fits n d e hn hd h =
     record { number = omega arith; previous = b; current = omega arith }
 
 pub good-fits : (n d : ℕ) (e : Entry) → goodBlocks n ≡ true → goodDisk d ≡ true → goodEntry n d e ≡ true → EntryFits e
-unfolding goodEntry
+unfolding goodEntry between goodK goodSlots goodGeometry
 good-fits n d e hn hd h =
-    ⊎-elim (unused-fits e) (λ q. used-fits n d e (blocks-limits n hn .1) (disk-limits d hd .1) (and-right (allowedFlags (e .flags)) _ q))
+    let l : Limits (record { k = 9; slots = 8; blocks = n; disk = d }) = limits _ (and-both hn hd) in
+    ⊎-elim (unused-fits e) (λ q. used-fits n d e (l .blocks .1) (l .disk .1) (and-right (allowedFlags (e .flags)) _ q))
     (or-true (isUnused e) _ h)
 
 pub length-entry : (e : Entry) → length (entryBytes e) ≡ 16
@@ -149,13 +104,9 @@ part-number : (xs : List ℕ) (at w m to : ℕ) → Bytes xs → at + w ≤ leng
     → part xs at (w + m) ≡ bytesBE w (numberAt xs at w) ++ part xs to m
 part-number xs at w m to b h e = part-append xs at w m ∙ (λ t. sym (bytes-number xs at w b h) t ++ part xs (e t) m)
 
-part-first : (xs : List ℕ) (at : ℕ) → at < length xs → part xs at 1 ≡ getD xs at 0 ∷ []
-unfolding part
-part-first xs at h = ap (take 1) (drop-cons xs at 0 h)
-
 pub entry-write-back : (xs : List ℕ) (at : ℕ) → Bytes xs → at + 16 ≤ length xs → entryBytes (entryIn xs at) ≡ part xs at 16
 unfolding entryBytes entryIn
-entry-write-back xs at b h = sym (part-append xs at 1 15 ∙ (λ t. part-first xs at (omega arith) t ++ fields t))
+entry-write-back xs at b h = sym (part-append xs at 1 15 ∙ (λ t. part-one xs at (omega arith) t ++ fields t))
   where
     fields : part xs (at + 1) 15
         ≡ bytesBE 7 (numberAt xs (at + 1) 7) ++ (bytesBE 4 (numberAt xs (at + 8) 4) ++ bytesBE 4 (numberAt xs (at + 12) 4))
@@ -229,7 +180,7 @@ module _ (g : Geometry) (c : List ℕ) (good : goodGeometry g ≡ true) (stands 
   pub geometry-of-header : geometryOf c ≡ g
   unfolding geometryOf headerBytes bytesBE part numberAt
   geometry-of-header =
-      let f : GeometryFits g = geometry-fits g good in
+      let l : Limits g = limits g good in
       λ t.
       record {
         k = header-byte 5 (omega arith) t;

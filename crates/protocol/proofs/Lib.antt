@@ -1,6 +1,7 @@
 -- Laws of the definitions, and what is proved of them.
 pub mod Allowed
 pub mod Below
+pub mod Checks
 pub mod Codec
 pub mod Holds
 pub mod Invariant

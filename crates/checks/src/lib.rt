@@ -1,0 +1,133 @@
+// Checks 1 to 7 of a card: the lowest refusal that holds, 0 for none, at every row of bytes, however damaged.
+ghost use mathlib.Core.Path.{_≡_};
+ghost use mathlib.Core.Bool.{true};
+ghost use Prim.Native.Nat.{_+_, _≤_, _<_};
+ghost use lib.ListN.{length};
+ghost use Rattle.protocol.specs.Below.{allBelow};
+ghost use Rattle.protocol.specs.Layout.{goodK, goodSlots, goodBlocks, goodDisk, goodGeometry, geometryOf, blockSize, cardLength, diskLength, goodHeader, zeroFrom};
+ghost use Rattle.protocol.specs.Check.{headerFits, fitRefusal, diskRefusal};
+use protocol::Geometry;
+
+fn good_k(k: u64) -> bool
+    ensures { λ r. ⌜ r ≡ goodK k ⌝ }
+{
+    (9 <= k) & (k <= 12)
+}
+
+fn good_slots(s: u64) -> bool
+    ensures { λ r. ⌜ r ≡ goodSlots s ⌝ }
+{
+    (8 <= s) & (s <= 256) & (s % 8 == 0)
+}
+
+fn good_blocks(n: u64) -> bool
+    ensures { λ r. ⌜ r ≡ goodBlocks n ⌝ }
+{
+    (4 <= n) & (n <= 128) & (n % 4 == 0)
+}
+
+fn good_disk(d: u64) -> bool
+    ensures { λ r. ⌜ r ≡ goodDisk d ⌝ }
+{
+    (1 <= d) & (d <= 65536)
+}
+
+// "B is two to the power k", by a shift.
+pub fn block_size(g: Geometry) -> u64
+    requires { ⌜ goodGeometry g ≡ true ⌝ }
+    ensures { λ r. ⌜ r ≡ blockSize g ⌝ }
+{
+    1u64 << g.k
+}
+
+pub fn card_length(g: Geometry) -> u64
+    requires { ⌜ goodGeometry g ≡ true ⌝ }
+    ensures { λ r. ⌜ r ≡ cardLength g ⌝ }
+{
+    128 + 8 * g.slots + 16 * g.blocks + g.blocks * block_size(g)
+}
+
+pub fn disk_length(g: Geometry) -> u64
+    requires { ⌜ goodGeometry g ≡ true ⌝ }
+    ensures { λ r. ⌜ r ≡ diskLength g ⌝ }
+{
+    g.disk * block_size(g)
+}
+
+// The geometry that the header spells, its fields within their limits or not.
+pub fn geometry_of(card: &[u8]) -> Geometry
+    requires { ⌜ 128 ≤ length (now card) ⌝ }
+    ensures { λ r. ⌜ r ≡ geometryOf (now (card .entry)) ⌝ }
+{
+    Geometry {
+        k: card[5] as u64,
+        slots: numbers::get(card, 6, 2),
+        blocks: numbers::get(card, 8, 4),
+        disk: numbers::get(card, 12, 4),
+    }
+}
+
+fn good_geometry(g: Geometry) -> bool
+    ensures { λ r. ⌜ r ≡ goodGeometry g ⌝ }
+{
+    good_k(g.k) & (good_slots(g.slots) & (good_blocks(g.blocks) & good_disk(g.disk)))
+}
+
+// Whether the n bytes from `at` on are zero.
+fn zeros(card: &[u8], at: usize, n: usize) -> bool
+    requires { ⌜ at + n ≤ length (now card) ⌝ }
+    ensures { λ r. ⌜ r ≡ allBelow (zeroFrom (now (card .entry)) at) n ⌝ }
+{
+    let mut i: usize = 0;
+    while i < n {
+        if card[at + i] != 0 {
+            return false;
+        }
+        i += 1;
+    }
+    true
+}
+
+fn good_header(card: &[u8]) -> bool
+    requires { ⌜ 128 ≤ length (now card) ⌝ }
+    ensures { λ r. ⌜ r ≡ goodHeader (now (card .entry)) ⌝ }
+{
+    let long = numbers::get(card, 0, 4) == 64;
+    let version = card[4] == 1;
+    long & (version & (good_geometry(geometry_of(card)) & zeros(card, 16, 48)))
+}
+
+fn header_fits(card: &[u8]) -> bool
+    ensures { λ r. ⌜ r ≡ headerFits (now (card .entry)) ⌝ }
+{
+    if card.len() < 128 {
+        return false;
+    }
+    good_header(card)
+}
+
+// 1 and 2: what the fitter can get wrong on the card.
+pub fn fit_refusal(card: &[u8]) -> u8
+    ensures { λ r. ⌜ r ≡ fitRefusal (now (card .entry)) ⌝ }
+{
+    if !header_fits(card) {
+        return 1;
+    }
+    if card.len() as u64 == card_length(geometry_of(card)) {
+        0
+    } else {
+        2
+    }
+}
+
+// 3: a disk of the wrong length.
+pub fn disk_refusal(g: Geometry, disk: &[u8]) -> u8
+    requires { ⌜ goodGeometry g ≡ true ⌝ }
+    ensures { λ r. ⌜ r ≡ diskRefusal g (now (disk .entry)) ⌝ }
+{
+    if disk.len() as u64 == disk_length(g) {
+        0
+    } else {
+        3
+    }
+}
