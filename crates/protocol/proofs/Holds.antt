@@ -21,7 +21,7 @@ use Rattle.protocol.specs.Load.{pairRefusal, blockRefusal}
 use Rattle.protocol.specs.Recover.{recoverRefusal}
 use Rattle.protocol.specs.Read.{outputRefusal, readRefusal, outputAfter, lookRefusal, lookedAt}
 use Rattle.protocol.proofs.Below.{either, absurd-bool, and-left, and-right, and-both, and-fails, or-true, or-false, or-left, or-right, all-of, all-at, First, found, missing, first-is, below-or-above}
-use Rattle.protocol.proofs.Codec.{geometry-of-header, good-header, geometry-fits}
+use Rattle.protocol.proofs.Codec.{geometry-of-header, good-header}
 use Rattle.protocol.proofs.Invariant.{Kind, idle, live, pending, kindNumber, kindCurrent, kindPrevious, kindHome, View, Safe}
 use Rattle.protocol.proofs.Shape.{kindOf, kindAt, viewOf, Seen, seen-idle, seen-live, seen-pending, see, previousOf, previous-some, Shape, Inv, window-empty}
 use Rattle.protocol.proofs.Steps.{undoable, undoable-at}

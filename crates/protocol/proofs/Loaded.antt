@@ -23,7 +23,7 @@ use Rattle.protocol.specs.Commit.{newBlock, roomFor}
 use Rattle.protocol.specs.Load.{cleanEntry, loadRuns, writeBack, evictRuns}
 use Rattle.protocol.proofs.Allowed.{UsedEntry, Flag, clean, used-good, unused-good, unused-used, unused-role, clean-used, clean-role, clean-modified}
 use Rattle.protocol.proofs.Below.{either, same-or-other, absurd-bool, and-left, and-right, all-at, First, found, missing, first-is, first-found, first-missed}
-use Rattle.protocol.proofs.Codec.{GeometryFits, geometry-fits}
+use Rattle.protocol.proofs.Checks.{Limits, limits}
 use Rattle.protocol.proofs.Holds.{idle-kind, live-kind, used-number, number-used, used-current, empty-window, for-used, for-number, for-is, no-undoable}
 use Rattle.protocol.proofs.Invariant.{Kind, idle, live, pending, kindNumber, kindCurrent, kindPrevious, kindHome, View, Safe, Owes}
 use Rattle.protocol.proofs.Made.{entry-changed, entry-stored, entry-elsewhere, words-changed, words-changed-all, words-elsewhere, words-stored, sectors-others, sectors-elsewhere, sectors-stored, in-disk}
@@ -127,8 +127,8 @@ module _ {g : Geometry} {row : ℕ → List ℕ} {c d : List ℕ} (v : Inv g row
   unfolding writeBack flat currentOf e i
   written = go (isModified e) refl
     where
-      fit : GeometryFits g
-      fit = geometry-fits g (v .shape .good)
+      fit : Limits g
+      fit = limits g (v .shape .good)
 
       go : (m : Bool) → isModified e ≡ m
           → Along (Inv g row) Written (flat (cond m (sectors g b (blockAt g c (e .current)) ∷ []) [])) c d
@@ -263,8 +263,8 @@ module _ {g : Geometry} {row : ℕ → List ℕ} {c d : List ℕ} (v : Inv g row
   copied : Along (Inv g row) Copied (words g q (diskBlock g d b)) c d
   copied = along-run (words g q (diskBlock g d b)) c d cut end
     where
-      fit : GeometryFits g
-      fit = geometry-fits g (v .shape .good)
+      fit : Limits g
+      fit = limits g (v .shape .good)
 
       bs : List ℕ
       bs = diskBlock g d b

@@ -17,7 +17,8 @@ use Rattle.protocol.specs.Entry.{entryBytes, entryIn, entryAt}
 use Rattle.protocol.specs.Ring.{headOf, tailOf, slotAt}
 use Rattle.protocol.specs.Store.{Medium, card, disk, Store, isOn, storedOn, madeOn, words, sectors, units, entryStore, wordStore, slotStore, headStore, tailStore}
 use Rattle.protocol.proofs.Below.{below-or-above}
-use Rattle.protocol.proofs.Codec.{EntryFits, entry-read-back, length-entry, GeometryFits}
+use Rattle.protocol.proofs.Checks.{Limits}
+use Rattle.protocol.proofs.Codec.{EntryFits, entry-read-back, length-entry}
 use Rattle.protocol.proofs.Region.{Region, head, tail, slot, entry, block, place, size, Inside, Whole, whole, cell, cell-other, in-card, block-ends, regions-apart, place-slot, place-entry, place-block}
 use Rattle.protocol.proofs.Shape.{Changed}
 use Rattle.protocol.proofs.Stores.{Confined, confined-take, confined-part, confined-elsewhere, units-confined, units-stored, length-made}
@@ -89,7 +90,7 @@ slot-elsewhere i v d = refl
 
 -- ---- the words of a data block
 
-module _ (g : Geometry) (fit : GeometryFits g) (q : ℕ) (bs : List ℕ) (l : q < g .blocks) where
+module _ (g : Geometry) (fit : Limits g) (q : ℕ) (bs : List ℕ) (l : q < g .blocks) where
   words-confined : Confined card (place g (block q)) (blockSize g) (words g q bs)
   unfolding words
   words-confined =
@@ -144,7 +145,7 @@ homes-apart g a b h =
     (below-or-above b a))
     (below-or-above a b)
 
-module _ (g : Geometry) (fit : GeometryFits g) (b : ℕ) (bs : List ℕ) where
+module _ (g : Geometry) (fit : Limits g) (b : ℕ) (bs : List ℕ) where
   sectors-confined : Confined disk (diskPlace g b) (blockSize g) (sectors g b bs)
   unfolding sectors
   sectors-confined =

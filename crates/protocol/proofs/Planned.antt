@@ -18,7 +18,7 @@ use Rattle.protocol.specs.Ring.{headOf, usedAt, undoableAt, isSettled}
 use Rattle.protocol.specs.Search.{takenBy, isFree, unusedAt, searchStart, freeBlocks, unusedEntries}
 use Rattle.protocol.specs.Commit.{newBlock}
 use Rattle.protocol.proofs.Below.{either, absurd-bool, any-at, and-both, around-below}
-use Rattle.protocol.proofs.Codec.{GeometryFits, geometry-fits}
+use Rattle.protocol.proofs.Checks.{Limits, limits}
 use Rattle.protocol.proofs.Holds.{idle-kind, live-kind, used-current, no-undoable}
 use Rattle.protocol.proofs.Invariant.{Kind, idle, live, pending, kindNumber, kindCurrent, kindPrevious}
 use Rattle.protocol.proofs.Searches.{Found, walk-finds, walk-apart, unused-enough}
@@ -36,7 +36,7 @@ module _ {g : Geometry} {row : ℕ → List ℕ} {c d : List ℕ} (v : Inv g row
   start-below : searchStart g c < g .blocks
   unfolding searchStart
   start-below =
-      let f : GeometryFits g = geometry-fits g (v .shape .good) in
+      let f : Limits g = limits g (v .shape .good) in
       mod-lt (headOf c) (omega arith)
 
   free-found : (k : ℕ) → k < length (freeBlocks g c) → Found (isFree g c) (g .blocks) (searchStart g c) (g .blocks) (newBlock g c k)

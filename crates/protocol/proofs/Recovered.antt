@@ -22,7 +22,8 @@ use Rattle.protocol.specs.Store.{card, disk, Store, Run, storedOn, madeO
 use Rattle.protocol.specs.Recover.{sameBytes, ifChanging, undoRuns, recoverRuns}
 use Rattle.protocol.proofs.Allowed.{UsedEntry, Flag, modified, used-good, unused-good, used-entry, not-used-blank, kept-used, kept-role, kept-modified, unused-used, unused-role}
 use Rattle.protocol.proofs.Below.{either, same-or-other, absurd-bool, and-left, and-right, and-both, or-false, or-true, all-of, last-or-before, below-or-above}
-use Rattle.protocol.proofs.Codec.{EntryFits, good-fits, length-entry, entry-of-part, entry-read-back, GeometryFits, geometry-fits}
+use Rattle.protocol.proofs.Checks.{Limits, limits}
+use Rattle.protocol.proofs.Codec.{EntryFits, good-fits, length-entry, entry-of-part, entry-read-back}
 use Rattle.protocol.proofs.Holds.{pending-kind, live-kind, used-number, number-used, empty-window}
 use Rattle.protocol.proofs.Invariant.{Kind, idle, live, pending, kindNumber, kindCurrent, kindPrevious, kindHome, View, Safe, Owes}
 use Rattle.protocol.proofs.Made.{entry-changed, entry-stored, entry-elsewhere, tail-changed, tail-stored, tail-elsewhere}
@@ -359,7 +360,7 @@ module _ (g : Geometry) (row : ℕ → List ℕ) (c : List ℕ) where
     where
       small : headOf c < 65536 + 65536
       small =
-          let f : GeometryFits g = geometry-fits g (t .inv .shape .good) in
+          let f : Limits g = limits g (t .inv .shape .good) in
           let b : headOf c < g .slots = subst (λ (z : ℕ). z < g .slots) (t .heads) (t .inv .shape .headBelow) in
           omega arith
 

@@ -12,7 +12,7 @@ use Rattle.numbers.proofs.Laws.{part-patch-same, part-patch-before, part-patch-
 use Rattle.protocol.specs.declared.Geometry.{Geometry}
 use Rattle.protocol.specs.Layout.{blockSize, slotPlace, entryPlace, blockPlace, cardLength}
 use Rattle.protocol.proofs.Below.{below-or-above}
-use Rattle.protocol.proofs.Codec.{GeometryFits}
+use Rattle.protocol.proofs.Checks.{Limits}
 
 -- a block is a whole number of words and of sectors
 pub record Whole (b : ℕ) : Type 0 where
@@ -28,7 +28,7 @@ whole-power (suc (suc zero)) h = record { in-words = refl; in-sectors = refl; so
 whole-power (suc (suc (suc zero))) h = record { in-words = refl; in-sectors = refl; some-bytes = omega arith; few-bytes = omega arith }
 whole-power (suc (suc (suc (suc j)))) h = absurd (omega arith)
 
-pub whole : (g : Geometry) → GeometryFits g → Whole (blockSize g)
+pub whole : (g : Geometry) → Limits g → Whole (blockSize g)
 unfolding blockSize
 whole g l =
     let e : 9 + (g .k - 9) ≡ g .k = omega arith in

@@ -18,7 +18,7 @@ use Rattle.protocol.specs.Layout.{goodGeometry, blockSize, blockAt, disk
 use Rattle.protocol.specs.Entry.{FRESH, entryIn, entryAt, inUse, isModified, hasLogRole, goodEntry, allowedFlags, isUnused}
 use Rattle.protocol.specs.Ring.{headOf, tailOf, slotAt, windowLength, windowOf, windowNumber, windowHas, inWindow, usedAt, undoableAt}
 use Rattle.protocol.proofs.Below.{either, any-cong, any-found, around-below, around-apart, below-or-above, or-true, and-left, and-right, absurd-bool}
-use Rattle.protocol.proofs.Codec.{GeometryFits, entry-of-part}
+use Rattle.protocol.proofs.Codec.{entry-of-part}
 use Rattle.protocol.proofs.Invariant.{Kind, idle, live, pending, kindNumber, kindCurrent, kindPrevious, kindHome, View, Safe}
 use Rattle.protocol.proofs.Region.{Region, header, head, tail, slot, entry, block, place, Inside, Differ, cell, place-slot, place-entry, place-block}
 
