@@ -3,6 +3,7 @@ pub mod Allowed
 pub mod Below
 pub mod Checks
 pub mod Codec
+pub mod Committed
 pub mod Holds
 pub mod Invariant
 pub mod Loaded

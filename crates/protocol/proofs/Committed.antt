@@ -1,0 +1,322 @@
+-- Commit, cut before Tail's store, keeps the invariant and the row; Tail's store replaces the row's blocks by those given. The progress of a
+-- commit is told by how many entries are logged, how many numbers the window has taken in, and how many entries are switched. Assumes nothing.
+use Prim.Native.Nat.{ℕ, zero, suc, _+_, _*_, _-_, _≤_, _<_}
+use mathlib.Core.List.{List, [], _∷_, _++_}
+use mathlib.Core.Bool.{Bool, true, false, cond, not, _&&_, _||_}
+use mathlib.Core.Option.{Option, none, some}
+use mathlib.Core.Path.{_≡_, refl, sym, ap, subst, _∙_}
+use mathlib.Core.Logic.{_⊎_, inl, inr, ⊎-elim}
+use native.Mathlib.Nat.{add-zero}
+use native.Mathlib.Numerals.{add-one}
+use native.Mathlib.Omega.{arith}
+use lib.ListN.{length, take, getD}
+use lib.Seq.{take-length}
+use lib.Dec.{eqb, leb, ltb}
+use borrow.Author.Tests.{leb-true, ltb-true, eqb-true, eqb-false, eq-eqb, ne-eqb, lt-ltb, le-ltb, not-true, not-false}
+use Rattle.numbers.specs.Bytes.{part}
+use Rattle.numbers.proofs.Laws.{length-part}
+use Rattle.protocol.specs.declared.Entry.{Entry}
+use Rattle.protocol.specs.declared.Geometry.{Geometry}
+use Rattle.protocol.specs.Below.{allBelow, anyBelow, countBelow, firstBelow, eachBelow, around}
+use Rattle.protocol.specs.Layout.{blockSize, blockAt, diskBlock}
+use Rattle.protocol.specs.Entry.{FRESH, entryOf, entryAt, inUse, isModified, hasLogRole, goodEntry, switched}
+use Rattle.protocol.specs.Ring.{headOf, tailOf, slotAt, windowOf, windowNumber, windowHas, inWindow, usedAt, undoableAt, isSettled, findEntry, cached, currentOf}
+use Rattle.protocol.specs.Store.{card, disk, Store, Run, storedOn, madeOn, flat, single, words, entryStore, slotStore, headStore, tailStore}
+use Rattle.protocol.specs.Search.{freeBlocks, unusedEntries}
+use Rattle.protocol.specs.Commit.{numberOf, uncachedAt, newBlock, entryFound, oldBlock, logEntry, dataOf, headAfter, blockRuns, switchRuns, commitRuns, countFits, dataFits, numberFits, numbersFit, numbersDiffer, newNumber, numbersApart, roomFor}
+use Rattle.protocol.specs.History.{placeAmong, replaced}
+use Rattle.protocol.proofs.Allowed.{UsedEntry, Flag, logged, modified, used-good, log-used, log-role, log-modified, kept-used, kept-role, kept-modified}
+use Rattle.protocol.proofs.Below.{either, same-or-other, below-or-above, last-or-before, absurd-bool, and-left, and-right, all-at, any-found, any-at, any-none, any-witness, count-le, count-below, first-at, first-none, around-below, around-apart, around-next}
+use Rattle.protocol.proofs.Checks.{Limits, limits}
+use Rattle.protocol.proofs.Holds.{idle-kind, live-kind, used-number, number-used, used-current, empty-window, no-undoable}
+use Rattle.protocol.proofs.Invariant.{Kind, idle, live, pending, kindNumber, kindCurrent, kindPrevious, kindHome, View, Safe, Owes}
+use Rattle.protocol.proofs.Loaded.{Rest, settled-ring, settled-role, Cached, cached-entry, not-cached}
+use Rattle.protocol.proofs.Made.{entry-changed, entry-stored, entry-elsewhere, head-changed, head-stored, head-elsewhere, slot-changed, slot-stored, slot-elsewhere, tail-changed, tail-stored, tail-elsewhere, words-changed, words-changed-all, words-elsewhere, words-stored}
+use Rattle.protocol.proofs.Passed.{CommitPassed}
+use Rattle.protocol.proofs.Planned.{new-below, new-free, new-apart, unused-below, unused-is, unused-apart, enough-unused, no-previous, current-used}
+use Rattle.protocol.proofs.Recovered.{fits-entry}
+use Rattle.protocol.proofs.Region.{entry, block, slot, head, tail, block-ends}
+use Rattle.protocol.proofs.Shape.{Changed, head-kept, tail-kept, slot-kept, entry-kept, block-kept, window-kept, number-kept, kindOf, kindAt, viewOf, Seen, seen-idle, seen-live, seen-pending, see, previousOf, previous-none, previous-is, previous-some, Shape, Inv}
+use Rattle.protocol.proofs.Steps.{undoable, entry-changes, entry-stays, run-in-block, slot-changes, head-moves, window-longer, number-stays, number-last, tail-moves, tail-settled, window-below, head-after}
+use Rattle.protocol.proofs.Stores.{Along, along-then, along-one, along-run, along-each, flat-append, flat-single}
+
+-- k is one of f's values below a, or none of them
+among : (f : ℕ → ℕ) (a k : ℕ) → ((j : ℕ) × (j < a) × (f j ≡ k)) ⊎ ((j : ℕ) → j < a → f j ≡ k → ⊥)
+among f a k =
+    ⊎-elim
+    (λ h. let (j, l, e) = any-witness (λ j. eqb (f j) k) a h in inl (j, l, eqb-true _ _ e))
+    (λ h. inr (λ j l e. absurd-bool (eq-eqb _ _ e) (any-at (λ j. eqb (f j) k) a j h l)))
+    (either (anyBelow (λ j. eqb (f j) k) a))
+
+-- ---- the plan
+
+module _ {g : Geometry} {row : ℕ → List ℕ} {c d : List ℕ} (ns bs : List ℕ) (v : Inv g row c d) (p : CommitPassed g c ns bs) where
+  pub count-low : 0 < length ns
+  unfolding countFits
+  count-low =
+      let h : length ns ≡ 0 → ⊥ = eqb-false _ _ (not-true _ (and-left (not (eqb (length ns) 0)) _ (p .counted))) in
+      ⊎-elim (λ l. l) (λ l. absurd (h (omega arith))) (below-or-above 0 (length ns))
+
+  pub count-high : length ns < g .slots
+  unfolding countFits
+  count-high =
+      let h : length ns ≤ g .slots - 1 = leb-true _ _ (and-right (not (eqb (length ns) 0)) _ (p .counted)) in
+      let f : Limits g = limits g (v .shape .good) in
+      omega arith
+
+  enough-free : length ns ≤ length (freeBlocks g c)
+  unfolding roomFor
+  enough-free = leb-true _ _ (p .room)
+
+  number-below : (j : ℕ) → j < length ns → numberOf ns j < g .disk
+  unfolding numbersFit numberFits
+  number-below j l = ltb-true _ _ (all-at _ (length ns) j (p .inDisk) l)
+
+  -- no number twice
+  numbers-apart : (i j : ℕ) → i < length ns → j < length ns → numberOf ns i ≡ numberOf ns j → i ≡ j
+  unfolding numbersApart newNumber numbersDiffer
+  numbers-apart i j li lj e =
+      ⊎-elim
+      (λ l. absurd (later j i lj l (sym e)))
+      (λ l. ⊎-elim (λ m. absurd (later i j li m e)) (λ m. omega arith) (below-or-above j i))
+      (below-or-above i j)
+    where
+      later : (i j : ℕ) → i < length ns → j < i → numberOf ns i ≡ numberOf ns j → ⊥
+      later i j l m e = eqb-false _ _ (not-true _ (all-at _ i j (all-at _ (length ns) i (p .once) l) m)) e
+
+  q-below : (j : ℕ) → j < length ns → newBlock g c j < g .blocks
+  q-below j l = new-below v j (omega (arith, enough-free))
+
+  q-free : (j : ℕ) → j < length ns → (i : ℕ) → i < g .blocks → kindCurrent (kindAt g c i) ≡ some (newBlock g c j) → ⊥
+  q-free j l = new-free v j (omega (arith, enough-free))
+
+  q-apart : (i j : ℕ) → i < length ns → j < length ns → newBlock g c i ≡ newBlock g c j → i ≡ j
+  q-apart i j li lj = new-apart v i j (omega (arith, enough-free)) (omega (arith, enough-free))
+
+  -- a number's entry: an unused one where it is not cached, else its own, with its old block
+  data Entered (j : ℕ) : Type 0 where
+    fresh : cached g c (numberOf ns j) ≡ false → usedAt g c (entryFound g c ns j) ≡ false
+        → entryFound g c ns j ≡ getD (unusedEntries g c) (countBelow (uncachedAt g c ns) j) 0 → oldBlock g c ns j ≡ FRESH → Entered j
+    again : cached g c (numberOf ns j) ≡ true → entryFound g c ns j ≡ findEntry g c (numberOf ns j) → Cached g c (numberOf ns j) (entryFound g c ns j)
+        → kindAt g c (entryFound g c ns j) ≡ live (isModified (entryAt g c (entryFound g c ns j))) (numberOf ns j) (oldBlock g c ns j) → Entered j
+
+  unused-index : (j : ℕ) → j < length ns → cached g c (numberOf ns j) ≡ false → countBelow (uncachedAt g c ns) j < length (unusedEntries g c)
+  unfolding uncachedAt
+  unused-index j l h =
+      let a = count-below (uncachedAt g c ns) j (length ns) l (ap not h) in
+      let b = count-le (uncachedAt g c ns) (length ns) in
+      omega (arith, enough-free, enough-unused v)
+
+  entered : (j : ℕ) → j < length ns → Entered j
+  unfolding entryFound oldBlock uncachedAt currentOf
+  entered j l = go (either (cached g c (numberOf ns j)))
+    where
+      go : (cached g c (numberOf ns j) ≡ true) ⊎ (cached g c (numberOf ns j) ≡ false) → Entered j
+      go (inr h) =
+          let e : entryFound g c ns j ≡ getD (unusedEntries g c) (countBelow (uncachedAt g c ns) j) 0 =
+              ap (λ (b : Bool). cond (not b) (getD (unusedEntries g c) (countBelow (uncachedAt g c ns) j) 0) (findEntry g c (numberOf ns j))) h in
+          fresh h (ap (usedAt g c) e ∙ unused-is v (countBelow (uncachedAt g c ns) j) (unused-index j l h)) e
+          (ap (λ (b : Bool). cond (not b) FRESH (currentOf g c (numberOf ns j))) h)
+      go (inl h) =
+          let e : entryFound g c ns j ≡ findEntry g c (numberOf ns j) =
+              ap (λ (b : Bool). cond (not b) (getD (unusedEntries g c) (countBelow (uncachedAt g c ns) j) 0) (findEntry g c (numberOf ns j))) h in
+          let k : Cached g c (numberOf ns j) (entryFound g c ns j) =
+              subst (Cached g c (numberOf ns j)) (sym e) (cached-entry g c (numberOf ns j) h) in
+          let o : oldBlock g c ns j ≡ entryAt g c (entryFound g c ns j) .current =
+              ap (λ (b : Bool). cond (not b) FRESH (currentOf g c (numberOf ns j))) h ∙ ap (λ (z : ℕ). entryAt g c z .current) (sym e) in
+          again h e k
+          (live-kind g c (entryFound g c ns j) (k .used) (no-undoable v (p .settled) (entryFound g c ns j) (k .below))
+          ∙ (λ t. live (isModified (entryAt g c (entryFound g c ns j))) (k .number t) (sym o t)))
+
+  e-below : (j : ℕ) → j < length ns → entryFound g c ns j < g .blocks
+  e-below j l = go (entered j l)
+    where
+      go : Entered j → entryFound g c ns j < g .blocks
+      go (fresh h u e o) = subst (λ (z : ℕ). z < g .blocks) (sym e) (unused-below v (countBelow (uncachedAt g c ns) j) (unused-index j l h))
+      go (again h e k w) = k .below
+
+  -- no entry twice
+  e-apart : (i j : ℕ) → i < length ns → j < length ns → entryFound g c ns i ≡ entryFound g c ns j → i ≡ j
+  unfolding uncachedAt
+  e-apart i j li lj e = go (entered i li) (entered j lj)
+    where
+      go : Entered i → Entered j → i ≡ j
+      go (fresh h u x o) (fresh h′ u′ x′ o′) =
+          let k : countBelow (uncachedAt g c ns) i ≡ countBelow (uncachedAt g c ns) j =
+              unused-apart v _ _ (unused-index i li h) (unused-index j lj h′) (sym x ∙ e ∙ x′) in
+          ⊎-elim
+          (λ l. absurd (omega (arith, count-below (uncachedAt g c ns) i j l (ap not h))))
+          (λ l. ⊎-elim (λ m. absurd (omega (arith, count-below (uncachedAt g c ns) j i m (ap not h′)))) (λ m. omega arith) (below-or-above j i))
+          (below-or-above i j)
+      go (fresh h u x o) (again h′ x′ k w) = absurd-bool (k .used) (ap (usedAt g c) (sym e) ∙ u)
+      go (again h x k w) (fresh h′ u′ x′ o′) = absurd-bool (k .used) (ap (usedAt g c) e ∙ u′)
+      go (again h x k w) (again h′ x′ k′ w′) =
+          numbers-apart i j li lj (sym (k .number) ∙ ap (λ (z : ℕ). entryAt g c z .number) e ∙ k′ .number)
+
+  -- an entry that stands for the j-th number at the start is its own
+  e-own : (j i : ℕ) → j < length ns → i < g .blocks → kindNumber (kindAt g c i) ≡ some (numberOf ns j) → entryFound g c ns j ≡ i
+  e-own j i l m e = go (entered j l)
+    where
+      go : Entered j → entryFound g c ns j ≡ i
+      go (fresh h u x o) = absurd (not-cached g c (numberOf ns j) h i m e)
+      go (again h x k w) = v .safe .numbers (entryFound g c ns j) i (numberOf ns j) (k .below) m (ap kindNumber w) e
+
+  -- the old block of a number is the current block of its entry at the start
+  o-current : (j x : ℕ) → j < length ns → previousOf (oldBlock g c ns j) ≡ some x → kindCurrent (kindAt g c (entryFound g c ns j)) ≡ some x
+  o-current j x l e = go (entered j l)
+    where
+      go : Entered j → kindCurrent (kindAt g c (entryFound g c ns j)) ≡ some x
+      go (fresh h u y o) = let z : none ≡ some x = sym previous-none ∙ ap previousOf (sym o) ∙ e in let w : _≡_ {A = ℕ} 0 1 = cc in absurd (omega arith)
+      go (again h y k w) = ap kindCurrent w ∙ ap some (previous-is (oldBlock g c ns j) x e .0)
+
+  o-below : (j : ℕ) → j < length ns → (oldBlock g c ns j < g .blocks) ⊎ (oldBlock g c ns j ≡ FRESH)
+  o-below j l = go (entered j l)
+    where
+      go : Entered j → (oldBlock g c ns j < g .blocks) ⊎ (oldBlock g c ns j ≡ FRESH)
+      go (fresh h u y o) = inr o
+      go (again h y k w) = inl (v .safe .currentUnder (entryFound g c ns j) (oldBlock g c ns j) (k .below) (ap kindCurrent w))
+
+  -- ---- progress
+
+  -- a entries are logged, h numbers are in the window, t entries are switched
+  record Mid (a h t : ℕ) (c′ d′ : List ℕ) : Type 0 where
+    inv : Inv g row c′ d′
+    headIs : headOf c′ ≡ headAfter g c h
+    tailIs : tailOf c′ ≡ tailOf c
+    windowIs : windowOf g c′ ≡ h
+    numbersAre : (j : ℕ) → j < h → windowNumber g c′ j ≡ numberOf ns j
+    others : (i : ℕ) → i < g .blocks → ((j : ℕ) → j < a → entryFound g c ns j ≡ i → ⊥) → entryAt g c′ i ≡ entryAt g c i
+    loggeds : (j : ℕ) → t ≤ j → j < a → entryAt g c′ (entryFound g c ns j) ≡ logEntry g c ns j
+    switcheds : (j : ℕ) → j < t → entryAt g c′ (entryFound g c ns j) ≡ switched (logEntry g c ns j)
+    blocks : (j : ℕ) → j < a → blockAt g c′ (newBlock g c j) ≡ dataOf g bs j
+
+  -- at most n entries, each switched one with its number in the window
+  record Order (a h t : ℕ) : Type 0 where
+    a-low : a ≤ length ns
+    h-low : h ≤ a
+    t-low : t ≤ h
+
+  module _ {a h t : ℕ} {c′ d′ : List ℕ} (m : Mid a h t c′ d′) (o : Order a h t) where
+    -- a number of the window is one of the commit's
+    in-window : (b : ℕ) → inWindow g c′ b ≡ true → (j : ℕ) × (j < h) × (numberOf ns j ≡ b)
+    unfolding inWindow windowHas
+    in-window b e =
+        let (j, l, k) = any-witness (windowHas g c′ b) (windowOf g c′) e in
+        let l′ : j < h = subst (λ (z : ℕ). j < z) (m .windowIs) l in
+        (j, l′, sym (m .numbersAre j l′) ∙ eqb-true _ _ k)
+
+    has-window : (j : ℕ) → j < h → inWindow g c′ (numberOf ns j) ≡ true
+    unfolding inWindow windowHas
+    has-window j l =
+        any-found (windowHas g c′ (numberOf ns j)) (windowOf g c′) j (subst (λ (z : ℕ). j < z) (sym (m .windowIs)) l) (eq-eqb _ _ (m .numbersAre j l))
+
+    -- the kinds: those of the logged entries can be undone to the old block, and the others are as at the start
+    kind-logged : (j : ℕ) → j < a → kindAt g c′ (entryFound g c ns j) ≡ pending (numberOf ns j) (previousOf (oldBlock g c ns j)) (newBlock g c j)
+    unfolding kindAt logEntry switched
+    kind-logged j l =
+        ⊎-elim
+        (λ lt. at (switched (logEntry g c ns j)) (m .switcheds j lt) (see _ _) (kept-used (numberOf ns j) (oldBlock g c ns j) (newBlock g c j))
+        (in-it (hasLogRole (switched (logEntry g c ns j))) (has-window j (omega arith))) refl)
+        (λ le. at (logEntry g c ns j) (m .loggeds j le l) (see _ _) (log-used (numberOf ns j) (oldBlock g c ns j) (newBlock g c j))
+        (ap (λ (b : Bool). b || inWindow g c′ (numberOf ns j)) (log-role (numberOf ns j) (oldBlock g c ns j) (newBlock g c j))) refl)
+        (below-or-above j t)
+      where
+        in-it : (r : Bool) {w : Bool} → w ≡ true → r || w ≡ true
+        in-it true e = refl
+        in-it false e = e
+
+        at : (x : Entry) → entryAt g c′ (entryFound g c ns j) ≡ x → Seen (inWindow g c′ (x .number)) x → inUse x ≡ true
+            → hasLogRole x || inWindow g c′ (x .number) ≡ true
+            → pending (x .number) (previousOf (x .previous)) (x .current) ≡ pending (numberOf ns j) (previousOf (oldBlock g c ns j)) (newBlock g c j)
+            → kindOf (inWindow g c′ (entryAt g c′ (entryFound g c ns j) .number)) (entryAt g c′ (entryFound g c ns j))
+            ≡ pending (numberOf ns j) (previousOf (oldBlock g c ns j)) (newBlock g c j)
+        at x e (seen-idle b k) u r y = absurd-bool u b
+        at x e (seen-live b q k) u r y = absurd-bool r q
+        at x e (seen-pending b q k) u r y = ap (λ (z : Entry). kindOf (inWindow g c′ (z .number)) z) e ∙ k ∙ y
+
+    kind-other : (i : ℕ) → i < g .blocks → ((j : ℕ) → j < a → entryFound g c ns j ≡ i → ⊥) → kindAt g c′ i ≡ kindAt g c i
+    unfolding kindAt usedAt
+    kind-other i l un =
+        ap (λ (z : Entry). kindOf (inWindow g c′ (z .number)) z) (m .others i l un) ∙ go (either (inUse (entryAt g c i)))
+      where
+        x : Entry
+        x = entryAt g c i
+
+        unseen : inUse x ≡ true → inWindow g c′ (x .number) ≡ false
+        unseen u =
+            ⊎-elim
+            (λ e. let (j, k, n) = in-window (x .number) e in
+            absurd (un j (omega (arith, o .h-low)) (e-own j i (omega (arith, o .h-low, o .a-low)) l (used-number g c i u ∙ ap some (sym n)))))
+            (λ e. e)
+            (either (inWindow g c′ (x .number)))
+
+        seen-none : inWindow g c (x .number) ≡ false
+        seen-none = empty-window g c (settled-ring g c (p .settled)) (x .number)
+
+        go : (inUse x ≡ true) ⊎ (inUse x ≡ false) → kindOf (inWindow g c′ (x .number)) x ≡ kindOf (inWindow g c (x .number)) x
+        go (inl u) = ap (λ (b : Bool). kindOf b x) (unseen u ∙ sym seen-none)
+        go (inr u) = blank (see _ x) ∙ sym (blank (see _ x))
+          where
+            blank : {w : Bool} → Seen w x → kindOf w x ≡ idle
+            blank (seen-idle b k) = k
+            blank (seen-live b q k) = absurd-bool b u
+            blank (seen-pending b q k) = absurd-bool b u
+
+    -- no entry names a free block that is not given out yet
+    unnamed-current : (k i : ℕ) → a ≤ k → k < length ns → i < g .blocks → kindCurrent (kindAt g c′ i) ≡ some (newBlock g c k) → ⊥
+    unnamed-current k i lo hi l e = go (among (entryFound g c ns) a i)
+      where
+        go : ((j : ℕ) × (j < a) × (entryFound g c ns j ≡ i)) ⊎ ((j : ℕ) → j < a → entryFound g c ns j ≡ i → ⊥) → ⊥
+        go (inl w) =
+            let j = w .0 in
+            let f : some (newBlock g c j) ≡ some (newBlock g c k) = sym (ap kindCurrent (kind-logged j (w .1))) ∙ ap (λ (z : ℕ). kindCurrent (kindAt g c′ z)) (w .2) ∙ e in
+            let n : newBlock g c j ≡ newBlock g c k = cc in
+            let x : j ≡ k = q-apart j k (omega (arith, w .1)) hi n in
+            omega (arith, w .1)
+        go (inr un) = q-free k hi i l (sym (ap kindCurrent (kind-other i l un)) ∙ e)
+
+    -- an old block is in use at the start, so no new block is one
+    unnamed-previous : (k i : ℕ) → k < length ns → i < g .blocks → kindPrevious (kindAt g c′ i) ≡ some (newBlock g c k) → ⊥
+    unnamed-previous k i hi l e = go (among (entryFound g c ns) a i)
+      where
+        go : ((j : ℕ) × (j < a) × (entryFound g c ns j ≡ i)) ⊎ ((j : ℕ) → j < a → entryFound g c ns j ≡ i → ⊥) → ⊥
+        go (inl w) =
+            let j = w .0 in
+            let lj : j < length ns = omega (arith, w .1, o .a-low) in
+            let f : previousOf (oldBlock g c ns j) ≡ some (newBlock g c k) =
+                sym (ap kindPrevious (kind-logged j (w .1))) ∙ ap (λ (z : ℕ). kindPrevious (kindAt g c′ z)) (w .2) ∙ e in
+            q-free k hi (entryFound g c ns j) (e-below j lj) (o-current j (newBlock g c k) lj f)
+        go (inr un) =
+            let f : none ≡ some (newBlock g c k) = sym (no-previous v (p .settled) i l) ∙ sym (ap kindPrevious (kind-other i l un)) ∙ e in
+            let z : _≡_ {A = ℕ} 0 1 = cc in
+            omega arith
+
+    -- a change that leaves the ring, the entries and the blocks given out leaves the progress
+    carry : (c″ d″ : List ℕ) → Inv g row c″ d″ → headOf c″ ≡ headOf c′ → tailOf c″ ≡ tailOf c′
+        → ((j : ℕ) → j < h → windowNumber g c″ j ≡ windowNumber g c′ j)
+        → ((i : ℕ) → i < g .blocks → entryAt g c″ i ≡ entryAt g c′ i)
+        → ((j : ℕ) → j < a → blockAt g c″ (newBlock g c j) ≡ blockAt g c′ (newBlock g c j))
+        → Mid a h t c″ d″
+    carry c″ d″ w eh et en ee eb =
+        record
+        { inv = w
+        ; headIs = eh ∙ m .headIs
+        ; tailIs = et ∙ m .tailIs
+        ; windowIs = window-kept g c′ c″ eh et ∙ m .windowIs
+        ; numbersAre = λ j l. en j l ∙ m .numbersAre j l
+        ; others = λ i l un. ee i l ∙ m .others i l un
+        ; loggeds = λ j lo l. ee (entryFound g c ns j) (e-below j (omega (arith, o .a-low))) ∙ m .loggeds j lo l
+        ; switcheds = λ j l. ee (entryFound g c ns j) (e-below j (omega (arith, o .t-low, o .h-low, o .a-low))) ∙ m .switcheds j l
+        ; blocks = λ j l. eb j l ∙ m .blocks j l
+        }
+
+    -- a window's slot lies on the ring, before Head
+    window-slot : (j : ℕ) → j < h → (around (g .slots) (tailOf c′) j < g .slots) × (around (g .slots) (tailOf c′) j ≡ headOf c′ → ⊥)
+    window-slot j l =
+        let short : windowOf g c′ < g .slots = window-below (m .inv) in
+        let lw : j < windowOf g c′ = subst (λ (z : ℕ). j < z) (sym (m .windowIs)) l in
+        (around-below (g .slots) (tailOf c′) j (m .inv .shape .tailBelow) (omega arith),
+        λ e.
+        let x : j ≡ windowOf g c′ =
+            around-apart (g .slots) (tailOf c′) j (windowOf g c′) (m .inv .shape .tailBelow) (omega arith) short (e ∙ sym (head-after (m .inv))) in
+        omega arith)
