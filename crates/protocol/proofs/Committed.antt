@@ -320,3 +320,232 @@ module _ {g : Geometry} {row : ℕ → List ℕ} {c d : List ℕ} (ns bs : List 
         let x : j ≡ windowOf g c′ =
             around-apart (g .slots) (tailOf c′) j (windowOf g c′) (m .inv .shape .tailBelow) (omega arith) short (e ∙ sym (head-after (m .inv))) in
         omega arith)
+
+  -- ---- the steps of a block
+
+  fit : Limits g
+  fit = limits g (v .shape .good)
+
+  data-length : (i : ℕ) → i < length ns → length (dataOf g bs i) ≡ blockSize g
+  unfolding dataOf dataFits
+  data-length i l =
+      length-part bs (i * blockSize g) (blockSize g)
+      (omega (arith, block-ends i (length ns) (blockSize g) l, eqb-true (length bs) (length ns * blockSize g) (p .sized)))
+
+  -- entries before i are logged, and block i is filled
+  record Filled (i : ℕ) (c′ d′ : List ℕ) : Type 0 where
+    mid : Mid i i 0 c′ d′
+    filled : blockAt g c′ (newBlock g c i) ≡ dataOf g bs i
+
+  -- its number stands in the slot at Head
+  record Slotted (i : ℕ) (c′ d′ : List ℕ) : Type 0 where
+    mid : Mid (suc i) i 0 c′ d′
+    slotted : slotAt c′ (headOf c′) ≡ numberOf ns i
+
+  even : (i : ℕ) → i ≤ length ns → Order i i 0
+  even i l = record { a-low = l; h-low = omega arith; t-low = omega arith }
+
+  ahead : (i : ℕ) → i < length ns → Order (suc i) i 0
+  ahead i l = record { a-low = l; h-low = omega arith; t-low = omega arith }
+
+  filling : (i : ℕ) (c′ d′ : List ℕ) → i < length ns → Mid i i 0 c′ d′
+      → Along (Inv g row) (Filled i) (words g (newBlock g c i) (dataOf g bs i)) c′ d′
+  filling i c′ d′ l m = along-run (words g q (dataOf g bs i)) c′ d′ cut end
+    where
+      q : ℕ
+      q = newBlock g c i
+
+      o : Order i i 0
+      o = even i (omega arith)
+
+      cut : (a : ℕ) → Inv g row (madeOn card (take a (words g q (dataOf g bs i))) c′) (madeOn disk (take a (words g q (dataOf g bs i))) d′)
+      cut a =
+          subst (Inv g row (madeOn card (take a (words g q (dataOf g bs i))) c′)) (sym (words-elsewhere g fit q (dataOf g bs i) (q-below i l) a d′))
+          (run-in-block q (m .inv) (words-changed g fit q (dataOf g bs i) (q-below i l) a c′)
+          (λ k h e. unnamed-current m o i k (omega arith) l h e) (λ k h e. unnamed-previous m o i k l h e))
+
+      end : Inv g row (madeOn card (words g q (dataOf g bs i)) c′) (madeOn disk (words g q (dataOf g bs i)) d′)
+          → Filled i (madeOn card (words g q (dataOf g bs i)) c′) (madeOn disk (words g q (dataOf g bs i)) d′)
+      end w =
+          record
+          { mid =
+              carry m o _ _ w (head-kept x (λ a b. omega arith)) (tail-kept x (λ a b. omega arith))
+              (λ j h. number-kept g c′ _ (head-kept x (λ a b. omega arith)) (tail-kept x (λ a b. omega arith)) j
+              (slot-kept x _ (window-slot m o j h .0) (λ a b. omega arith)))
+              (λ k h. entry-kept x k h (λ a b. omega arith))
+              (λ j h. block-kept x (newBlock g c j) (q-below j (omega arith))
+              (λ a b. let e : i ≡ j = q-apart i j l (omega arith) b in omega arith))
+          ; filled = words-stored g fit q (dataOf g bs i) (q-below i l) c′ (data-length i l) (m .inv .shape .cardSized)
+          }
+        where
+          x : Changed g (block q) c′ (madeOn card (words g q (dataOf g bs i)) c′)
+          x = words-changed-all g fit q (dataOf g bs i) (q-below i l) c′
+
+  log-good : (i : ℕ) → i < length ns → goodEntry (g .blocks) (g .disk) (logEntry g c ns i) ≡ true
+  unfolding logEntry
+  log-good i l =
+      used-good (g .blocks) (g .disk) (logEntry g c ns i)
+      (record { flag = logged refl; numberBelow = number-below i l; currentBelow = q-below i l; previousBelow = o-below i l })
+
+  -- what the log entry owes
+  log-owes : (i : ℕ) (c′ d′ : List ℕ) → i < length ns → Mid i i 0 c′ d′
+      → Owes (g .blocks) (g .disk) row (viewOf g c′ d′) (entryFound g c ns i) (pending (numberOf ns i) (previousOf (oldBlock g c ns i)) (newBlock g c i))
+  log-owes i c′ d′ l m =
+      record
+      { numberUnder = λ x e. subst (λ (z : ℕ). z < g .disk) (got e) (number-below i l)
+      ; currentUnder = λ x e. subst (λ (z : ℕ). z < g .blocks) (got e) (q-below i l)
+      ; previousUnder = λ x e. v .safe .currentUnder (entryFound g c ns i) x (e-below i l) (o-current i x l e)
+      ; numbers = λ k x lk h e f. other-number k lk h (f ∙ sym e)
+      ; currents = λ k x lk h e f. unnamed-current m o i k (omega arith) l lk (f ∙ sym e)
+      ; previouses = λ k x lk h e f. other-previous k x lk h e f
+      ; previousCurrent = λ k x lk h e f. other-current k x lk h e f
+      ; currentPrevious = λ k x lk h e f. unnamed-previous m o i k l lk (f ∙ sym e)
+      ; clean = λ b q e. let z : _≡_ {A = ℕ} 0 1 = cc in absurd (omega arith)
+      ; held = λ b x e f. held-old b x e f
+      ; bare = λ b lb h. inl (bare-old b h)
+      }
+    where
+      o : Order i i 0
+      o = even i (omega arith)
+
+      got : {x y : ℕ} → _≡_ {A = Option ℕ} (some x) (some y) → x ≡ y
+      got e = cc
+
+      nothing : {A : Type 0} {x : ℕ} → _≡_ {A = Option ℕ} none (some x) → A
+      nothing e = let z : _≡_ {A = ℕ} 0 1 = cc in absurd (omega arith)
+
+      -- entry e i is still as at the start
+      as-before : kindAt g c′ (entryFound g c ns i) ≡ kindAt g c (entryFound g c ns i)
+      as-before = kind-other m o (entryFound g c ns i) (e-below i l) (λ j lj e. let x : j ≡ i = e-apart j i (omega arith) l e in omega arith)
+
+      other-number : (k : ℕ) → k < g .blocks → (k ≡ entryFound g c ns i → ⊥) → kindNumber (kindAt g c′ k) ≡ some (numberOf ns i) → ⊥
+      other-number k lk h f = go (among (entryFound g c ns) i k)
+        where
+          go : ((j : ℕ) × (j < i) × (entryFound g c ns j ≡ k)) ⊎ ((j : ℕ) → j < i → entryFound g c ns j ≡ k → ⊥) → ⊥
+          go (inl w) =
+              let n : numberOf ns (w .0) ≡ numberOf ns i =
+                  got (sym (ap kindNumber (kind-logged m o (w .0) (w .1))) ∙ ap (λ (z : ℕ). kindNumber (kindAt g c′ z)) (w .2) ∙ f) in
+              let x : w .0 ≡ i = numbers-apart (w .0) i (omega (arith, w .1)) l n in
+              omega (arith, w .1)
+          go (inr un) = h (sym (e-own i k l lk (sym (ap kindNumber (kind-other m o k lk un)) ∙ f)))
+
+      other-previous : (k x : ℕ) → k < g .blocks → (k ≡ entryFound g c ns i → ⊥) → previousOf (oldBlock g c ns i) ≡ some x
+          → kindPrevious (kindAt g c′ k) ≡ some x → ⊥
+      other-previous k x lk h e f = go (among (entryFound g c ns) i k)
+        where
+          go : ((j : ℕ) × (j < i) × (entryFound g c ns j ≡ k)) ⊎ ((j : ℕ) → j < i → entryFound g c ns j ≡ k → ⊥) → ⊥
+          go (inl w) =
+              let lj : w .0 < length ns = omega (arith, w .1) in
+              let old : previousOf (oldBlock g c ns (w .0)) ≡ some x =
+                  sym (ap kindPrevious (kind-logged m o (w .0) (w .1))) ∙ ap (λ (z : ℕ). kindPrevious (kindAt g c′ z)) (w .2) ∙ f in
+              h (sym (w .2)
+              ∙ v .safe .currents (entryFound g c ns (w .0)) (entryFound g c ns i) x (e-below (w .0) lj) (e-below i l)
+              (o-current (w .0) x lj old) (o-current i x l e))
+          go (inr un) = nothing (sym (no-previous v (p .settled) k lk) ∙ sym (ap kindPrevious (kind-other m o k lk un)) ∙ f)
+
+      other-current : (k x : ℕ) → k < g .blocks → (k ≡ entryFound g c ns i → ⊥) → previousOf (oldBlock g c ns i) ≡ some x
+          → kindCurrent (kindAt g c′ k) ≡ some x → ⊥
+      other-current k x lk h e f = go (among (entryFound g c ns) i k)
+        where
+          go : ((j : ℕ) × (j < i) × (entryFound g c ns j ≡ k)) ⊎ ((j : ℕ) → j < i → entryFound g c ns j ≡ k → ⊥) → ⊥
+          go (inl w) =
+              q-free (w .0) (omega (arith, w .1)) (entryFound g c ns i) (e-below i l)
+              (o-current i x l e ∙ sym f ∙ ap (λ (z : ℕ). kindCurrent (kindAt g c′ z)) (sym (w .2)) ∙ ap kindCurrent (kind-logged m o (w .0) (w .1)))
+          go (inr un) =
+              h (v .safe .currents k (entryFound g c ns i) x lk (e-below i l) (sym (ap kindCurrent (kind-other m o k lk un)) ∙ f) (o-current i x l e))
+
+      held-old : (b x : ℕ) → _≡_ {A = Option ℕ} (some (numberOf ns i)) (some b) → previousOf (oldBlock g c ns i) ≡ some x → blockAt g c′ x ≡ row b
+      held-old b x e f = go (entered i l)
+        where
+          go : Entered i → blockAt g c′ x ≡ row b
+          go (fresh h u y z) = nothing (sym previous-none ∙ ap previousOf (sym z) ∙ f)
+          go (again h y k w) =
+              m .inv .safe .held (entryFound g c ns i) b x (e-below i l) (ap kindNumber (as-before ∙ w) ∙ e)
+              (ap kindHome (as-before ∙ w) ∙ ap some (previous-is (oldBlock g c ns i) x f .0))
+
+      bare-old : (b : ℕ) → (_≡_ {A = Option ℕ} (some (numberOf ns i)) (some b) → previousOf (oldBlock g c ns i) ≡ none)
+          → kindNumber (kindAt g c′ (entryFound g c ns i)) ≡ some b → kindHome (kindAt g c′ (entryFound g c ns i)) ≡ none
+      bare-old b h e = go (entered i l)
+        where
+          go : Entered i → kindHome (kindAt g c′ (entryFound g c ns i)) ≡ none
+          go (fresh hc u y z) = ap kindHome (as-before ∙ idle-kind g c (entryFound g c ns i) u)
+          go (again hc y k w) =
+              let n = h (sym (ap kindNumber (as-before ∙ w)) ∙ e) in
+              let q : previousOf (oldBlock g c ns i) ≡ some (oldBlock g c ns i) =
+                  previous-some (oldBlock g c ns i)
+                  (λ z. let lo = v .safe .currentUnder (entryFound g c ns i) (oldBlock g c ns i) (k .below) (ap kindCurrent w) in omega (arith, fit)) in
+              nothing (sym n ∙ q)
+
+  logging : (i : ℕ) (c′ d′ : List ℕ) → i < length ns → Filled i c′ d′
+      → Along (Inv g row) (Mid (suc i) i 0) (entryStore g (entryFound g c ns i) (logEntry g c ns i) ∷ []) c′ d′
+  unfolding logEntry
+  logging i c′ d′ l f = along-one (entryStore g e x) c′ d′ (m .inv) after progress
+    where
+      m : Mid i i 0 c′ d′
+      m = f .mid
+
+      o : Order i i 0
+      o = even i (omega arith)
+
+      e : ℕ
+      e = entryFound g c ns i
+
+      x : Entry
+      x = logEntry g c ns i
+
+      c″ : List ℕ
+      c″ = storedOn card (entryStore g e x) c′
+
+      ch : Changed g (entry e) c′ c″
+      ch = entry-changed g c′ e x (e-below i l)
+
+      new : entryAt g c″ e ≡ x
+      new = entry-stored g c′ e x (e-below i l) (m .inv .shape .cardSized) (fits-entry (m .inv .shape) x (log-good i l))
+
+      pends : Seen (inWindow g c′ (numberOf ns i)) x
+          → kindOf (inWindow g c′ (numberOf ns i)) x ≡ pending (numberOf ns i) (previousOf (oldBlock g c ns i)) (newBlock g c i)
+      pends (seen-idle a k) = absurd-bool (log-used (numberOf ns i) (oldBlock g c ns i) (newBlock g c i)) a
+      pends (seen-live a r k) =
+          absurd-bool (ap (λ (b : Bool). b || inWindow g c′ (numberOf ns i)) (log-role (numberOf ns i) (oldBlock g c ns i) (newBlock g c i))) r
+      pends (seen-pending a r k) = k
+
+      kept : Inv g row c″ d′
+      kept =
+          entry-changes e x (m .inv) (e-below i l) ch new (log-good i l)
+          (λ u. log-modified (numberOf ns i) (oldBlock g c ns i) (newBlock g c i))
+          (subst (Owes (g .blocks) (g .disk) row (viewOf g c′ d′) e) (sym (pends (see _ x))) (log-owes i c′ d′ l m))
+
+      after : Inv g row c″ (storedOn disk (entryStore g e x) d′)
+      after = subst (Inv g row c″) (sym (entry-elsewhere g e x d′)) kept
+
+      eh : headOf c″ ≡ headOf c′
+      eh = head-kept ch (λ a b. omega arith)
+
+      et : tailOf c″ ≡ tailOf c′
+      et = tail-kept ch (λ a b. omega arith)
+
+      apart-e : (j : ℕ) → j < i → e ≡ entryFound g c ns j → ⊥
+      apart-e j h q = let z : i ≡ j = e-apart i j l (omega arith) q in omega arith
+
+      progress : Mid (suc i) i 0 c″ (storedOn disk (entryStore g e x) d′)
+      progress =
+          record
+          { inv = after
+          ; headIs = eh ∙ m .headIs
+          ; tailIs = et ∙ m .tailIs
+          ; windowIs = window-kept g c′ c″ eh et ∙ m .windowIs
+          ; numbersAre = λ j h. number-kept g c′ c″ eh et j (slot-kept ch _ (window-slot m o j h .0) (λ a b. omega arith)) ∙ m .numbersAre j h
+          ; others = λ k lk un. entry-kept ch k lk (λ a b. un i (omega arith) b) ∙ m .others k lk (λ j h q. un j (omega arith) q)
+          ; loggeds = λ j lo h.
+              ⊎-elim
+              (λ q. subst (λ (z : ℕ). entryAt g c″ (entryFound g c ns z) ≡ logEntry g c ns z) (sym q) new)
+              (λ k. entry-kept ch (entryFound g c ns j) (e-below j (omega arith)) (λ a b. apart-e j k b) ∙ m .loggeds j lo k)
+              (last-or-before j i h)
+          ; switcheds = λ j h. absurd (omega arith)
+          ; blocks = λ j h.
+              block-kept ch (newBlock g c j) (q-below j (omega arith)) (λ a b. omega arith)
+              ∙ ⊎-elim
+              (λ q. subst (λ (z : ℕ). blockAt g c′ (newBlock g c z) ≡ dataOf g bs z) (sym q) (f .filled))
+              (λ k. m .blocks j k)
+              (last-or-before j i h)
+          }
