@@ -1,7 +1,7 @@
 -- Commit, cut before Tail's store, keeps the invariant and the row; Tail's store replaces the row's blocks by those given. The progress of a
 -- commit is told by how many entries are logged, how many numbers the window has taken in, and how many entries are switched. Assumes nothing.
 use Prim.Native.Nat.{ℕ, zero, suc, _+_, _*_, _-_, _≤_, _<_}
-use mathlib.Core.List.{List, [], _∷_, _++_}
+use mathlib.Core.List.{List, [], _∷_, _++_, append-assoc}
 use mathlib.Core.Bool.{Bool, true, false, cond, not, _&&_, _||_}
 use mathlib.Core.Option.{Option, none, some}
 use mathlib.Core.Path.{_≡_, refl, sym, ap, subst, _∙_}
@@ -20,7 +20,7 @@ use Rattle.protocol.specs.declared.Geometry.{Geometry}
 use Rattle.protocol.specs.Below.{allBelow, anyBelow, countBelow, firstBelow, eachBelow, around}
 use Rattle.protocol.specs.Layout.{blockSize, blockAt, diskBlock}
 use Rattle.protocol.specs.Entry.{FRESH, entryOf, entryAt, inUse, isModified, hasLogRole, goodEntry, switched}
-use Rattle.protocol.specs.Ring.{headOf, tailOf, slotAt, windowOf, windowNumber, windowHas, inWindow, usedAt, undoableAt, isSettled, findEntry, cached, currentOf}
+use Rattle.protocol.specs.Ring.{headOf, tailOf, slotAt, windowLength, windowOf, windowNumber, windowHas, inWindow, usedAt, undoableAt, isSettled, findEntry, cached, currentOf}
 use Rattle.protocol.specs.Store.{card, disk, Store, Run, storedOn, madeOn, flat, single, words, entryStore, slotStore, headStore, tailStore}
 use Rattle.protocol.specs.Search.{freeBlocks, unusedEntries}
 use Rattle.protocol.specs.Commit.{numberOf, uncachedAt, newBlock, entryFound, oldBlock, logEntry, dataOf, headAfter, blockRuns, switchRuns, commitRuns, countFits, dataFits, numberFits, numbersFit, numbersDiffer, newNumber, numbersApart, roomFor}
@@ -36,9 +36,9 @@ use Rattle.protocol.proofs.Passed.{CommitPassed}
 use Rattle.protocol.proofs.Planned.{new-below, new-free, new-apart, unused-below, unused-is, unused-apart, enough-unused, no-previous, current-used}
 use Rattle.protocol.proofs.Recovered.{fits-entry}
 use Rattle.protocol.proofs.Region.{entry, block, slot, head, tail, block-ends}
-use Rattle.protocol.proofs.Shape.{Changed, head-kept, tail-kept, slot-kept, entry-kept, block-kept, window-kept, number-kept, kindOf, kindAt, viewOf, Seen, seen-idle, seen-live, seen-pending, see, previousOf, previous-none, previous-is, previous-some, Shape, Inv}
+use Rattle.protocol.proofs.Shape.{Changed, head-kept, tail-kept, slot-kept, entry-kept, block-kept, window-empty, window-kept, number-kept, kindOf, kindAt, viewOf, Seen, seen-idle, seen-live, seen-pending, see, previousOf, previous-none, previous-is, previous-some, Shape, Inv}
 use Rattle.protocol.proofs.Steps.{undoable, entry-changes, entry-stays, run-in-block, slot-changes, head-moves, window-longer, number-stays, number-last, tail-moves, tail-settled, window-below, head-after}
-use Rattle.protocol.proofs.Stores.{Along, along-then, along-one, along-run, along-each, flat-append, flat-single}
+use Rattle.protocol.proofs.Stores.{Along, along-then, along-one, along-run, along-each, flat-append, flat-single, made-append}
 
 -- k is one of f's values below a, or none of them
 among : (f : ℕ → ℕ) (a k : ℕ) → ((j : ℕ) × (j < a) × (f j ≡ k)) ⊎ ((j : ℕ) → j < a → f j ≡ k → ⊥)
@@ -47,6 +47,24 @@ among f a k =
     (λ h. let (j, l, e) = any-witness (λ j. eqb (f j) k) a h in inl (j, l, eqb-true _ _ e))
     (λ h. inr (λ j l e. absurd-bool (eq-eqb _ _ e) (any-at (λ j. eqb (f j) k) a j h l)))
     (either (anyBelow (λ j. eqb (f j) k) a))
+
+-- Head after one block more, at the start, and the window at the start
+forward-is : (g : Geometry) (c : List ℕ) (i h : ℕ) → h ≡ headAfter g c i → headOf c < g .slots → i + 1 ≤ g .slots
+    → headAfter g c (i + 1) ≡ around (g .slots) h 1
+unfolding headAfter
+forward-is g c i h e l m = sym (around-next (g .slots) (headOf c) i l m) ∙ ap (λ (z : ℕ). around (g .slots) z 1) (sym e)
+
+head-start : (g : Geometry) (c : List ℕ) → headOf c < g .slots → headOf c ≡ headAfter g c 0
+unfolding headAfter around
+head-start g c l = let k : headOf c + 0 < g .slots = omega arith in rw (lt-ltb (headOf c + 0) (g .slots) k) (omega arith)
+
+window-start : (g : Geometry) (c : List ℕ) → headOf c ≡ tailOf c → windowOf g c ≡ 0
+unfolding windowOf
+window-start g c e = ap (windowLength (g .slots) (tailOf c)) e ∙ window-empty (g .slots) (tailOf c)
+
+used-from : (g : Geometry) (c : List ℕ) (k : ℕ) → inUse (entryAt g c k) ≡ true → usedAt g c k ≡ true
+unfolding usedAt
+used-from g c k u = u
 
 -- ---- the plan
 
@@ -321,6 +339,10 @@ module _ {g : Geometry} {row : ℕ → List ℕ} {c d : List ℕ} (ns bs : List 
             around-apart (g .slots) (tailOf c′) j (windowOf g c′) (m .inv .shape .tailBelow) (omega arith) short (e ∙ sym (head-after (m .inv))) in
         omega arith)
 
+  log-role-of : (j : ℕ) → hasLogRole (logEntry g c ns j) ≡ true
+  unfolding logEntry
+  log-role-of j = log-role (numberOf ns j) (oldBlock g c ns j) (newBlock g c j)
+
   -- ---- the steps of a block
 
   fit : Limits g
@@ -549,3 +571,335 @@ module _ {g : Geometry} {row : ℕ → List ℕ} {c d : List ℕ} (ns bs : List 
               (λ k. m .blocks j k)
               (last-or-before j i h)
           }
+
+  slotting : (i : ℕ) (c′ d′ : List ℕ) → i < length ns → Mid (suc i) i 0 c′ d′
+      → Along (Inv g row) (Slotted i) (slotStore (headAfter g c i) (numberOf ns i) ∷ []) c′ d′
+  slotting i c′ d′ l m =
+      along-one (slotStore h (numberOf ns i)) c′ d′ (m .inv) after
+      (record
+      { mid =
+          carry m o c″ _ after eh et
+          (λ j k. number-kept g c′ c″ eh et j
+          (slot-kept ch _ (window-slot m o j k .0) (λ a b. window-slot m o j k .1 (sym b ∙ sym (m .headIs)))))
+          (λ k lk. entry-kept ch k lk (λ a b. omega arith))
+          (λ j k. block-kept ch (newBlock g c j) (q-below j (omega arith)) (λ a b. omega arith))
+      ; slotted = ap (slotAt c″) (eh ∙ m .headIs) ∙ slot-stored g c′ (numberOf ns i) (m .inv .shape .cardSized) small h h-below
+      })
+    where
+      h : ℕ
+      h = headAfter g c i
+
+      o : Order (suc i) i 0
+      o = ahead i l
+
+      h-below : h < g .slots
+      h-below = subst (λ (z : ℕ). z < g .slots) (m .headIs) (m .inv .shape .headBelow)
+
+      small : numberOf ns i < 65536 + 65536
+      small = omega (arith, number-below i l, fit)
+
+      c″ : List ℕ
+      c″ = storedOn card (slotStore h (numberOf ns i)) c′
+
+      ch : Changed g (slot h) c′ c″
+      ch = slot-changed g c′ (numberOf ns i) h h-below
+
+      eh : headOf c″ ≡ headOf c′
+      eh = head-kept ch (λ a b. omega arith)
+
+      et : tailOf c″ ≡ tailOf c′
+      et = tail-kept ch (λ a b. omega arith)
+
+      after : Inv g row c″ (storedOn disk (slotStore h (numberOf ns i)) d′)
+      after =
+          subst (Inv g row c″) (sym (slot-elsewhere h (numberOf ns i) d′))
+          (slot-changes (m .inv) (subst (λ (z : ℕ). Changed g (slot z) c′ c″) (sym (m .headIs)) ch))
+
+  heading : (i : ℕ) (c′ d′ : List ℕ) → i < length ns → Slotted i c′ d′
+      → Along (Inv g row) (Mid (suc i) (suc i) 0) (headStore (headAfter g c (i + 1)) ∷ []) c′ d′
+  heading i c′ d′ l f = along-one (headStore h) c′ d′ (m .inv) after progress
+    where
+      m : Mid (suc i) i 0 c′ d′
+      m = f .mid
+
+      o : Order (suc i) i 0
+      o = ahead i l
+
+      h : ℕ
+      h = headAfter g c (i + 1)
+
+      c″ : List ℕ
+      c″ = storedOn card (headStore h) c′
+
+      ch : Changed g head c′ c″
+      ch = head-changed g c′ h
+
+      forward : h ≡ around (g .slots) (headOf c′) 1
+      forward = forward-is g c i (headOf c′) (m .headIs) (v .shape .headBelow) (omega (arith, count-high))
+
+      small : h < 65536 + 65536
+      small =
+          let b : around (g .slots) (headOf c′) 1 < g .slots = around-below (g .slots) (headOf c′) 1 (m .inv .shape .headBelow) (omega (arith, fit)) in
+          omega (arith, forward, fit)
+
+      moved : headOf c″ ≡ around (g .slots) (headOf c′) 1
+      moved = head-stored g c′ h (m .inv .shape .cardSized) small ∙ forward
+
+      room : windowOf g c′ + 1 < g .slots
+      room = omega (arith, m .windowIs, count-high)
+
+      fits : slotAt c′ (headOf c′) < g .disk
+      fits = subst (λ (z : ℕ). z < g .disk) (sym (f .slotted)) (number-below i l)
+
+      -- the number's entry has R
+      roles : (k : ℕ) → k < g .blocks → inUse (entryAt g c′ k) ≡ true → entryAt g c′ k .number ≡ slotAt c′ (headOf c′) → hasLogRole (entryAt g c′ k) ≡ true
+      roles k lk u e = go (among (entryFound g c ns) (suc i) k)
+        where
+          number-is : kindNumber (kindAt g c′ k) ≡ some (numberOf ns i)
+          number-is = used-number g c′ k (used-from g c′ k u) ∙ ap some (e ∙ f .slotted)
+
+          go : ((j : ℕ) × (j < suc i) × (entryFound g c ns j ≡ k)) ⊎ ((j : ℕ) → j < suc i → entryFound g c ns j ≡ k → ⊥)
+              → hasLogRole (entryAt g c′ k) ≡ true
+          go (inl w) =
+              ap (λ (z : ℕ). hasLogRole (entryAt g c′ z)) (sym (w .2))
+              ∙ ap hasLogRole (m .loggeds (w .0) (omega arith) (w .1))
+              ∙ log-role-of (w .0)
+          go (inr un) = absurd (un i (omega arith) (e-own i k l lk (sym (ap kindNumber (kind-other m o k lk un)) ∙ number-is)))
+
+      kept : Inv g row c″ d′
+      kept = head-moves (m .inv) ch moved room fits roles
+
+      after : Inv g row c″ (storedOn disk (headStore h) d′)
+      after = subst (Inv g row c″) (sym (head-elsewhere h d′)) kept
+
+      progress : Mid (suc i) (suc i) 0 c″ (storedOn disk (headStore h) d′)
+      progress =
+          record
+          { inv = after
+          ; headIs = head-stored g c′ h (m .inv .shape .cardSized) small ∙ ap (headAfter g c) (add-one i)
+          ; tailIs = tail-kept ch (λ a b. omega arith) ∙ m .tailIs
+          ; windowIs = window-longer (m .inv) ch moved room fits roles ∙ omega (arith, m .windowIs)
+          ; numbersAre = λ j k.
+              number-stays (m .inv) ch moved room fits roles j (omega (arith, m .windowIs))
+              ∙ ⊎-elim
+              (λ q.
+              ap (windowNumber g c′) (q ∙ sym (m .windowIs))
+              ∙ number-last (m .inv) ch moved room fits roles ∙ f .slotted ∙ ap (numberOf ns) (sym q))
+              (λ b. m .numbersAre j b)
+              (last-or-before j i k)
+          ; others = λ k lk un. entry-kept ch k lk (λ a b. omega arith) ∙ m .others k lk un
+          ; loggeds = λ j lo k. entry-kept ch (entryFound g c ns j) (e-below j (omega arith)) (λ a b. omega arith) ∙ m .loggeds j lo k
+          ; switcheds = λ j k. absurd (omega arith)
+          ; blocks = λ j k. block-kept ch (newBlock g c j) (q-below j (omega arith)) (λ a b. omega arith) ∙ m .blocks j k
+          }
+
+  -- all stores of one block
+  block-step : (i : ℕ) (c′ d′ : List ℕ) → i < length ns → Mid i i 0 c′ d′ → Along (Inv g row) (Mid (suc i) (suc i) 0) (flat (blockRuns g c ns bs i)) c′ d′
+  unfolding blockRuns flat single
+  block-step i c′ d′ l m =
+      along-then (words g (newBlock g c i) (dataOf g bs i)) _ c′ d′ (filling i c′ d′ l m)
+      (λ c₁ d₁ f. along-then (entryStore g (entryFound g c ns i) (logEntry g c ns i) ∷ []) _ c₁ d₁ (logging i c₁ d₁ l f)
+      (λ c₂ d₂ t. along-then (slotStore (headAfter g c i) (numberOf ns i) ∷ []) _ c₂ d₂ (slotting i c₂ d₂ l t)
+      (λ c₃ d₃ u. heading i c₃ d₃ l u)))
+
+  -- ---- the role switches
+
+  switch-step : (i : ℕ) (c′ d′ : List ℕ) → i < length ns → Mid (length ns) (length ns) i c′ d′
+      → Along (Inv g row) (Mid (length ns) (length ns) (suc i)) (flat (switchRuns g c ns i)) c′ d′
+  unfolding switchRuns flat single switched logEntry
+  switch-step i c′ d′ l m = along-one (entryStore g e x) c′ d′ (m .inv) after progress
+    where
+      o : Order (length ns) (length ns) i
+      o = record { a-low = omega arith; h-low = omega arith; t-low = omega arith }
+
+      e : ℕ
+      e = entryFound g c ns i
+
+      x : Entry
+      x = switched (logEntry g c ns i)
+
+      fitted : goodEntry (g .blocks) (g .disk) x ≡ true
+      fitted =
+          used-good (g .blocks) (g .disk) x
+          (record { flag = modified refl; numberBelow = number-below i l; currentBelow = q-below i l; previousBelow = o-below i l })
+
+      c″ : List ℕ
+      c″ = storedOn card (entryStore g e x) c′
+
+      ch : Changed g (entry e) c′ c″
+      ch = entry-changed g c′ e x (e-below i l)
+
+      new : entryAt g c″ e ≡ x
+      new = entry-stored g c′ e x (e-below i l) (m .inv .shape .cardSized) (fits-entry (m .inv .shape) x fitted)
+
+      -- its number stands in the window by now
+      same-kind : Seen (inWindow g c′ (numberOf ns i)) x → kindOf (inWindow g c′ (numberOf ns i)) x ≡ kindAt g c′ e
+      same-kind (seen-idle a k) = absurd-bool (kept-used (numberOf ns i) (oldBlock g c ns i) (newBlock g c i)) a
+      same-kind (seen-live a r k) = absurd-bool (in-it (hasLogRole x) (has-window m o i l)) r
+        where
+          in-it : (r : Bool) {w : Bool} → w ≡ true → r || w ≡ true
+          in-it true e = refl
+          in-it false e = e
+      same-kind (seen-pending a r k) = k ∙ sym (kind-logged m o i l)
+
+      after : Inv g row c″ (storedOn disk (entryStore g e x) d′)
+      after =
+          subst (Inv g row c″) (sym (entry-elsewhere g e x d′))
+          (entry-stays e x (m .inv) (e-below i l) ch new fitted (λ u. kept-modified (numberOf ns i) (oldBlock g c ns i) (newBlock g c i)) (same-kind (see _ x)))
+
+      eh : headOf c″ ≡ headOf c′
+      eh = head-kept ch (λ a b. omega arith)
+
+      et : tailOf c″ ≡ tailOf c′
+      et = tail-kept ch (λ a b. omega arith)
+
+      apart-e : (j : ℕ) → j < length ns → (j ≡ i → ⊥) → e ≡ entryFound g c ns j → ⊥
+      apart-e j h k q = k (sym (e-apart i j l h q))
+
+      progress : Mid (length ns) (length ns) (suc i) c″ (storedOn disk (entryStore g e x) d′)
+      progress =
+          record
+          { inv = after
+          ; headIs = eh ∙ m .headIs
+          ; tailIs = et ∙ m .tailIs
+          ; windowIs = window-kept g c′ c″ eh et ∙ m .windowIs
+          ; numbersAre = λ j h. number-kept g c′ c″ eh et j (slot-kept ch _ (window-slot m o j h .0) (λ a b. omega arith)) ∙ m .numbersAre j h
+          ; others = λ k lk un. entry-kept ch k lk (λ a b. un i l b) ∙ m .others k lk un
+          ; loggeds = λ j lo h. entry-kept ch (entryFound g c ns j) (e-below j h) (λ a b. apart-e j h (λ q. omega arith) b) ∙ m .loggeds j (omega arith) h
+          ; switcheds = λ j h.
+              ⊎-elim
+              (λ q. subst (λ (z : ℕ). entryAt g c″ (entryFound g c ns z) ≡ switched (logEntry g c ns z)) (sym q) new)
+              (λ k. entry-kept ch (entryFound g c ns j) (e-below j (omega arith)) (λ a b. apart-e j (omega arith) (λ q. omega arith) b) ∙ m .switcheds j k)
+              (last-or-before j i h)
+          ; blocks = λ j h. block-kept ch (newBlock g c j) (q-below j h) (λ a b. omega arith) ∙ m .blocks j h
+          }
+
+  -- ---- Tail's store
+
+  place-of : (j : ℕ) → j < length ns → placeAmong ns (numberOf ns j) ≡ j
+  unfolding placeAmong
+  place-of j l =
+      first-at _ (length ns) j l (eq-eqb (numberOf ns j) (numberOf ns j) refl)
+      (λ k h. ne-eqb _ _ (λ e. let z : k ≡ j = numbers-apart k j (omega arith) l e in omega arith))
+
+  row-given : (j : ℕ) → j < length ns → replaced g ns bs row (numberOf ns j) ≡ dataOf g bs j
+  unfolding replaced
+  row-given j l = rw (place-of j l) (rw (lt-ltb j (length ns) l))
+
+  row-kept : (b : ℕ) → ((j : ℕ) → j < length ns → numberOf ns j ≡ b → ⊥) → replaced g ns bs row b ≡ row b
+  unfolding replaced placeAmong
+  row-kept b h =
+      let e : placeAmong ns b ≡ length ns = first-none _ (length ns) (λ j l. ne-eqb _ _ (h j l)) in
+      rw e (rw (le-ltb (length ns) (length ns) (omega arith)))
+
+  module _ (c′ d′ : List ℕ) (m : Mid (length ns) (length ns) (length ns) c′ d′) where
+    ord : Order (length ns) (length ns) (length ns)
+    ord = record { a-low = omega arith; h-low = omega arith; t-low = omega arith }
+
+    last-head : headAfter g c (length ns) ≡ headOf c′
+    last-head = sym (m .headIs)
+
+    last-small : headAfter g c (length ns) < 65536 + 65536
+    last-small = omega (arith, last-head, m .inv .shape .headBelow, fit)
+
+    last-changed : Changed g tail c′ (storedOn card (tailStore (headAfter g c (length ns))) c′)
+    last-changed = tail-changed g c′ (headAfter g c (length ns))
+
+    last-tail : tailOf (storedOn card (tailStore (headAfter g c (length ns))) c′) ≡ headOf c′
+    last-tail = tail-stored g c′ (headAfter g c (length ns)) (m .inv .shape .cardSized) last-small ∙ last-head
+
+    no-role : (k : ℕ) → k < g .blocks → hasLogRole (entryAt g c′ k) ≡ false
+    unfolding switched
+    no-role k lk = go (among (entryFound g c ns) (length ns) k)
+      where
+        go : ((j : ℕ) × (j < length ns) × (entryFound g c ns j ≡ k)) ⊎ ((j : ℕ) → j < length ns → entryFound g c ns j ≡ k → ⊥)
+            → hasLogRole (entryAt g c′ k) ≡ false
+        go (inl w) =
+            ap (λ (z : ℕ). hasLogRole (entryAt g c′ z)) (sym (w .2))
+            ∙ ap hasLogRole (m .switcheds (w .0) (w .1))
+            ∙ kept-role (logEntry g c ns (w .0) .number) (logEntry g c ns (w .0) .previous) (logEntry g c ns (w .0) .current)
+        go (inr un) = ap hasLogRole (m .others k lk un) ∙ settled-role g c (p .settled) k lk
+
+    full : (k b q : ℕ) → k < g .blocks → kindNumber (kindAt g c′ k) ≡ some b → kindCurrent (kindAt g c′ k) ≡ some q
+        → blockAt g c′ q ≡ replaced g ns bs row b
+    full k b q lk n e = go (among (entryFound g c ns) (length ns) k)
+      where
+        got : {x y : ℕ} → _≡_ {A = Option ℕ} (some x) (some y) → x ≡ y
+        got e = cc
+
+        go : ((j : ℕ) × (j < length ns) × (entryFound g c ns j ≡ k)) ⊎ ((j : ℕ) → j < length ns → entryFound g c ns j ≡ k → ⊥)
+            → blockAt g c′ q ≡ replaced g ns bs row b
+        go (inl w) =
+            let kind = ap (kindAt g c′) (sym (w .2)) ∙ kind-logged m ord (w .0) (w .1) in
+            let eq : newBlock g c (w .0) ≡ q = got (sym (ap kindCurrent kind) ∙ e) in
+            let eb : numberOf ns (w .0) ≡ b = got (sym (ap kindNumber kind) ∙ n) in
+            ap (blockAt g c′) (sym eq) ∙ m .blocks (w .0) (w .1) ∙ sym (row-given (w .0) (w .1)) ∙ ap (replaced g ns bs row) eb
+        go (inr un) =
+            let same = kind-other m ord k lk un in
+            let n₀ : kindNumber (kindAt g c k) ≡ some b = sym (ap kindNumber same) ∙ n in
+            let live₀ = live-kind g c k (number-used g c k n₀ .0) (no-undoable v (p .settled) k lk) in
+            m .inv .safe .held k b q lk n (ap kindHome (same ∙ live₀) ∙ sym (ap kindCurrent (same ∙ live₀)) ∙ e)
+            ∙ sym (row-kept b (λ j l h. un j l (e-own j k l lk (n₀ ∙ ap some (sym h)))))
+
+    empty : (b : ℕ) → b < g .disk → ((k : ℕ) → k < g .blocks → kindNumber (kindAt g c′ k) ≡ some b → ⊥) → diskBlock g d′ b ≡ replaced g ns bs row b
+    empty b lb none′ =
+        m .inv .safe .bare b lb (λ k lk n. absurd (none′ k lk n))
+        ∙ sym (row-kept b (λ j l h. none′ (entryFound g c ns j) (e-below j l) (ap kindNumber (kind-logged m ord j l) ∙ ap some h)))
+
+    -- the row moves
+    committed : Rest g (replaced g ns bs row) (storedOn card (tailStore (headAfter g c (length ns))) c′) (storedOn disk (tailStore (headAfter g c (length ns))) d′)
+    committed =
+        (subst (Inv g (replaced g ns bs row) (storedOn card (tailStore (headAfter g c (length ns))) c′)) (sym (tail-elsewhere (headAfter g c (length ns)) d′))
+        (tail-moves (m .inv) last-changed last-tail no-role full empty),
+        tail-settled (m .inv) last-changed last-tail no-role)
+
+  -- all stores but Tail's
+  pub front : List Store
+  front = flat (eachBelow (blockRuns g c ns bs) (length ns)) ++ flat (eachBelow (switchRuns g c ns) (length ns))
+
+  front-along : Along (Inv g row) (Mid (length ns) (length ns) (length ns)) front c d
+  unfolding front
+  front-along =
+      along-then (flat (eachBelow (blockRuns g c ns bs) (length ns))) (flat (eachBelow (switchRuns g c ns) (length ns))) c d
+      (along-each (λ i. Mid i i 0) (blockRuns g c ns bs) (length ns) c d v start (λ i c′ d′ l m. block-step i c′ d′ l m))
+      (λ c′ d′ m. along-each (λ i. Mid (length ns) (length ns) i) (switchRuns g c ns) (length ns) c′ d′ (m .inv) m
+      (λ i c″ d″ l w. switch-step i c″ d″ l w))
+    where
+      start : Mid 0 0 0 c d
+      start =
+          record
+          { inv = v
+          ; headIs = head-start g c (v .shape .headBelow)
+          ; tailIs = refl
+          ; windowIs = window-start g c (settled-ring g c (p .settled))
+          ; numbersAre = λ j l. absurd (omega arith)
+          ; others = λ i l un. refl
+          ; loggeds = λ j lo l. absurd (omega arith)
+          ; switcheds = λ j l. absurd (omega arith)
+          ; blocks = λ j l. absurd (omega arith)
+          }
+
+  pub commit-flat : flat (commitRuns g c ns bs) ≡ front ++ (tailStore (headAfter g c (length ns)) ∷ [])
+  unfolding commitRuns front
+  commit-flat =
+      flat-append (eachBelow (blockRuns g c ns bs) (length ns)) _
+      ∙ ap (λ (ss : List Store). flat (eachBelow (blockRuns g c ns bs) (length ns)) ++ ss)
+      (flat-append (eachBelow (switchRuns g c ns) (length ns)) _
+      ∙ ap (λ (ss : List Store). flat (eachBelow (switchRuns g c ns) (length ns)) ++ ss) (flat-single (tailStore (headAfter g c (length ns)))))
+      ∙ sym (append-assoc (flat (eachBelow (blockRuns g c ns bs) (length ns))) (flat (eachBelow (switchRuns g c ns) (length ns))) (tailStore (headAfter g c (length ns)) ∷ []))
+
+  -- wherever the commit is cut before Tail's store, the row stays
+  pub commit-cut : (a : ℕ) → Inv g row (madeOn card (take a front) c) (madeOn disk (take a front) d)
+  commit-cut a = front-along .during a
+
+  -- with Tail's store, the row's blocks are replaced, and the card is settled
+  pub commit-done : Rest g (replaced g ns bs row) (madeOn card (flat (commitRuns g c ns bs)) c) (madeOn disk (flat (commitRuns g c ns bs)) d)
+  unfolding madeOn
+  commit-done =
+      subst (λ (ss : List Store). Rest g (replaced g ns bs row) (madeOn card ss c) (madeOn disk ss d)) (sym commit-flat)
+      (subst (λ (z : List ℕ). Rest g (replaced g ns bs row) z (madeOn disk (front ++ last) d)) (sym (made-append card front last c))
+      (subst (Rest g (replaced g ns bs row) (madeOn card last (madeOn card front c))) (sym (made-append disk front last d))
+      (committed (madeOn card front c) (madeOn disk front d) (front-along .end))))
+    where
+      last : List Store
+      last = tailStore (headAfter g c (length ns)) ∷ []

@@ -36,7 +36,7 @@ use Rattle.protocol.proofs.Steps.{undoable, entry-changes, run-in-block
 use Rattle.protocol.proofs.Stores.{Along, along-then, along-none, along-one, along-run, flat-append, flat-single, length-made}
 
 -- the invariant, of a settled card
-pub Rest : (g : Geometry) (row : ℕ → List ℕ) → List ℕ → List ℕ → Type 0
+abbrev pub Rest : (g : Geometry) (row : ℕ → List ℕ) → List ℕ → List ℕ → Type 0
 Rest g row c d = Inv g row c d × (isSettled g c ≡ true)
 
 -- ---- settled cards
@@ -161,7 +161,6 @@ module _ {g : Geometry} {row : ℕ → List ℕ} {c d : List ℕ} (v : Inv g row
               }
 
   cleared : (c′ d′ : List ℕ) → Written c′ d′ → Along (Inv g row) (Rest g row) (entryStore g i unused ∷ []) c′ d′
-  unfolding Rest
   cleared c′ d′ w = along-one (entryStore g i unused) c′ d′ (w .inv) after (after, settled-entry i settled′ ch (ap hasLogRole new ∙ unused-role))
     where
       ch : Changed g (entry i) c′ (storedOn card (entryStore g i unused) c′)
@@ -288,7 +287,7 @@ module _ {g : Geometry} {row : ℕ → List ℕ} {c d : List ℕ} (v : Inv g row
           }
 
   entered : (c′ d′ : List ℕ) → Copied c′ d′ → Along (Inv g row) (Rest g row) (entryStore g place-of new-entry ∷ []) c′ d′
-  unfolding Rest new-entry
+  unfolding new-entry
   entered c′ d′ w =
       along-one (entryStore g place-of new-entry) c′ d′ (w .inv) after
       (after, settled-entry place-of settled′ ch (ap hasLogRole new ∙ clean-role b FRESH q))
