@@ -4,6 +4,7 @@ pub mod Below
 pub mod Checks
 pub mod Codec
 pub mod Committed
+pub mod CutRule
 pub mod Holds
 pub mod Invariant
 pub mod Loaded
