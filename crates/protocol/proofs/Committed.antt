@@ -132,16 +132,16 @@ module _ {g : Geometry} {row : ℕ → List ℕ} {c d : List ℕ} (ns bs : List 
       go : (cached g c (numberOf ns j) ≡ true) ⊎ (cached g c (numberOf ns j) ≡ false) → Entered j
       go (inr h) =
           let e : entryFound g c ns j ≡ getD (unusedEntries g c) (countBelow (uncachedAt g c ns) j) 0 =
-              ap (λ (b : Bool). cond (not b) (getD (unusedEntries g c) (countBelow (uncachedAt g c ns) j) 0) (findEntry g c (numberOf ns j))) h in
+          ap (λ (b : Bool). cond (not b) (getD (unusedEntries g c) (countBelow (uncachedAt g c ns) j) 0) (findEntry g c (numberOf ns j))) h in
           fresh h (ap (usedAt g c) e ∙ unused-is v (countBelow (uncachedAt g c ns) j) (unused-index j l h)) e
           (ap (λ (b : Bool). cond (not b) FRESH (currentOf g c (numberOf ns j))) h)
       go (inl h) =
           let e : entryFound g c ns j ≡ findEntry g c (numberOf ns j) =
-              ap (λ (b : Bool). cond (not b) (getD (unusedEntries g c) (countBelow (uncachedAt g c ns) j) 0) (findEntry g c (numberOf ns j))) h in
+          ap (λ (b : Bool). cond (not b) (getD (unusedEntries g c) (countBelow (uncachedAt g c ns) j) 0) (findEntry g c (numberOf ns j))) h in
           let k : Cached g c (numberOf ns j) (entryFound g c ns j) =
-              subst (Cached g c (numberOf ns j)) (sym e) (cached-entry g c (numberOf ns j) h) in
+          subst (Cached g c (numberOf ns j)) (sym e) (cached-entry g c (numberOf ns j) h) in
           let o : oldBlock g c ns j ≡ entryAt g c (entryFound g c ns j) .current =
-              ap (λ (b : Bool). cond (not b) FRESH (currentOf g c (numberOf ns j))) h ∙ ap (λ (z : ℕ). entryAt g c z .current) (sym e) in
+          ap (λ (b : Bool). cond (not b) FRESH (currentOf g c (numberOf ns j))) h ∙ ap (λ (z : ℕ). entryAt g c z .current) (sym e) in
           again h e k
           (live-kind g c (entryFound g c ns j) (k .used) (no-undoable v (p .settled) (entryFound g c ns j) (k .below))
           ∙ (λ t. live (isModified (entryAt g c (entryFound g c ns j))) (k .number t) (sym o t)))
@@ -161,7 +161,7 @@ module _ {g : Geometry} {row : ℕ → List ℕ} {c d : List ℕ} (ns bs : List 
       go : Entered i → Entered j → i ≡ j
       go (fresh h u x o) (fresh h′ u′ x′ o′) =
           let k : countBelow (uncachedAt g c ns) i ≡ countBelow (uncachedAt g c ns) j =
-              unused-apart v _ _ (unused-index i li h) (unused-index j lj h′) (sym x ∙ e ∙ x′) in
+          unused-apart v _ _ (unused-index i li h) (unused-index j lj h′) (sym x ∙ e ∙ x′) in
           ⊎-elim
           (λ l. absurd (omega (arith, count-below (uncachedAt g c ns) i j l (ap not h))))
           (λ l. ⊎-elim (λ m. absurd (omega (arith, count-below (uncachedAt g c ns) j i m (ap not h′)))) (λ m. omega arith) (below-or-above j i))
@@ -302,7 +302,7 @@ module _ {g : Geometry} {row : ℕ → List ℕ} {c d : List ℕ} (ns bs : List 
             let j = w .0 in
             let lj : j < length ns = omega (arith, w .1, o .a-low) in
             let f : previousOf (oldBlock g c ns j) ≡ some (newBlock g c k) =
-                sym (ap kindPrevious (kind-logged j (w .1))) ∙ ap (λ (z : ℕ). kindPrevious (kindAt g c′ z)) (w .2) ∙ e in
+            sym (ap kindPrevious (kind-logged j (w .1))) ∙ ap (λ (z : ℕ). kindPrevious (kindAt g c′ z)) (w .2) ∙ e in
             q-free k hi (entryFound g c ns j) (e-below j lj) (o-current j (newBlock g c k) lj f)
         go (inr un) =
             let f : none ≡ some (newBlock g c k) = sym (no-previous v (p .settled) i l) ∙ sym (ap kindPrevious (kind-other i l un)) ∙ e in
@@ -316,28 +316,29 @@ module _ {g : Geometry} {row : ℕ → List ℕ} {c d : List ℕ} (ns bs : List 
         → ((j : ℕ) → j < a → blockAt g c″ (newBlock g c j) ≡ blockAt g c′ (newBlock g c j))
         → Mid a h t c″ d″
     carry c″ d″ w eh et en ee eb =
-        record
-        { inv = w
-        ; headIs = eh ∙ m .headIs
-        ; tailIs = et ∙ m .tailIs
-        ; windowIs = window-kept g c′ c″ eh et ∙ m .windowIs
-        ; numbersAre = λ j l. en j l ∙ m .numbersAre j l
-        ; others = λ i l un. ee i l ∙ m .others i l un
-        ; loggeds = λ j lo l. ee (entryFound g c ns j) (e-below j (omega (arith, o .a-low))) ∙ m .loggeds j lo l
-        ; switcheds = λ j l. ee (entryFound g c ns j) (e-below j (omega (arith, o .t-low, o .h-low, o .a-low))) ∙ m .switcheds j l
-        ; blocks = λ j l. eb j l ∙ m .blocks j l
+        record {
+          inv = w;
+          headIs = eh ∙ m .headIs;
+          tailIs = et ∙ m .tailIs;
+          windowIs = window-kept g c′ c″ eh et ∙ m .windowIs;
+          numbersAre = λ j l. en j l ∙ m .numbersAre j l;
+          others = λ i l un. ee i l ∙ m .others i l un;
+          loggeds = λ j lo l. ee (entryFound g c ns j) (e-below j (omega (arith, o .a-low))) ∙ m .loggeds j lo l;
+          switcheds = λ j l. ee (entryFound g c ns j) (e-below j (omega (arith, o .t-low, o .h-low, o .a-low))) ∙ m .switcheds j l;
+          blocks = λ j l. eb j l ∙ m .blocks j l;
         }
 
     -- a window's slot lies on the ring, before Head
     window-slot : (j : ℕ) → j < h → (around (g .slots) (tailOf c′) j < g .slots) × (around (g .slots) (tailOf c′) j ≡ headOf c′ → ⊥)
     window-slot j l =
         let short : windowOf g c′ < g .slots = window-below (m .inv) in
-        let lw : j < windowOf g c′ = subst (λ (z : ℕ). j < z) (sym (m .windowIs)) l in
-        (around-below (g .slots) (tailOf c′) j (m .inv .shape .tailBelow) (omega arith),
-        λ e.
-        let x : j ≡ windowOf g c′ =
-            around-apart (g .slots) (tailOf c′) j (windowOf g c′) (m .inv .shape .tailBelow) (omega arith) short (e ∙ sym (head-after (m .inv))) in
-        omega arith)
+        let lw : j < windowOf g c′ = subst (λ (z : ℕ). j < z) (sym (m .windowIs)) l in (
+          around-below (g .slots) (tailOf c′) j (m .inv .shape .tailBelow) (omega arith),
+          λ e.
+              let x : j ≡ windowOf g c′ =
+              around-apart (g .slots) (tailOf c′) j (windowOf g c′) (m .inv .shape .tailBelow) (omega arith) short (e ∙ sym (head-after (m .inv))) in
+              omega arith,
+        )
 
   log-role-of : (j : ℕ) → hasLogRole (logEntry g c ns j) ≡ true
   unfolding logEntry
@@ -389,15 +390,15 @@ module _ {g : Geometry} {row : ℕ → List ℕ} {c d : List ℕ} (ns bs : List 
       end : Inv g row (madeOn card (words g q (dataOf g bs i)) c′) (madeOn disk (words g q (dataOf g bs i)) d′)
           → Filled i (madeOn card (words g q (dataOf g bs i)) c′) (madeOn disk (words g q (dataOf g bs i)) d′)
       end w =
-          record
-          { mid =
-              carry m o _ _ w (head-kept x (λ a b. omega arith)) (tail-kept x (λ a b. omega arith))
-              (λ j h. number-kept g c′ _ (head-kept x (λ a b. omega arith)) (tail-kept x (λ a b. omega arith)) j
-              (slot-kept x _ (window-slot m o j h .0) (λ a b. omega arith)))
-              (λ k h. entry-kept x k h (λ a b. omega arith))
-              (λ j h. block-kept x (newBlock g c j) (q-below j (omega arith))
-              (λ a b. let e : i ≡ j = q-apart i j l (omega arith) b in omega arith))
-          ; filled = words-stored g fit q (dataOf g bs i) (q-below i l) c′ (data-length i l) (m .inv .shape .cardSized)
+          record {
+            mid =
+                carry m o _ _ w (head-kept x (λ a b. omega arith)) (tail-kept x (λ a b. omega arith))
+                (λ j h. number-kept g c′ _ (head-kept x (λ a b. omega arith)) (tail-kept x (λ a b. omega arith)) j
+                (slot-kept x _ (window-slot m o j h .0) (λ a b. omega arith)))
+                (λ k h. entry-kept x k h (λ a b. omega arith))
+                (λ j h. block-kept x (newBlock g c j) (q-below j (omega arith))
+                (λ a b. let e : i ≡ j = q-apart i j l (omega arith) b in omega arith));
+            filled = words-stored g fit q (dataOf g bs i) (q-below i l) c′ (data-length i l) (m .inv .shape .cardSized);
           }
         where
           x : Changed g (block q) c′ (madeOn card (words g q (dataOf g bs i)) c′)
@@ -413,18 +414,18 @@ module _ {g : Geometry} {row : ℕ → List ℕ} {c d : List ℕ} (ns bs : List 
   log-owes : (i : ℕ) (c′ d′ : List ℕ) → i < length ns → Mid i i 0 c′ d′
       → Owes (g .blocks) (g .disk) row (viewOf g c′ d′) (entryFound g c ns i) (pending (numberOf ns i) (previousOf (oldBlock g c ns i)) (newBlock g c i))
   log-owes i c′ d′ l m =
-      record
-      { numberUnder = λ x e. subst (λ (z : ℕ). z < g .disk) (got e) (number-below i l)
-      ; currentUnder = λ x e. subst (λ (z : ℕ). z < g .blocks) (got e) (q-below i l)
-      ; previousUnder = λ x e. v .safe .currentUnder (entryFound g c ns i) x (e-below i l) (o-current i x l e)
-      ; numbers = λ k x lk h e f. other-number k lk h (f ∙ sym e)
-      ; currents = λ k x lk h e f. unnamed-current m o i k (omega arith) l lk (f ∙ sym e)
-      ; previouses = λ k x lk h e f. other-previous k x lk h e f
-      ; previousCurrent = λ k x lk h e f. other-current k x lk h e f
-      ; currentPrevious = λ k x lk h e f. unnamed-previous m o i k l lk (f ∙ sym e)
-      ; clean = λ b q e. let z : _≡_ {A = ℕ} 0 1 = cc in absurd (omega arith)
-      ; held = λ b x e f. held-old b x e f
-      ; bare = λ b lb h. inl (bare-old b h)
+      record {
+        numberUnder = λ x e. subst (λ (z : ℕ). z < g .disk) (got e) (number-below i l);
+        currentUnder = λ x e. subst (λ (z : ℕ). z < g .blocks) (got e) (q-below i l);
+        previousUnder = λ x e. v .safe .currentUnder (entryFound g c ns i) x (e-below i l) (o-current i x l e);
+        numbers = λ k x lk h e f. other-number k lk h (f ∙ sym e);
+        currents = λ k x lk h e f. unnamed-current m o i k (omega arith) l lk (f ∙ sym e);
+        previouses = λ k x lk h e f. other-previous k x lk h e f;
+        previousCurrent = λ k x lk h e f. other-current k x lk h e f;
+        currentPrevious = λ k x lk h e f. unnamed-previous m o i k l lk (f ∙ sym e);
+        clean = λ b q e. let z : _≡_ {A = ℕ} 0 1 = cc in absurd (omega arith);
+        held = λ b x e f. held-old b x e f;
+        bare = λ b lb h. inl (bare-old b h);
       }
     where
       o : Order i i 0
@@ -446,7 +447,7 @@ module _ {g : Geometry} {row : ℕ → List ℕ} {c d : List ℕ} (ns bs : List 
           go : ((j : ℕ) × (j < i) × (entryFound g c ns j ≡ k)) ⊎ ((j : ℕ) → j < i → entryFound g c ns j ≡ k → ⊥) → ⊥
           go (inl w) =
               let n : numberOf ns (w .0) ≡ numberOf ns i =
-                  got (sym (ap kindNumber (kind-logged m o (w .0) (w .1))) ∙ ap (λ (z : ℕ). kindNumber (kindAt g c′ z)) (w .2) ∙ f) in
+              got (sym (ap kindNumber (kind-logged m o (w .0) (w .1))) ∙ ap (λ (z : ℕ). kindNumber (kindAt g c′ z)) (w .2) ∙ f) in
               let x : w .0 ≡ i = numbers-apart (w .0) i (omega (arith, w .1)) l n in
               omega (arith, w .1)
           go (inr un) = h (sym (e-own i k l lk (sym (ap kindNumber (kind-other m o k lk un)) ∙ f)))
@@ -459,7 +460,7 @@ module _ {g : Geometry} {row : ℕ → List ℕ} {c d : List ℕ} (ns bs : List 
           go (inl w) =
               let lj : w .0 < length ns = omega (arith, w .1) in
               let old : previousOf (oldBlock g c ns (w .0)) ≡ some x =
-                  sym (ap kindPrevious (kind-logged m o (w .0) (w .1))) ∙ ap (λ (z : ℕ). kindPrevious (kindAt g c′ z)) (w .2) ∙ f in
+              sym (ap kindPrevious (kind-logged m o (w .0) (w .1))) ∙ ap (λ (z : ℕ). kindPrevious (kindAt g c′ z)) (w .2) ∙ f in
               h (sym (w .2)
               ∙ v .safe .currents (entryFound g c ns (w .0)) (entryFound g c ns i) x (e-below (w .0) lj) (e-below i l)
               (o-current (w .0) x lj old) (o-current i x l e))
@@ -494,8 +495,8 @@ module _ {g : Geometry} {row : ℕ → List ℕ} {c d : List ℕ} (ns bs : List 
           go (again hc y k w) =
               let n = h (sym (ap kindNumber (as-before ∙ w)) ∙ e) in
               let q : previousOf (oldBlock g c ns i) ≡ some (oldBlock g c ns i) =
-                  previous-some (oldBlock g c ns i)
-                  (λ z. let lo = v .safe .currentUnder (entryFound g c ns i) (oldBlock g c ns i) (k .below) (ap kindCurrent w) in omega (arith, fit)) in
+              previous-some (oldBlock g c ns i)
+              (λ z. let lo = v .safe .currentUnder (entryFound g c ns i) (oldBlock g c ns i) (k .below) (ap kindCurrent w) in omega (arith, fit)) in
               nothing (sym n ∙ q)
 
   logging : (i : ℕ) (c′ d′ : List ℕ) → i < length ns → Filled i c′ d′
@@ -551,39 +552,39 @@ module _ {g : Geometry} {row : ℕ → List ℕ} {c d : List ℕ} (ns bs : List 
 
       progress : Mid (suc i) i 0 c″ (storedOn disk (entryStore g e x) d′)
       progress =
-          record
-          { inv = after
-          ; headIs = eh ∙ m .headIs
-          ; tailIs = et ∙ m .tailIs
-          ; windowIs = window-kept g c′ c″ eh et ∙ m .windowIs
-          ; numbersAre = λ j h. number-kept g c′ c″ eh et j (slot-kept ch _ (window-slot m o j h .0) (λ a b. omega arith)) ∙ m .numbersAre j h
-          ; others = λ k lk un. entry-kept ch k lk (λ a b. un i (omega arith) b) ∙ m .others k lk (λ j h q. un j (omega arith) q)
-          ; loggeds = λ j lo h.
-              ⊎-elim
-              (λ q. subst (λ (z : ℕ). entryAt g c″ (entryFound g c ns z) ≡ logEntry g c ns z) (sym q) new)
-              (λ k. entry-kept ch (entryFound g c ns j) (e-below j (omega arith)) (λ a b. apart-e j k b) ∙ m .loggeds j lo k)
-              (last-or-before j i h)
-          ; switcheds = λ j h. absurd (omega arith)
-          ; blocks = λ j h.
-              block-kept ch (newBlock g c j) (q-below j (omega arith)) (λ a b. omega arith)
-              ∙ ⊎-elim
-              (λ q. subst (λ (z : ℕ). blockAt g c′ (newBlock g c z) ≡ dataOf g bs z) (sym q) (f .filled))
-              (λ k. m .blocks j k)
-              (last-or-before j i h)
+          record {
+            inv = after;
+            headIs = eh ∙ m .headIs;
+            tailIs = et ∙ m .tailIs;
+            windowIs = window-kept g c′ c″ eh et ∙ m .windowIs;
+            numbersAre = λ j h. number-kept g c′ c″ eh et j (slot-kept ch _ (window-slot m o j h .0) (λ a b. omega arith)) ∙ m .numbersAre j h;
+            others = λ k lk un. entry-kept ch k lk (λ a b. un i (omega arith) b) ∙ m .others k lk (λ j h q. un j (omega arith) q);
+            loggeds = λ j lo h.
+                ⊎-elim
+                (λ q. subst (λ (z : ℕ). entryAt g c″ (entryFound g c ns z) ≡ logEntry g c ns z) (sym q) new)
+                (λ k. entry-kept ch (entryFound g c ns j) (e-below j (omega arith)) (λ a b. apart-e j k b) ∙ m .loggeds j lo k)
+                (last-or-before j i h);
+            switcheds = λ j h. absurd (omega arith);
+            blocks = λ j h.
+                block-kept ch (newBlock g c j) (q-below j (omega arith)) (λ a b. omega arith)
+                ∙ ⊎-elim
+                (λ q. subst (λ (z : ℕ). blockAt g c′ (newBlock g c z) ≡ dataOf g bs z) (sym q) (f .filled))
+                (λ k. m .blocks j k)
+                (last-or-before j i h);
           }
 
   slotting : (i : ℕ) (c′ d′ : List ℕ) → i < length ns → Mid (suc i) i 0 c′ d′
       → Along (Inv g row) (Slotted i) (slotStore (headAfter g c i) (numberOf ns i) ∷ []) c′ d′
   slotting i c′ d′ l m =
       along-one (slotStore h (numberOf ns i)) c′ d′ (m .inv) after
-      (record
-      { mid =
-          carry m o c″ _ after eh et
-          (λ j k. number-kept g c′ c″ eh et j
-          (slot-kept ch _ (window-slot m o j k .0) (λ a b. window-slot m o j k .1 (sym b ∙ sym (m .headIs)))))
-          (λ k lk. entry-kept ch k lk (λ a b. omega arith))
-          (λ j k. block-kept ch (newBlock g c j) (q-below j (omega arith)) (λ a b. omega arith))
-      ; slotted = ap (slotAt c″) (eh ∙ m .headIs) ∙ slot-stored g c′ (numberOf ns i) (m .inv .shape .cardSized) small h h-below
+      (record {
+        mid =
+            carry m o c″ _ after eh et
+            (λ j k. number-kept g c′ c″ eh et j
+            (slot-kept ch _ (window-slot m o j k .0) (λ a b. window-slot m o j k .1 (sym b ∙ sym (m .headIs)))))
+            (λ k lk. entry-kept ch k lk (λ a b. omega arith))
+            (λ j k. block-kept ch (newBlock g c j) (q-below j (omega arith)) (λ a b. omega arith));
+        slotted = ap (slotAt c″) (eh ∙ m .headIs) ∙ slot-stored g c′ (numberOf ns i) (m .inv .shape .cardSized) small h h-below;
       })
     where
       h : ℕ
@@ -674,23 +675,23 @@ module _ {g : Geometry} {row : ℕ → List ℕ} {c d : List ℕ} (ns bs : List 
 
       progress : Mid (suc i) (suc i) 0 c″ (storedOn disk (headStore h) d′)
       progress =
-          record
-          { inv = after
-          ; headIs = head-stored g c′ h (m .inv .shape .cardSized) small ∙ ap (headAfter g c) (add-one i)
-          ; tailIs = tail-kept ch (λ a b. omega arith) ∙ m .tailIs
-          ; windowIs = window-longer (m .inv) ch moved room fits roles ∙ omega (arith, m .windowIs)
-          ; numbersAre = λ j k.
-              number-stays (m .inv) ch moved room fits roles j (omega (arith, m .windowIs))
-              ∙ ⊎-elim
-              (λ q.
-              ap (windowNumber g c′) (q ∙ sym (m .windowIs))
-              ∙ number-last (m .inv) ch moved room fits roles ∙ f .slotted ∙ ap (numberOf ns) (sym q))
-              (λ b. m .numbersAre j b)
-              (last-or-before j i k)
-          ; others = λ k lk un. entry-kept ch k lk (λ a b. omega arith) ∙ m .others k lk un
-          ; loggeds = λ j lo k. entry-kept ch (entryFound g c ns j) (e-below j (omega arith)) (λ a b. omega arith) ∙ m .loggeds j lo k
-          ; switcheds = λ j k. absurd (omega arith)
-          ; blocks = λ j k. block-kept ch (newBlock g c j) (q-below j (omega arith)) (λ a b. omega arith) ∙ m .blocks j k
+          record {
+            inv = after;
+            headIs = head-stored g c′ h (m .inv .shape .cardSized) small ∙ ap (headAfter g c) (add-one i);
+            tailIs = tail-kept ch (λ a b. omega arith) ∙ m .tailIs;
+            windowIs = window-longer (m .inv) ch moved room fits roles ∙ omega (arith, m .windowIs);
+            numbersAre = λ j k.
+                number-stays (m .inv) ch moved room fits roles j (omega (arith, m .windowIs))
+                ∙ ⊎-elim
+                (λ q.
+                ap (windowNumber g c′) (q ∙ sym (m .windowIs))
+                ∙ number-last (m .inv) ch moved room fits roles ∙ f .slotted ∙ ap (numberOf ns) (sym q))
+                (λ b. m .numbersAre j b)
+                (last-or-before j i k);
+            others = λ k lk un. entry-kept ch k lk (λ a b. omega arith) ∙ m .others k lk un;
+            loggeds = λ j lo k. entry-kept ch (entryFound g c ns j) (e-below j (omega arith)) (λ a b. omega arith) ∙ m .loggeds j lo k;
+            switcheds = λ j k. absurd (omega arith);
+            blocks = λ j k. block-kept ch (newBlock g c j) (q-below j (omega arith)) (λ a b. omega arith) ∙ m .blocks j k;
           }
 
   -- all stores of one block
@@ -758,20 +759,20 @@ module _ {g : Geometry} {row : ℕ → List ℕ} {c d : List ℕ} (ns bs : List 
 
       progress : Mid (length ns) (length ns) (suc i) c″ (storedOn disk (entryStore g e x) d′)
       progress =
-          record
-          { inv = after
-          ; headIs = eh ∙ m .headIs
-          ; tailIs = et ∙ m .tailIs
-          ; windowIs = window-kept g c′ c″ eh et ∙ m .windowIs
-          ; numbersAre = λ j h. number-kept g c′ c″ eh et j (slot-kept ch _ (window-slot m o j h .0) (λ a b. omega arith)) ∙ m .numbersAre j h
-          ; others = λ k lk un. entry-kept ch k lk (λ a b. un i l b) ∙ m .others k lk un
-          ; loggeds = λ j lo h. entry-kept ch (entryFound g c ns j) (e-below j h) (λ a b. apart-e j h (λ q. omega arith) b) ∙ m .loggeds j (omega arith) h
-          ; switcheds = λ j h.
-              ⊎-elim
-              (λ q. subst (λ (z : ℕ). entryAt g c″ (entryFound g c ns z) ≡ switched (logEntry g c ns z)) (sym q) new)
-              (λ k. entry-kept ch (entryFound g c ns j) (e-below j (omega arith)) (λ a b. apart-e j (omega arith) (λ q. omega arith) b) ∙ m .switcheds j k)
-              (last-or-before j i h)
-          ; blocks = λ j h. block-kept ch (newBlock g c j) (q-below j h) (λ a b. omega arith) ∙ m .blocks j h
+          record {
+            inv = after;
+            headIs = eh ∙ m .headIs;
+            tailIs = et ∙ m .tailIs;
+            windowIs = window-kept g c′ c″ eh et ∙ m .windowIs;
+            numbersAre = λ j h. number-kept g c′ c″ eh et j (slot-kept ch _ (window-slot m o j h .0) (λ a b. omega arith)) ∙ m .numbersAre j h;
+            others = λ k lk un. entry-kept ch k lk (λ a b. un i l b) ∙ m .others k lk un;
+            loggeds = λ j lo h. entry-kept ch (entryFound g c ns j) (e-below j h) (λ a b. apart-e j h (λ q. omega arith) b) ∙ m .loggeds j (omega arith) h;
+            switcheds = λ j h.
+                ⊎-elim
+                (λ q. subst (λ (z : ℕ). entryAt g c″ (entryFound g c ns z) ≡ switched (logEntry g c ns z)) (sym q) new)
+                (λ k. entry-kept ch (entryFound g c ns j) (e-below j (omega arith)) (λ a b. apart-e j (omega arith) (λ q. omega arith) b) ∙ m .switcheds j k)
+                (last-or-before j i h);
+            blocks = λ j h. block-kept ch (newBlock g c j) (q-below j h) (λ a b. omega arith) ∙ m .blocks j h;
           }
 
   -- ---- Tail's store
@@ -848,10 +849,11 @@ module _ {g : Geometry} {row : ℕ → List ℕ} {c d : List ℕ} (ns bs : List 
 
     -- the row moves
     committed : Rest g (replaced g ns bs row) (storedOn card (tailStore (headAfter g c (length ns))) c′) (storedOn disk (tailStore (headAfter g c (length ns))) d′)
-    committed =
-        (subst (Inv g (replaced g ns bs row) (storedOn card (tailStore (headAfter g c (length ns))) c′)) (sym (tail-elsewhere (headAfter g c (length ns)) d′))
-        (tail-moves (m .inv) last-changed last-tail no-role full empty),
-        tail-settled (m .inv) last-changed last-tail no-role)
+    committed = (
+      subst (Inv g (replaced g ns bs row) (storedOn card (tailStore (headAfter g c (length ns))) c′)) (sym (tail-elsewhere (headAfter g c (length ns)) d′))
+          (tail-moves (m .inv) last-changed last-tail no-role full empty),
+      tail-settled (m .inv) last-changed last-tail no-role,
+    )
 
   -- all stores but Tail's
   pub front : List Store
@@ -867,16 +869,16 @@ module _ {g : Geometry} {row : ℕ → List ℕ} {c d : List ℕ} (ns bs : List 
     where
       start : Mid 0 0 0 c d
       start =
-          record
-          { inv = v
-          ; headIs = head-start g c (v .shape .headBelow)
-          ; tailIs = refl
-          ; windowIs = window-start g c (settled-ring g c (p .settled))
-          ; numbersAre = λ j l. absurd (omega arith)
-          ; others = λ i l un. refl
-          ; loggeds = λ j lo l. absurd (omega arith)
-          ; switcheds = λ j l. absurd (omega arith)
-          ; blocks = λ j l. absurd (omega arith)
+          record {
+            inv = v;
+            headIs = head-start g c (v .shape .headBelow);
+            tailIs = refl;
+            windowIs = window-start g c (settled-ring g c (p .settled));
+            numbersAre = λ j l. absurd (omega arith);
+            others = λ i l un. refl;
+            loggeds = λ j lo l. absurd (omega arith);
+            switcheds = λ j l. absurd (omega arith);
+            blocks = λ j l. absurd (omega arith);
           }
 
   pub commit-flat : flat (commitRuns g c ns bs) ≡ front ++ (tailStore (headAfter g c (length ns)) ∷ [])
