@@ -5,6 +5,7 @@ pub mod Checks
 pub mod Codec
 pub mod Committed
 pub mod CutRule
+pub mod Example
 pub mod Holds
 pub mod Invariant
 pub mod Loaded
@@ -16,5 +17,6 @@ pub mod Region
 pub mod Searches
 pub mod Shape
 pub mod Steps
+pub mod Slips
 pub mod Stores
 pub mod Table
