@@ -4,6 +4,7 @@ pub mod Below
 pub mod Checks
 pub mod Codec
 pub mod Committed
+pub mod Computing
 pub mod CutRule
 pub mod Example
 pub mod Holds

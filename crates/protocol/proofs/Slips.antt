@@ -1,21 +1,18 @@
--- Each slip loses a saved block: computed. Assumes nothing.
+-- Each slip of specs/Slips loses a saved block: computed. Assumes nothing.
 use mathlib.Core.Path.{refl}
-use Rattle.numbers.specs.Bytes.{beFrom, be, bytesBE, part, numberAt, patch}
-use Rattle.protocol.specs.Below.{allBelow, anyBelow, countBelow, firstBelow, eachBelow, keep, around, walked}
-use Rattle.protocol.specs.Layout.{between, goodK, goodSlots, goodBlocks, goodDisk, goodGeometry, blockSize, slotPlace, entryPlace, blockPlace, cardLength, diskPlace, diskLength, blockAt, diskBlock, headerBytes, geometryOf, zeroFrom, goodHeader}
-use Rattle.protocol.specs.Entry.{entryBytes, entryIn, entryAt, inUse, isModified, hasLogRole, allowedFlags, isUnused, goodEntry, switched, undone}
-use Rattle.protocol.specs.Ring.{headOf, tailOf, slotAt, windowLength, windowSlots, windowOf, windowNumber, windowHas, inWindow, usedAt, undoableAt, settledBlock, roleFreeAt, isSettled, entryFor, findEntry, cached, currentOf, contents}
-use Rattle.protocol.specs.Check.{refuse, _orElse_, headerFits, cardFits, diskFits, windowNumberFits, ringFits, goodEntryAt, entriesFit, alike, apart, apartBefore, entriesApart, fitRefusal, diskRefusal, damageRefusal, cardRefusal}
-use Rattle.protocol.specs.Store.{isOn, storedOn, madeOn, flat, made, units, words, sectors, entryStore, wordStore, slotStore, headStore, tailStore, single, storesOf, answerOf, afterOn}
-use Rattle.protocol.specs.Format.{outcomeOf, formatRefusal, formatted, afterFormat, entryRefusal, decoded, encoded}
-use Rattle.protocol.specs.Search.{takenBy, isFree, unusedAt, searchStart, freeBlocks, unusedEntries}
-use Rattle.protocol.specs.Commit.{numberOf, uncachedAt, newBlock, entryFound, oldBlock, logEntry, dataOf, headAfter, blockRuns, switchRuns, commitRuns, countFits, dataFits, numberFits, numbersFit, numbersDiffer, newNumber, numbersApart, roomFor, saveRefusal, commitRefusal, commitWork}
-use Rattle.protocol.specs.Load.{pairRefusal, blockRefusal, cleanEntry, loadRuns, loadRefusal, loadWork, writeBack, evictRuns, evictRefusal, evictWork}
-use Rattle.protocol.specs.Recover.{sameBytes, ifChanging, undoRuns, recoverRuns, recoverRefusal, recoverWork}
-use Rattle.protocol.specs.History.{workOf, answerTo, after, run, answers, fresh, placeAmong, replaced, rowStep, rowAfter}
-use Rattle.protocol.specs.Example.{firstByte}
-use Rattle.protocol.specs.Slips.{Lost, stepped, saving, recovering, then, recoveryBy, inWindowOnly, undoneRight, undoneFresh, undoneClean, emptied, switchingFresh, reusing, zeroingFirst, evicting}
+use Rattle.protocol.specs.Slips.{Lost}
+use Rattle.protocol.proofs.Computing.{computing}
 
 pub lost : Lost
-unfolding beFrom be bytesBE part numberAt patch allBelow anyBelow countBelow firstBelow eachBelow keep around walked between goodK goodSlots goodBlocks goodDisk goodGeometry blockSize slotPlace entryPlace blockPlace cardLength diskPlace diskLength blockAt diskBlock headerBytes geometryOf zeroFrom goodHeader entryBytes entryIn entryAt inUse isModified hasLogRole allowedFlags isUnused goodEntry switched undone headOf tailOf slotAt windowLength windowSlots windowOf windowNumber windowHas inWindow usedAt undoableAt settledBlock roleFreeAt isSettled entryFor findEntry cached currentOf contents refuse _orElse_ headerFits cardFits diskFits windowNumberFits ringFits goodEntryAt entriesFit alike apart apartBefore entriesApart fitRefusal diskRefusal damageRefusal cardRefusal isOn storedOn madeOn flat made units words sectors entryStore wordStore slotStore headStore tailStore single storesOf answerOf afterOn outcomeOf formatRefusal formatted afterFormat entryRefusal decoded encoded takenBy isFree unusedAt searchStart freeBlocks unusedEntries numberOf uncachedAt newBlock entryFound oldBlock logEntry dataOf headAfter blockRuns switchRuns commitRuns countFits dataFits numberFits numbersFit numbersDiffer newNumber numbersApart roomFor saveRefusal commitRefusal commitWork pairRefusal blockRefusal cleanEntry loadRuns loadRefusal loadWork writeBack evictRuns evictRefusal evictWork sameBytes ifChanging undoRuns recoverRuns recoverRefusal recoverWork workOf answerTo after run answers fresh placeAmong replaced rowStep rowAfter firstByte stepped saving recovering then recoveryBy inWindowOnly undoneRight undoneFresh undoneClean emptied switchingFresh reusing zeroingFirst evicting
-lost = record { windowOnly = refl; switchFresh = refl; undoFresh = refl; undoClean = refl; reused = refl; zeroedFirst = refl; emptiedAll = refl; right = refl }
+unfolding computing
+lost =
+    record {
+      windowOnly = refl;
+      switchFresh = refl;
+      undoFresh = refl;
+      undoClean = refl;
+      reused = refl;
+      zeroedFirst = refl;
+      emptiedAll = refl;
+      right = refl;
+    }
