@@ -14,8 +14,7 @@ use Rattle.protocol.specs.Recover.{sameBytes, ifChanging, undoRuns, reco
 use Rattle.protocol.specs.History.{workOf, answerTo, after, run, answers, fresh, placeAmong, replaced, rowStep, rowAfter}
 use Rattle.protocol.specs.Table.{oneTaken}
 use Rattle.protocol.specs.Example.{firstByte}
-use Rattle.protocol.specs.Slips.{stepped, saving, recovering, then, recoveryBy, inWindowOnly, undoneRight, undoneFresh, undoneClean, emptied, switchingFresh, reusing, zeroingFirst, evicting}
 
 unfoldable pub computing : Unit {0}
-unfolding beFrom be bytesBE part numberAt patch allBelow anyBelow countBelow firstBelow eachBelow keep around walked between goodK goodSlots goodBlocks goodDisk goodGeometry blockSize slotPlace entryPlace blockPlace cardLength diskPlace diskLength blockAt diskBlock headerBytes geometryOf zeroFrom goodHeader entryBytes entryIn entryAt inUse isModified hasLogRole allowedFlags isUnused goodEntry switched undone headOf tailOf slotAt windowLength windowSlots windowOf windowNumber windowHas inWindow usedAt undoableAt settledBlock roleFreeAt isSettled entryFor findEntry cached currentOf contents refuse _orElse_ headerFits cardFits diskFits windowNumberFits ringFits goodEntryAt entriesFit alike apart apartBefore entriesApart fitRefusal diskRefusal damageRefusal cardRefusal isOn storedOn madeOn flat made units words sectors entryStore wordStore slotStore headStore tailStore single storesOf answerOf afterOn outcomeOf formatRefusal formatted afterFormat entryRefusal decoded encoded takenBy isFree unusedAt searchStart freeBlocks unusedEntries numberOf uncachedAt newBlock entryFound oldBlock logEntry dataOf headAfter blockRuns switchRuns commitRuns countFits dataFits numberFits numbersFit numbersDiffer newNumber numbersApart roomFor saveRefusal commitRefusal commitWork pairRefusal blockRefusal cleanEntry loadRuns loadRefusal loadWork writeBack evictRuns evictRefusal evictWork sameBytes ifChanging undoRuns recoverRuns recoverRefusal recoverWork workOf answerTo after run answers fresh placeAmong replaced rowStep rowAfter oneTaken firstByte stepped saving recovering then recoveryBy inWindowOnly undoneRight undoneFresh undoneClean emptied switchingFresh reusing zeroingFirst evicting
+unfolding beFrom be bytesBE part numberAt patch allBelow anyBelow countBelow firstBelow eachBelow keep around walked between goodK goodSlots goodBlocks goodDisk goodGeometry blockSize slotPlace entryPlace blockPlace cardLength diskPlace diskLength blockAt diskBlock headerBytes geometryOf zeroFrom goodHeader entryBytes entryIn entryAt inUse isModified hasLogRole allowedFlags isUnused goodEntry switched undone headOf tailOf slotAt windowLength windowSlots windowOf windowNumber windowHas inWindow usedAt undoableAt settledBlock roleFreeAt isSettled entryFor findEntry cached currentOf contents refuse _orElse_ headerFits cardFits diskFits windowNumberFits ringFits goodEntryAt entriesFit alike apart apartBefore entriesApart fitRefusal diskRefusal damageRefusal cardRefusal isOn storedOn madeOn flat made units words sectors entryStore wordStore slotStore headStore tailStore single storesOf answerOf afterOn outcomeOf formatRefusal formatted afterFormat entryRefusal decoded encoded takenBy isFree unusedAt searchStart freeBlocks unusedEntries numberOf uncachedAt newBlock entryFound oldBlock logEntry dataOf headAfter blockRuns switchRuns commitRuns countFits dataFits numberFits numbersFit numbersDiffer newNumber numbersApart roomFor saveRefusal commitRefusal commitWork pairRefusal blockRefusal cleanEntry loadRuns loadRefusal loadWork writeBack evictRuns evictRefusal evictWork sameBytes ifChanging undoRuns recoverRuns recoverRefusal recoverWork workOf answerTo after run answers fresh placeAmong replaced rowStep rowAfter oneTaken firstByte
 computing = tt

@@ -18,6 +18,5 @@ pub mod Region
 pub mod Searches
 pub mod Shape
 pub mod Steps
-pub mod Slips
 pub mod Stores
 pub mod Table

@@ -15,4 +15,3 @@ pub mod Table
 pub mod History
 pub mod CutRule
 pub mod Example
-pub mod Slips
