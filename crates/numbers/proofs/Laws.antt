@@ -7,7 +7,7 @@ use native.Mathlib.Nat.{pow-succ', suc-inj, add-sub-of-le, zero-lt-suc, mul-add-
 use native.Mathlib.Numerals.{add-one}
 use native.Mathlib.Omega.{arith}
 use lib.ListN.{length, getD, take, drop, set, length-take, length-drop, take-append-drop}
-use lib.Seq.{take-all, take-nil, drop-nil, take-suc, getD-take, getD-drop, drop-drop, take-add, ext-getD, length-take-le}
+use lib.Seq.{take-all, take-nil, drop-nil, take-suc, drop-cons, getD-take, getD-drop, drop-drop, take-add, ext-getD, length-take-le}
 use Rattle.numbers.specs.Bytes.{beFrom, be, bytesBE, part, numberAt, patch, Bytes}
 
 -- ---- numbers
@@ -138,6 +138,10 @@ part-part xs at n from m h =
 pub part-append : (xs : List ℕ) (at n m : ℕ) → part xs at (n + m) ≡ part xs at n ++ part xs (at + n) m
 unfolding part
 part-append xs at n m = rw (take-add, drop-drop)
+
+pub part-one : (xs : List ℕ) (at : ℕ) → at < length xs → part xs at 1 ≡ getD xs at 0 ∷ []
+unfolding part
+part-one xs at h = ap (take 1) (drop-cons xs at 0 h)
 
 pub part-all : (xs : List ℕ) (n : ℕ) → length xs ≡ n → part xs 0 n ≡ xs
 unfolding part
@@ -305,7 +309,7 @@ patch-part (x ∷ xs) zero (suc n) = ap (λ (r : List ℕ). x ∷ r) (patch-part
 patch-part (x ∷ xs) (suc at) n = patch-past x xs at (part xs at n) ∙ ap (λ (r : List ℕ). x ∷ r) (patch-part xs at n)
 
 -- one element
-patch-one : (xs : List ℕ) (at b : ℕ) → patch xs at (b ∷ []) ≡ set xs at b
+pub patch-one : (xs : List ℕ) (at b : ℕ) → patch xs at (b ∷ []) ≡ set xs at b
 unfolding patch
 patch-one [] at b = refl
 patch-one (x ∷ xs) zero b = ap (λ (r : List ℕ). b ∷ r) (patch-nil xs zero)

@@ -1,7 +1,7 @@
 -- The start, the turn and the end of each loop, over plain rows: what a loop has done after i bytes is a definition at i.
 -- Assumes nothing.
 use mathlib.Core.Path.{_≡_, refl, sym, ap, _∙_, subst}
-use mir.Syntax.{w64}
+use mir.Syntax.{w8, w64}
 use mir.Val.{Fits}
 use borrow.Rule.Slice.PartMut.{midOf, putMid}
 use mathlib.Core.List.{List, [], _∷_, _++_, append-assoc}
@@ -10,10 +10,10 @@ use native.Mathlib.Nat.{zero-add, pow-suc, pow-le-pow-right, zero-lt-suc, div-di
 use native.Mathlib.Numerals.{add-one}
 use native.Mathlib.Omega.{arith}
 use lib.ListN.{replicate, getD-replicate, length-replicate, length, getD, take, drop, set}
-use lib.Seq.{drop-cons, drop-drop, take-all}
+use lib.Seq.{drop-drop, take-all}
 use Rattle.numbers.specs.Bytes.{beFrom, be, bytesBE, part, numberAt, patch}
 use Rattle.numbers.specs.Post.{Number}
-use Rattle.numbers.proofs.Laws.{length-part, part-all, part-append, part-patch-same, patch-nil, set-patch-snoc, length-patch, patch-past, patch-as-parts}
+use Rattle.numbers.proofs.Laws.{length-part, part-one, part-all, part-append, part-patch-same, patch-nil, set-patch-snoc, length-patch, patch-past, patch-as-parts}
 
 -- ---- a number is read, the highest byte first
 
@@ -26,35 +26,33 @@ unfolding beFrom
 beFrom-snoc acc [] b = refl
 beFrom-snoc acc (a ∷ bs) b = beFrom-snoc (acc * 256 + a) bs b
 
-part-one : (xs : List ℕ) (at : ℕ) → at < length xs → part xs at 1 ≡ getD xs at 0 ∷ []
-unfolding part
-part-one xs at h = ap (take 1) (drop-cons xs at 0 h)
-
 number-more : (xs : List ℕ) (at i : ℕ) → at + i < length xs → numberAt xs at (i + 1) ≡ numberAt xs at i * 256 + getD xs (at + i) 0
 unfolding numberAt be
 number-more xs at i h =
     ap be (part-append xs at i 1 ∙ ap (λ (r : List ℕ). part xs at i ++ r) (part-one xs (at + i) h)) ∙ beFrom-snoc 0 (part xs at i) (getD xs (at + i) 0)
 
 -- a number below 256 ^ i, and one more byte
-byte-room : (i r b : ℕ) → r < 256 ^ i → b < 256 → r * 256 + b < 256 ^ (i + 1)
+byte-room : (i r b : ℕ) → r < 256 ^ i → Fits w8 b → r * 256 + b < 256 ^ (i + 1)
 byte-room i r b h k =
     let e : 256 ^ (i + 1) ≡ 256 ^ i * 256 = ap (λ (n : ℕ). 256 ^ n) (add-one i) ∙ pow-suc 256 i in omega arith
 
-pub number-fits : (xs : List ℕ) (at w i r b : ℕ) → i < w → w ≤ 8 → Number xs at i r → b < 256 → Fits w64 (r * 256 + b)
+pub number-fits : (xs : List ℕ) (at w i r b : ℕ) → i < w → w ≤ 8 → Number xs at i r → Fits w8 b → Fits w64 (r * 256 + b)
 number-fits xs at w i r b h k n l =
     let top : i + 1 ≤ 8 = omega arith in
     record { fits = omega (arith, byte-room i r b (n .below) l, pow-le-pow-right (zero-lt-suc 255) top) }
 
 pub number-scales : (xs : List ℕ) (at w i r : ℕ) → i < w → w ≤ 8 → Number xs at i r → Fits w64 (r * 256)
-number-scales xs at w i r h k n = record { fits = omega (arith, number-fits xs at w i r 0 h k n (zero-lt-suc 255)) }
+number-scales xs at w i r h k n = record { fits = omega (arith, number-fits xs at w i r 0 h k n (record { fits = zero-lt-suc 255 })) }
+
+pub number-turn : (xs : List ℕ) (at w i r : ℕ) → i < w → at + w ≤ length xs → Fits w8 (getD xs (at + i) 0) → Number xs at i r
+    → Number xs at (i + 1) (r * 256 + getD xs (at + i) 0)
+number-turn xs at w i r h k l n =
+    let b : ℕ = getD xs (at + i) 0 in
+    record { value = ap (λ (q : ℕ). q * 256 + b) (n .value) ∙ sym (number-more xs at i (omega arith)); below = byte-room i r b (n .below) l }
 
 pub number-end : (xs : List ℕ) (at w i r : ℕ) → i ≤ w → w ≤ i → Number xs at i r → Number xs at w r
 number-end xs at w i r h k n =
     let e : i ≡ w = omega arith in subst (λ (j : ℕ). Number xs at j r) e n
-
-pub number-turn : (xs : List ℕ) (at w i r : ℕ) → i < w → at + w ≤ length xs → getD xs (at + i) 0 < 256 → Number xs at i r
-    → Number xs at (i + 1) (r * 256 + getD xs (at + i) 0)
-number-turn xs at w i r h k l n = record { value = ap (λ (q : ℕ). q * 256 + getD xs (at + i) 0) (n .value) ∙ sym (number-more xs at i (omega arith)); below = byte-room i r (getD xs (at + i) 0) (n .below) l }
 
 -- ---- a number is written, the lowest byte first
 

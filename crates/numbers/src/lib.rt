@@ -19,7 +19,8 @@ pub fn get(s: &[u8], at: usize, width: usize) -> u64
     r
 }
 
-// Writes the `width` lowest bytes of v from `at` on, the highest first. Goes from the last byte to the first, so that each is a remainder by 256.
+// Writes the `width` lowest bytes of v from `at` on, the highest first. Goes from the last byte to the
+// first, so that each is a remainder by 256.
 pub fn put(s: &mut [u8], at: usize, width: usize, v: u64)
     requires { ⌜ (at + width ≤ length (now s)) × (width ≤ 8) ⌝ }
     ensures { λ _. ⌜ now (s .exit) ≡ patch (now (s .entry)) at (bytesBE width v) ⌝ }
@@ -33,7 +34,8 @@ pub fn put(s: &mut [u8], at: usize, width: usize, v: u64)
     }
 }
 
-// Both parts start at 0 and are as long: the compiler makes of the loop one move of the whole.
+// dst becomes what src is. Both start at 0 and are as long, so that the compiler makes vector moves of
+// the loop.
 fn copy_whole(dst: &mut [u8], src: &[u8])
     requires { ⌜ length (now dst) ≡ length (now src) ⌝ }
     ensures { λ _. ⌜ now (dst .exit) ≡ now (src .entry) ⌝ }

@@ -1,6 +1,6 @@
 -- `get` answers the number. The loop's invariant: r is the number in the first i bytes.
-use Prim.Native.Nat.{_+_, _≤_, _-_}
-use native.Mathlib.Omega.{arith}
+use Prim.Native.Nat.{_≤_, _-_}
+use mir.Facts.{fits-8-64}
 use borrow.Author.Needs.{needs}
 use Rattle.numbers.specs.Post.{Number}
 use Rattle.numbers.proofs.Turns.{number-start, number-turn, number-fits, number-scales, number-end}
@@ -26,11 +26,10 @@ shared-slice-read-r : tie.Need-shared-slice-read-r Inv-loop μ-loop
 shared-slice-read-r c = search needs
 
 cast-r : tie.Need-cast-r Inv-loop μ-loop
-cast-r c = omega (arith, c .shared-slice-known .given (c .before .before .before .args .at + c .before .before .loop .i))
+cast-r c = fits-8-64 (c .shared-slice-known .given _)
 
 add-r-2 : tie.Need-add-r-2 Inv-loop μ-loop
-add-r-2 c =
-    let b = c .shared-slice-known .given (c .before .before .before .args .at + c .before .before .loop .i) in search (number-fits, b, needs)
+add-r-2 c = search (number-fits, c .shared-slice-known .given, needs)
 
 add-i : tie.Need-add-i Inv-loop μ-loop
 add-i c = search needs
@@ -39,8 +38,7 @@ loop-less : tie.Need-loop-less Inv-loop μ-loop
 loop-less c = search needs
 
 loop-again : tie.Need-loop-again Inv-loop μ-loop
-loop-again c =
-    let b = c .shared-slice-known .given (c .before .before .before .args .at + c .before .before .loop .i) in search (number-turn, b, needs)
+loop-again c = search (number-turn, c .shared-slice-known .given, needs)
 
 returns : tie.Need-returns Inv-loop μ-loop
 returns c = search (number-end, needs)

@@ -1,0 +1,89 @@
+-- An entry's bytes put one field after the other, and a single entry's refusals in their order. By the laws of patches side by side and by
+-- cases on the tests; assumes nothing.
+use Prim.Native.Nat.{ℕ, _+_}
+use mathlib.Core.List.{List, [], _∷_, _++_}
+use mathlib.Core.Bool.{Bool, true, false, _&&_}
+use mathlib.Core.Path.{_≡_, sym, ap, _∙_}
+use native.Mathlib.Omega.{arith}
+use lib.ListN.{length, set, replicate}
+use borrow.Author.Tests.{eq-eqb, ne-eqb}
+use Rattle.numbers.specs.Bytes.{bytesBE, patch}
+use Rattle.numbers.proofs.Laws.{length-bytes, length-patch, part-all, part-patch-same, patch-append, patch-one, patch-comm}
+use Rattle.protocol.specs.declared.Entry.{Entry}
+use Rattle.protocol.specs.Entry.{entryBytes, entryIn, goodEntry}
+use Rattle.protocol.proofs.Codec.{length-entry}
+use Rattle.protocol.specs.Layout.{goodBlocks, goodDisk}
+use Rattle.protocol.specs.Check.{refuse, _orElse_}
+use Rattle.protocol.specs.Format.{outcomeOf, entryRefusal, decoded, encoded}
+use Rattle.protocol.specs.declared.Outcome.the-variants.{Done, Refused}
+use Rattle.protocol.specs.declared.Decoded.the-variants.{Fields, Refused as RefusedEntry}
+use Rattle.protocol.specs.declared.Encoded.{Encoded}
+
+-- one part put, and the next one behind it
+put-next : (s : List ℕ) (at : ℕ) (bs cs : List ℕ) (to : ℕ) → at + length bs ≡ to → patch s at (bs ++ cs) ≡ patch (patch s at bs) to cs
+put-next s at bs cs to h = patch-append s at bs cs ∙ ap (λ (k : ℕ). patch (patch s at bs) k cs) h
+
+-- one byte set before what was put
+set-before : (s : List ℕ) (at b : ℕ) (bs : List ℕ) → set (patch s (at + 1) bs) at b ≡ patch s at (b ∷ bs)
+set-before s at b bs =
+    sym (patch-one (patch s (at + 1) bs) at b)
+    ∙ sym (patch-comm s at (b ∷ []) (at + 1) bs (omega arith))
+    ∙ sym (put-next s at (b ∷ []) bs (at + 1) (omega arith))
+
+-- three numbers, each put behind the one before it, and the flag byte before them
+pub put-fields : (s₀ s₁ s₂ s₃ : List ℕ) (at : ℕ) (e : Entry) → s₁ ≡ patch s₀ (at + 1) (bytesBE 7 (e .number))
+    → s₂ ≡ patch s₁ (at + 8) (bytesBE 4 (e .previous))
+    → s₃ ≡ patch s₂ (at + 12) (bytesBE 4 (e .current))
+    → set s₃ at (e .flags) ≡ patch s₀ at (entryBytes e)
+unfolding entryBytes
+put-fields s₀ s₁ s₂ s₃ at e p q r =
+    let number : List ℕ = bytesBE 7 (e .number) in
+    let previous : List ℕ = bytesBE 4 (e .previous) in
+    let current : List ℕ = bytesBE 4 (e .current) in
+    let fields : s₃ ≡ patch s₀ (at + 1) (number ++ (previous ++ current)) =
+    sym
+    (put-next s₀ (at + 1) number (previous ++ current) (at + 8) (omega (arith, length-bytes 7 (e .number)))
+    ∙ ap (λ (s : List ℕ). patch s (at + 8) (previous ++ current)) (sym p)
+    ∙ put-next s₁ (at + 8) previous current (at + 12) (omega (arith, length-bytes 4 (e .previous)))
+    ∙ ap (λ (s : List ℕ). patch s (at + 12) current) (sym q)
+    ∙ sym r) in
+    ap (λ (s : List ℕ). set s at (e .flags)) fields ∙ set-before s₀ at (e .flags) (number ++ (previous ++ current))
+
+-- ---- a single entry: a and b are the tests of N and D, t that of check 5
+
+module _ (n d : ℕ) (e : Entry) (a b : Bool) (p : a ≡ goodBlocks n) (q : b ≡ goodDisk d) where
+  pub limits-refused : a && b ≡ false → 1 ≡ entryRefusal n d e
+  unfolding entryRefusal refuse _orElse_
+  limits-refused h = rw (← p, ← q, h)
+
+  module _ (h : a && b ≡ true) (t : Bool) (r : t ≡ goodEntry n d e) where
+    pub entry-refused : t ≡ false → 5 ≡ entryRefusal n d e
+    unfolding entryRefusal refuse _orElse_
+    entry-refused f = rw (← p, ← q, h, ← r, f)
+
+    pub entry-passed : t ≡ true → 0 ≡ entryRefusal n d e
+    unfolding entryRefusal refuse _orElse_
+    entry-passed f = rw (← p, ← q, h, ← r, f)
+
+pub fields-read : (n d : ℕ) (bs : List ℕ) (e : Entry) (r : ℕ) → e ≡ entryIn bs 0 → r ≡ entryRefusal n d e → r ≡ 0 → Fields e ≡ decoded n d bs
+unfolding decoded
+fields-read n d bs e r p q z = rw (← p, ← q, eq-eqb r 0 z)
+
+pub fields-refused : (n d : ℕ) (bs : List ℕ) (e : Entry) (r : ℕ) → e ≡ entryIn bs 0 → r ≡ entryRefusal n d e → (r ≡ 0 → ⊥)
+    → RefusedEntry r ≡ decoded n d bs
+unfolding decoded
+fields-refused n d bs e r p q z = rw (← p, ← q, ne-eqb r 0 z)
+
+pub entry-written : (n d : ℕ) (e : Entry) (r : ℕ) (xs bs : List ℕ) → length xs ≡ 16 → r ≡ entryRefusal n d e → r ≡ 0
+    → bs ≡ patch xs 0 (entryBytes e)
+    → _≡_ {A = Encoded} (record { outcome = Done; bytes = bs }) (encoded n d e)
+unfolding encoded outcomeOf
+entry-written n d e r xs bs l q z w =
+    let whole : patch xs 0 (entryBytes e) ≡ entryBytes e =
+    sym (part-all _ 16 (length-patch xs 0 (entryBytes e) ∙ l)) ∙ part-patch-same xs 0 (entryBytes e) 16 (length-entry e) (omega arith) in
+    rw (← q, eq-eqb r 0 z) (λ t. record { outcome = Done; bytes = (w ∙ whole) t })
+
+pub entry-unwritten : (n d : ℕ) (e : Entry) (r : ℕ) → r ≡ entryRefusal n d e → (r ≡ 0 → ⊥)
+    → _≡_ {A = Encoded} (record { outcome = Refused r; bytes = replicate 16 0 }) (encoded n d e)
+unfolding encoded outcomeOf
+entry-unwritten n d e r q z = rw (← q, ne-eqb r 0 z)

@@ -1,0 +1,248 @@
+-- An entry's and a header's bytes: what was written is read back, field by field, and sixteen bytes that were read are written back as they
+-- stood; what format leaves in each part of the card. By computing with the fields' fixed places; assumes nothing.
+use Prim.Native.Nat.{ℕ, zero, suc, _+_, _*_, _-_, _^_, _≤_, _<_}
+use mathlib.Core.List.{List, _++_}
+use mathlib.Core.Bool.{Bool, true, false, cond, _&&_, _||_}
+use mathlib.Core.Path.{_≡_, refl, sym, ap, _∙_}
+use mathlib.Core.Logic.{⊎-elim}
+use native.Mathlib.Omega.{arith}
+use lib.ListN.{length, getD, replicate, length-append, length-replicate, getD-replicate}
+use lib.Seq.{getD-drop, ext-getD}
+use lib.Dec.{eqb, ltb}
+use borrow.Author.Tests.{eqb-true, ltb-true, eq-eqb}
+use Rattle.numbers.specs.Bytes.{beFrom, be, bytesBE, part, numberAt, patch, Bytes}
+use Rattle.numbers.proofs.Laws.{be-bytes, bytes-be, bytes-part, length-part, getD-part, part-part, part-append, part-one, part-all, length-patch, patch-append, getD-patch-in, part-patch-same, part-patch-before, part-patch-after}
+use Rattle.protocol.specs.declared.Geometry.{Geometry}
+use Rattle.protocol.specs.declared.Entry.{Entry}
+use Rattle.protocol.specs.declared.Decoded.the-variants.{Fields, Refused}
+use Rattle.protocol.specs.Layout.{between, goodK, goodSlots, goodBlocks, goodDisk, goodGeometry, cardLength, headerBytes, geometryOf, zeroFrom, goodHeader}
+use Rattle.protocol.specs.Entry.{FRESH, entryOf, entryBytes, entryIn, allowedFlags, isUnused, goodEntry}
+use Rattle.protocol.specs.Check.{refuse, _orElse_}
+use Rattle.protocol.specs.Format.{formatted, entryRefusal, decoded, encoded}
+use Rattle.protocol.proofs.Checks.{Limits, limits}
+use Rattle.protocol.proofs.Below.{and-left, and-right, and-both, or-true, all-of}
+
+-- ---- an entry
+
+-- each field fits its bytes
+pub record EntryFits (e : Entry) : Type 0 where
+  pub number : e .number < 256 ^ 7
+  pub previous : e .previous < 256 ^ 4
+  pub current : e .current < 256 ^ 4
+
+unused-fits : (e : Entry) → isUnused e ≡ true → EntryFits e
+unfolding isUnused
+unused-fits e h =
+    let rest = and-right (eqb (e .flags) 0) _ h in
+    let blocks = and-right (eqb (e .number) 0) _ rest in
+    let a : e .number ≡ 0 = eqb-true _ _ (and-left (eqb (e .number) 0) _ rest) in
+    let b : e .previous ≡ 0 = eqb-true _ _ (and-left (eqb (e .previous) 0) _ blocks) in
+    let c : e .current ≡ 0 = eqb-true _ _ (and-right (eqb (e .previous) 0) _ blocks) in
+    record { number = omega arith; previous = omega arith; current = omega arith }
+
+used-fits : (n d : ℕ) (e : Entry) → n ≤ 128 → d ≤ 65536
+    → ltb (e .number) d && (ltb (e .current) n && (ltb (e .previous) n || eqb (e .previous) FRESH)) ≡ true → EntryFits e
+used-fits n d e hn hd h =
+    let blocks = and-right (ltb (e .number) d) _ h in
+    let a : e .number < d = ltb-true _ _ (and-left (ltb (e .number) d) _ h) in
+    let c : e .current < n = ltb-true _ _ (and-left (ltb (e .current) n) _ blocks) in
+    let b : e .previous < 256 ^ 4 =
+    ⊎-elim (λ q. omega (arith, ltb-true (e .previous) n q)) (λ q. omega (arith, eqb-true (e .previous) FRESH q))
+    (or-true (ltb (e .previous) n) _ (and-right (ltb (e .current) n) _ blocks)) in
+    record { number = omega arith; previous = b; current = omega arith }
+
+pub good-fits : (n d : ℕ) (e : Entry) → goodBlocks n ≡ true → goodDisk d ≡ true → goodEntry n d e ≡ true → EntryFits e
+unfolding goodEntry between goodK goodSlots goodGeometry
+good-fits n d e hn hd h =
+    let l : Limits (record { k = 9; slots = 8; blocks = n; disk = d }) = limits _ (and-both hn hd) in
+    ⊎-elim (unused-fits e) (λ q. used-fits n d e (l .blocks .1) (l .disk .1) (and-right (allowedFlags (e .flags)) _ q))
+    (or-true (isUnused e) _ h)
+
+pub length-entry : (e : Entry) → length (entryBytes e) ≡ 16
+unfolding entryBytes bytesBE
+length-entry e = refl
+
+-- a number in a part
+number-part : (xs : List ℕ) (at n from w : ℕ) → from + w ≤ n → numberAt (part xs at n) from w ≡ numberAt xs (at + from) w
+unfolding numberAt
+number-part xs at n from w h = ap be (part-part xs at n from w h)
+
+pub entry-of-part : (xs : List ℕ) (at : ℕ) → entryIn xs at ≡ entryIn (part xs at 16) 0
+unfolding entryIn
+entry-of-part xs at =
+    sym
+    (λ t.
+    entryOf (first t) (number-part xs at 16 1 7 (omega arith) t) (number-part xs at 16 8 4 (omega arith) t)
+    (number-part xs at 16 12 4 (omega arith) t))
+  where
+    first : getD (part xs at 16) 0 0 ≡ getD xs at 0
+    first = getD-part xs at 16 0 (omega arith) ∙ ap (λ (i : ℕ). getD xs i 0) (omega arith)
+
+-- the bytes of an entry spell it
+entry-of-bytes : (e : Entry) → EntryFits e → entryIn (entryBytes e) 0 ≡ e
+unfolding entryIn entryBytes bytesBE part numberAt
+entry-of-bytes e h =
+    λ t.
+    entryOf (e .flags) (be-bytes 7 (e .number) (h .number) t) (be-bytes 4 (e .previous) (h .previous) t)
+    (be-bytes 4 (e .current) (h .current) t)
+
+pub entry-read-back : (xs : List ℕ) (at : ℕ) (e : Entry) → at + 16 ≤ length xs → EntryFits e
+    → entryIn (patch xs at (entryBytes e)) at ≡ e
+entry-read-back xs at e h k =
+    entry-of-part (patch xs at (entryBytes e)) at
+    ∙ ap (λ (r : List ℕ). entryIn r 0) (part-patch-same xs at (entryBytes e) 16 (length-entry e) h)
+    ∙ entry-of-bytes e k
+
+-- the bytes of the number in a part are that part
+pub bytes-number : (xs : List ℕ) (at w : ℕ) → Bytes xs → at + w ≤ length xs → bytesBE w (numberAt xs at w) ≡ part xs at w
+unfolding numberAt
+bytes-number xs at w b h =
+    ap (λ (n : ℕ). bytesBE n (be (part xs at w))) (sym (length-part xs at w h)) ∙ bytes-be (part xs at w) (bytes-part xs at w b)
+
+-- a part that begins with a number of w bytes
+part-number : (xs : List ℕ) (at w m to : ℕ) → Bytes xs → at + w ≤ length xs → at + w ≡ to
+    → part xs at (w + m) ≡ bytesBE w (numberAt xs at w) ++ part xs to m
+part-number xs at w m to b h e = part-append xs at w m ∙ (λ t. sym (bytes-number xs at w b h) t ++ part xs (e t) m)
+
+pub entry-write-back : (xs : List ℕ) (at : ℕ) → Bytes xs → at + 16 ≤ length xs → entryBytes (entryIn xs at) ≡ part xs at 16
+unfolding entryBytes entryIn
+entry-write-back xs at b h = sym (part-append xs at 1 15 ∙ (λ t. part-one xs at (omega arith) t ++ fields t))
+  where
+    fields : part xs (at + 1) 15
+        ≡ bytesBE 7 (numberAt xs (at + 1) 7) ++ (bytesBE 4 (numberAt xs (at + 8) 4) ++ bytesBE 4 (numberAt xs (at + 12) 4))
+    fields =
+        part-number xs (at + 1) 7 8 (at + 8) b (omega arith) (omega arith)
+        ∙ ap (_++_ (bytesBE 7 (numberAt xs (at + 1) 7)))
+        (part-number xs (at + 8) 4 4 (at + 12) b (omega arith) (omega arith)
+        ∙ ap (_++_ (bytesBE 4 (numberAt xs (at + 8) 4)))
+        (sym (bytes-number xs (at + 12) 4 b (omega arith))))
+
+-- ---- a single entry
+
+none-of : (a b : ℕ) → a orElse b ≡ 0 → (a ≡ 0) × (b ≡ 0)
+unfolding _orElse_
+none-of zero b e = (refl, e)
+none-of (suc a) b e = absurd (omega arith)
+
+holds : (r : ℕ) (ok : Bool) → refuse (suc r) ok ≡ 0 → ok ≡ true
+unfolding refuse
+holds r true e = refl
+holds r false e = absurd (omega arith)
+
+-- an entry that is not refused fits its bytes
+pub allowed-fits : (n d : ℕ) (e : Entry) → entryRefusal n d e ≡ 0 → EntryFits e
+unfolding entryRefusal
+allowed-fits n d e h =
+    let (a, b) = none-of (refuse 1 (goodBlocks n && goodDisk d)) (refuse 5 (goodEntry n d e)) h in
+    let limits = holds 0 (goodBlocks n && goodDisk d) a in
+    good-fits n d e (and-left (goodBlocks n) _ limits) (and-right (goodBlocks n) _ limits) (holds 4 (goodEntry n d e) b)
+
+bytes-allowed : (n d : ℕ) (e : Entry) → entryRefusal n d e ≡ 0 → encoded n d e .bytes ≡ entryBytes e
+unfolding encoded
+bytes-allowed n d e h = rw (eq-eqb (entryRefusal n d e) 0 h)
+
+pub written-read : (n d : ℕ) (e : Entry) → entryRefusal n d e ≡ 0 → decoded n d (encoded n d e .bytes) ≡ Fields e
+unfolding decoded
+written-read n d e h =
+    ap (λ (bs : List ℕ). decoded n d bs) (bytes-allowed n d e h)
+    ∙ rw (entry-of-bytes e (allowed-fits n d e h), eq-eqb (entryRefusal n d e) 0 h)
+
+pub read-written : (n d : ℕ) (bs : List ℕ) (e : Entry) → length bs ≡ 16 → Bytes bs → decoded n d bs ≡ Fields e → encoded n d e .bytes ≡ bs
+unfolding decoded
+read-written n d bs e l b h = go (eqb (entryRefusal n d (entryIn bs 0)) 0) refl h
+  where
+    go : (t : Bool) → eqb (entryRefusal n d (entryIn bs 0)) 0 ≡ t
+        → cond t (Fields (entryIn bs 0)) (Refused (entryRefusal n d (entryIn bs 0))) ≡ Fields e → encoded n d e .bytes ≡ bs
+    go true q p =
+        let r : entryIn bs 0 ≡ e = cc in
+        bytes-allowed n d e (rw r at (eqb-true (entryRefusal n d (entryIn bs 0)) 0 q))
+        ∙ ap entryBytes (sym r)
+        ∙ entry-write-back bs 0 b (omega arith)
+        ∙ part-all bs 16 l
+    go false q p = let z : _≡_ {A = ℕ} 0 1 = cc in absurd (omega arith)
+
+-- ---- the header
+
+pub length-header : (g : Geometry) → length (headerBytes g) ≡ 64
+unfolding headerBytes bytesBE
+length-header g = refl
+
+module _ (g : Geometry) (c : List ℕ) (good : goodGeometry g ≡ true) (stands : part c 0 64 ≡ headerBytes g) where
+  -- a number and a byte of the header
+  header-number : (from w : ℕ) → from + w ≤ 64 → numberAt c from w ≡ numberAt (headerBytes g) from w
+  header-number from w h =
+      ap (λ (i : ℕ). numberAt c i w) (omega arith) ∙ sym (number-part c 0 64 from w h) ∙ ap (λ (r : List ℕ). numberAt r from w) stands
+
+  header-byte : (i : ℕ) → i < 64 → getD c i 0 ≡ getD (headerBytes g) i 0
+  header-byte i h =
+      ap (λ (k : ℕ). getD c k 0) (omega arith) ∙ sym (getD-part c 0 64 i h) ∙ ap (λ (r : List ℕ). getD r i 0) stands
+
+  pub geometry-of-header : geometryOf c ≡ g
+  unfolding geometryOf headerBytes bytesBE part numberAt
+  geometry-of-header =
+      let l : Limits g = limits g good in
+      λ t.
+      record {
+        k = header-byte 5 (omega arith) t;
+        slots = (header-number 6 2 (omega arith) ∙ be-bytes 2 (g .slots) (omega arith)) t;
+        blocks = (header-number 8 4 (omega arith) ∙ be-bytes 4 (g .blocks) (omega arith)) t;
+        disk = (header-number 12 4 (omega arith) ∙ be-bytes 4 (g .disk) (omega arith)) t;
+      }
+
+  pub good-header : goodHeader c ≡ true
+  unfolding goodHeader headerBytes beFrom be bytesBE part numberAt zeroFrom
+  good-header =
+      and-both (eq-eqb _ _ (header-number 0 4 (omega arith)))
+      (and-both (eq-eqb _ _ (header-byte 4 (omega arith)))
+      (and-both (ap goodGeometry geometry-of-header ∙ good)
+      (all-of (zeroFrom c 16) 48
+      (λ i h.
+      eq-eqb _ _ (header-byte (16 + i) (omega arith) ∙ sym (getD-drop 16 (headerBytes g) i 0) ∙ getD-replicate 48 i 0 0 h)))))
+
+-- ---- format
+
+-- what format writes: the header and zeros
+abbrev front : Geometry → List ℕ
+front g = headerBytes g ++ replicate (64 + 8 * g .slots + 16 * g .blocks) 0
+
+length-front : (g : Geometry) → length (front g) ≡ 128 + 8 * g .slots + 16 * g .blocks
+length-front g =
+    length-append (headerBytes g) _ ∙ (λ t. length-header g t + length-replicate {A = ℕ} (64 + 8 * g .slots + 16 * g .blocks) 0 t) ∙ omega arith
+
+pub length-formatted : (g : Geometry) (c : List ℕ) → length (formatted g c) ≡ length c
+unfolding formatted
+length-formatted g c = length-patch c 0 (front g)
+
+pub kept-formatted : (g : Geometry) (c : List ℕ) (at n : ℕ) → 128 + 8 * g .slots + 16 * g .blocks ≤ at
+    → part (formatted g c) at n ≡ part c at n
+unfolding formatted
+kept-formatted g c at n h = part-patch-after c 0 (front g) at n (omega (arith, length-front g))
+
+module _ (g : Geometry) (c : List ℕ) (l : length c ≡ cardLength g) where
+  pub header-formatted : part (formatted g c) 0 64 ≡ headerBytes g
+  unfolding formatted cardLength
+  header-formatted =
+      ap (λ (r : List ℕ). part r 0 64) (patch-append c 0 (headerBytes g) _)
+      ∙ part-patch-before (patch c 0 (headerBytes g)) (0 + length (headerBytes g)) _ 0 64 (omega (arith, length-header g))
+      ∙ part-patch-same c 0 (headerBytes g) 64 (length-header g) (omega arith)
+
+  -- a byte after the header that format writes
+  zero-byte : (i : ℕ) → 64 ≤ i → i < 128 + 8 * g .slots + 16 * g .blocks → getD (formatted g c) i 0 ≡ 0
+  unfolding formatted cardLength headerBytes bytesBE
+  zero-byte i k h =
+      let past : i ≡ 64 + (i - 64) = omega arith in
+      ap (λ (j : ℕ). getD (patch c 0 (front g)) j 0) (omega arith)
+      ∙ getD-patch-in c 0 (front g) i (omega (arith, length-front g)) (omega arith)
+      ∙ ap (λ (j : ℕ). getD (front g) j 0) past
+      ∙ sym (getD-drop 64 (front g) (i - 64) 0)
+      ∙ getD-replicate (64 + 8 * g .slots + 16 * g .blocks) (i - 64) 0 0 (omega arith)
+
+  pub zero-formatted : (at n : ℕ) → at + n ≤ 128 + 8 * g .slots + 16 * g .blocks → 64 ≤ at → part (formatted g c) at n ≡ replicate n 0
+  unfolding cardLength
+  zero-formatted at n h k =
+      let e : length (part (formatted g c) at n) ≡ n = length-part (formatted g c) at n (omega (arith, length-formatted g c)) in
+      ext-getD 0 _ _ (e ∙ sym (length-replicate n 0))
+      (λ i p.
+      getD-part (formatted g c) at n i (omega arith)
+      ∙ zero-byte (at + i) (omega arith) (omega arith)
+      ∙ sym (getD-replicate n i 0 0 (omega arith)))
