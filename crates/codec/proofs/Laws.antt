@@ -1,14 +1,16 @@
--- An entry's bytes put one field after the other, and a single entry's refusals in their order. By the laws of patches side by side and by
--- cases on the tests; assumes nothing.
-use Prim.Native.Nat.{ℕ, _+_}
+-- A block's size by a shift, an entry's bytes put one field after the other, and a single entry's refusals in their order. By the laws of
+-- patches side by side and by cases on the tests; assumes nothing.
+use Prim.Native.Nat.{ℕ, _+_, _*_, _%_, _^_, _≤_}
 use mathlib.Core.List.{List, [], _∷_, _++_}
 use mathlib.Core.Bool.{Bool, true, false, _&&_}
-use mathlib.Core.Path.{_≡_, sym, ap, _∙_}
+use mathlib.Core.Path.{_≡_, refl, sym, ap, _∙_}
+use native.Mathlib.Nat.{one-mul}
 use native.Mathlib.Omega.{arith}
 use lib.ListN.{length, set, replicate}
+use lib.Pow.{shl-exact}
 use borrow.Author.Tests.{eq-eqb, ne-eqb}
 use Rattle.numbers.specs.Bytes.{bytesBE, patch}
-use Rattle.numbers.proofs.Laws.{length-bytes, length-patch, part-all, part-patch-same, patch-append, patch-one, patch-comm}
+use Rattle.numbers.proofs.Laws.{length-patch, part-all, part-patch-same, patch-append, patch-one, patch-comm}
 use Rattle.protocol.specs.declared.Entry.{Entry}
 use Rattle.protocol.specs.Entry.{entryBytes, entryIn, goodEntry}
 use Rattle.protocol.proofs.Codec.{length-entry}
@@ -19,35 +21,31 @@ use Rattle.protocol.specs.declared.Outcome.the-variants.{Done, Refused}
 use Rattle.protocol.specs.declared.Decoded.the-variants.{Fields, Refused as RefusedEntry}
 use Rattle.protocol.specs.declared.Encoded.{Encoded}
 
+pub shift-one : (k : ℕ) → k ≤ 12 → 1 * 2 ^ k % 2 ^ 64 ≡ 2 ^ k
+shift-one k h = shl-exact 1 k 64 (omega arith) (omega arith) ∙ one-mul (2 ^ k)
+
 -- one part put, and the next one behind it
-put-next : (s : List ℕ) (at : ℕ) (bs cs : List ℕ) (to : ℕ) → at + length bs ≡ to → patch s at (bs ++ cs) ≡ patch (patch s at bs) to cs
-put-next s at bs cs to h = patch-append s at bs cs ∙ ap (λ (k : ℕ). patch (patch s at bs) k cs) h
+pub put-then : (s₀ s₁ s₂ : List ℕ) (at : ℕ) (bs : List ℕ) (to : ℕ) (cs : List ℕ) → s₁ ≡ patch s₀ at bs → s₂ ≡ patch s₁ to cs
+    → at + length bs ≡ to → s₂ ≡ patch s₀ at (bs ++ cs)
+put-then s₀ s₁ s₂ at bs to cs p q h = q ∙ (λ t. patch (p t) (sym h t) cs) ∙ sym (patch-append s₀ at bs cs)
 
 -- one byte set before what was put
 set-before : (s : List ℕ) (at b : ℕ) (bs : List ℕ) → set (patch s (at + 1) bs) at b ≡ patch s at (b ∷ bs)
 set-before s at b bs =
     sym (patch-one (patch s (at + 1) bs) at b)
     ∙ sym (patch-comm s at (b ∷ []) (at + 1) bs (omega arith))
-    ∙ sym (put-next s at (b ∷ []) bs (at + 1) (omega arith))
+    ∙ put-then s _ _ at (b ∷ []) (at + 1) bs refl refl (omega arith)
 
 -- three numbers, each put behind the one before it, and the flag byte before them
 pub put-fields : (s₀ s₁ s₂ s₃ : List ℕ) (at : ℕ) (e : Entry) → s₁ ≡ patch s₀ (at + 1) (bytesBE 7 (e .number))
     → s₂ ≡ patch s₁ (at + 8) (bytesBE 4 (e .previous))
     → s₃ ≡ patch s₂ (at + 12) (bytesBE 4 (e .current))
     → set s₃ at (e .flags) ≡ patch s₀ at (entryBytes e)
-unfolding entryBytes
+unfolding entryBytes bytesBE
 put-fields s₀ s₁ s₂ s₃ at e p q r =
-    let number : List ℕ = bytesBE 7 (e .number) in
-    let previous : List ℕ = bytesBE 4 (e .previous) in
-    let current : List ℕ = bytesBE 4 (e .current) in
-    let fields : s₃ ≡ patch s₀ (at + 1) (number ++ (previous ++ current)) =
-    sym
-    (put-next s₀ (at + 1) number (previous ++ current) (at + 8) (omega (arith, length-bytes 7 (e .number)))
-    ∙ ap (λ (s : List ℕ). patch s (at + 8) (previous ++ current)) (sym p)
-    ∙ put-next s₁ (at + 8) previous current (at + 12) (omega (arith, length-bytes 4 (e .previous)))
-    ∙ ap (λ (s : List ℕ). patch s (at + 12) current) (sym q)
-    ∙ sym r) in
-    ap (λ (s : List ℕ). set s at (e .flags)) fields ∙ set-before s₀ at (e .flags) (number ++ (previous ++ current))
+    let two = put-then s₀ s₁ s₂ (at + 1) (bytesBE 7 (e .number)) (at + 8) (bytesBE 4 (e .previous)) p q (omega arith) in
+    let three = put-then s₀ s₂ s₃ (at + 1) _ (at + 12) (bytesBE 4 (e .current)) two r (omega arith) in
+    ap (λ (s : List ℕ). set s at (e .flags)) three ∙ set-before s₀ at (e .flags) _
 
 -- ---- a single entry: a and b are the tests of N and D, t that of check 5
 

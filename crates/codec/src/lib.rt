@@ -4,13 +4,15 @@ use numbers::put;
 use protocol::Decoded;
 use protocol::Encoded;
 use protocol::Entry;
+use protocol::Geometry;
 use protocol::FRESH;
 use protocol::Outcome;
 ghost use mathlib.Core.Path.{_≡_};
+ghost use mathlib.Core.Bool.{true};
 ghost use Prim.Native.Nat.{_+_, _≤_};
 ghost use lib.ListN.{length};
 ghost use Rattle.numbers.specs.Bytes.{patch};
-ghost use Rattle.protocol.specs.Layout.{goodK, goodSlots, goodBlocks, goodDisk};
+ghost use Rattle.protocol.specs.Layout.{goodK, goodSlots, goodBlocks, goodDisk, goodGeometry, blockSize, cardLength};
 ghost use Rattle.protocol.specs.Entry.{entryIn, entryBytes, inUse, isModified, hasLogRole, goodEntry};
 ghost use Rattle.protocol.specs.Format.{entryRefusal, decoded, encoded};
 
@@ -40,6 +42,29 @@ pub fn good_disk(d: u64) -> bool
     ensures { λ r. ⌜ r ≡ goodDisk d ⌝ }
 {
     (1 <= d) & (d <= 65536)
+}
+
+// All four within their limits.
+pub fn good_geometry(g: Geometry) -> bool
+    ensures { λ r. ⌜ r ≡ goodGeometry g ⌝ }
+{
+    good_k(g.k) & (good_slots(g.slots) & (good_blocks(g.blocks) & good_disk(g.disk)))
+}
+
+// B, two to the power k.
+pub fn block_size(g: Geometry) -> u64
+    requires { ⌜ goodGeometry g ≡ true ⌝ }
+    ensures { λ r. ⌜ r ≡ blockSize g ⌝ }
+{
+    1u64 << g.k
+}
+
+// The length of a card. Within the limits no sum wraps.
+pub fn card_length(g: Geometry) -> u64
+    requires { ⌜ goodGeometry g ≡ true ⌝ }
+    ensures { λ r. ⌜ r ≡ cardLength g ⌝ }
+{
+    128 + 8 * g.slots + 16 * g.blocks + g.blocks * block_size(g)
 }
 
 // V, bit 80.
