@@ -1,1 +1,4 @@
+pub mod Keys
+pub mod Marks
+pub mod Chain
 pub mod Laws

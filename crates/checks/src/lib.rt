@@ -1,242 +1,135 @@
-// Checks 1 to 7 of a card: the lowest refusal that holds, 0 for none, at every row of bytes, however damaged.
-ghost use mathlib.Core.Path.{_≡_};
-ghost use mathlib.Core.Bool.{true};
-ghost use Prim.Native.Nat.{_+_, _≤_, _<_};
-ghost use lib.ListN.{length};
-ghost use Rattle.protocol.specs.Below.{allBelow, around};
-ghost use Rattle.protocol.specs.Layout.{goodK, goodSlots, goodBlocks, goodDisk, goodGeometry, geometryOf, blockSize, cardLength, diskLength, goodHeader, zeroFrom};
-ghost use Rattle.protocol.specs.Ring.{headOf, tailOf, windowLength, windowOf, windowNumber, inWindow};
-ghost use Rattle.protocol.specs.Check.{headerFits, fitRefusal, diskRefusal, windowNumberFits, ringFits};
-ghost use Rattle.checks.specs.Fitted.{Fitted, Placed, WindowOf};
+// Checks 5 to 7 of a card: the lowest refusal that holds, 0 for none, at every row of bytes, however damaged.
+use protocol::Entry;
 use protocol::Geometry;
+ghost use mathlib.Core.Path.{_≡_};
+ghost use Prim.Native.Nat.{_≤_, _<_};
+ghost use lib.ListN.{length};
+ghost use Rattle.protocol.specs.Below.{anyBelow};
+ghost use Rattle.protocol.specs.Entry.{entryAt, inUse};
+ghost use Rattle.ring.specs.Fitted.{Fitted};
+ghost use Rattle.checks.specs.Keys.{NONE, key, keyed, distinct, keyAt};
+ghost use Rattle.checks.specs.Chain.{Chained};
+ghost use Rattle.checks.specs.Passed.{Decoded};
 
-fn good_k(k: u64) -> bool
-    ensures { λ r. ⌜ r ≡ goodK k ⌝ }
+// Entry i of the card.
+pub fn entry_of(g: Geometry, card: &[u8], i: usize) -> Entry
+    requires { ⌜ Fitted g (now card) × (i < g .blocks) ⌝ }
+    ensures { λ r. ⌜ r ≡ entryAt g (now (card .entry)) i ⌝ }
 {
-    (9 <= k) & (k <= 12)
+    let at = 128 + 8 * g.slots + 16 * i as u64;
+    codec::entry_at(card, at as usize)
 }
 
-fn good_slots(s: u64) -> bool
-    ensures { λ r. ⌜ r ≡ goodSlots s ⌝ }
+// The key of an entry: x, or where it is unused a number that no block has.
+fn key_of(e: Entry, x: u64) -> u32
+    requires { ⌜ x < NONE ⌝ }
+    ensures { λ r. ⌜ r ≡ key (inUse e) x ⌝ }
 {
-    (8 <= s) & (s <= 256) & (s % 8 == 0)
+    if codec::in_use(e) { x as u32 } else { 65536 }
 }
 
-fn good_blocks(n: u64) -> bool
-    ensures { λ r. ⌜ r ≡ goodBlocks n ⌝ }
-{
-    (4 <= n) & (n <= 128) & (n % 4 == 0)
+// What one pass over the entries finds: whether check 5 allows them all, and whether none has R.
+pub struct Seen {
+    pub fits: bool,
+    pub quiet: bool,
 }
 
-fn good_disk(d: u64) -> bool
-    ensures { λ r. ⌜ r ≡ goodDisk d ⌝ }
+// One pass over the entries, each decoded once: not 5, and the keys of their numbers and current blocks for check 6.
+fn decode(g: Geometry, card: &[u8], ids: &mut [u32; 128], currents: &mut [u32; 128]) -> Seen
+    requires { ⌜ Fitted g (now card) × (length (now ids) ≡ 128) × (length (now currents) ≡ 128) ⌝ }
+    ensures { λ r. ⌜ Decoded g (now (card .entry)) (now (ids .exit)) (now (currents .exit)) r ⌝ }
 {
-    (1 <= d) & (d <= 65536)
-}
-
-// "B is two to the power k", by a shift.
-pub fn block_size(g: Geometry) -> u64
-    requires { ⌜ goodGeometry g ≡ true ⌝ }
-    ensures { λ r. ⌜ r ≡ blockSize g ⌝ }
-{
-    1u64 << g.k
-}
-
-pub fn card_length(g: Geometry) -> u64
-    requires { ⌜ goodGeometry g ≡ true ⌝ }
-    ensures { λ r. ⌜ r ≡ cardLength g ⌝ }
-{
-    128 + 8 * g.slots + 16 * g.blocks + g.blocks * block_size(g)
-}
-
-pub fn disk_length(g: Geometry) -> u64
-    requires { ⌜ goodGeometry g ≡ true ⌝ }
-    ensures { λ r. ⌜ r ≡ diskLength g ⌝ }
-{
-    g.disk * block_size(g)
-}
-
-// The geometry that the header spells, its fields within their limits or not.
-pub fn geometry_of(card: &[u8]) -> Geometry
-    requires { ⌜ 128 ≤ length (now card) ⌝ }
-    ensures { λ r. ⌜ r ≡ geometryOf (now (card .entry)) ⌝ }
-{
-    Geometry {
-        k: card[5] as u64,
-        slots: numbers::get(card, 6, 2),
-        blocks: numbers::get(card, 8, 4),
-        disk: numbers::get(card, 12, 4),
-    }
-}
-
-fn good_geometry(g: Geometry) -> bool
-    ensures { λ r. ⌜ r ≡ goodGeometry g ⌝ }
-{
-    good_k(g.k) & (good_slots(g.slots) & (good_blocks(g.blocks) & good_disk(g.disk)))
-}
-
-// Whether the n bytes from `at` on are zero.
-fn zeros(card: &[u8], at: usize, n: usize) -> bool
-    requires { ⌜ at + n ≤ length (now card) ⌝ }
-    ensures { λ r. ⌜ r ≡ allBelow (zeroFrom (now (card .entry)) at) n ⌝ }
-{
+    let n = g.blocks as usize;
+    let mut quiet = true;
     let mut i: usize = 0;
     while i < n {
-        if card[at + i] != 0 {
-            return false;
+        let e = entry_of(g, card, i);
+        if !codec::good_entry(g.blocks, g.disk, e) {
+            return Seen {
+                fits: false,
+                quiet: false,
+            };
         }
+        ids[i] = key_of(e, e.number);
+        currents[i] = key_of(e, e.current as u64);
+        quiet = quiet & !codec::has_log_role(e);
         i += 1;
     }
-    true
-}
-
-fn good_header(card: &[u8]) -> bool
-    requires { ⌜ 128 ≤ length (now card) ⌝ }
-    ensures { λ r. ⌜ r ≡ goodHeader (now (card .entry)) ⌝ }
-{
-    let long = numbers::get(card, 0, 4) == 64;
-    let version = card[4] == 1;
-    long & (version & (good_geometry(geometry_of(card)) & zeros(card, 16, 48)))
-}
-
-fn header_fits(card: &[u8]) -> bool
-    ensures { λ r. ⌜ r ≡ headerFits (now (card .entry)) ⌝ }
-{
-    if card.len() < 128 {
-        return false;
-    }
-    good_header(card)
-}
-
-// 1 and 2: what the fitter can get wrong on the card.
-pub fn fit_refusal(card: &[u8]) -> u8
-    ensures { λ r. ⌜ r ≡ fitRefusal (now (card .entry)) ⌝ }
-{
-    if !header_fits(card) {
-        return 1;
-    }
-    if card.len() as u64 == card_length(geometry_of(card)) {
-        0
-    } else {
-        2
+    Seen {
+        fits: true,
+        quiet: quiet,
     }
 }
 
-// 3: a disk of the wrong length.
-pub fn disk_refusal(g: Geometry, disk: &[u8]) -> u8
-    requires { ⌜ goodGeometry g ≡ true ⌝ }
-    ensures { λ r. ⌜ r ≡ diskRefusal g (now (disk .entry)) ⌝ }
+fn wide(k: u32) -> usize
+    ensures { λ r. ⌜ r ≡ k ⌝ }
 {
-    if disk.len() as u64 == disk_length(g) {
-        0
-    } else {
-        3
-    }
+    k as usize
 }
 
-// The window: where it starts and how many slots it has.
-pub struct Window {
-    pub tail: u64,
-    pub count: u64,
-}
-
-pub fn head_of(card: &[u8]) -> u64
-    requires { ⌜ 128 ≤ length (now card) ⌝ }
-    ensures { λ r. ⌜ r ≡ headOf (now (card .entry)) ⌝ }
+// Whether no two keys of data blocks are equal, by a mark for each block.
+fn blocks_apart(keys: &[u32; 128], n: usize) -> bool
+    requires { ⌜ n ≤ 128 ⌝ }
+    ensures { λ r. ⌜ r ≡ distinct (keyAt (now (keys .entry))) 128 n ⌝ }
 {
-    numbers::get(card, 64, 8)
-}
-
-pub fn tail_of(card: &[u8]) -> u64
-    requires { ⌜ 128 ≤ length (now card) ⌝ }
-    ensures { λ r. ⌜ r ≡ tailOf (now (card .entry)) ⌝ }
-{
-    numbers::get(card, 72, 8)
-}
-
-fn window_length(s: u64, tail: u64, head: u64) -> u64
-    requires { ⌜ (tail < s) × (head < s) × (s ≤ 256) ⌝ }
-    ensures { λ r. ⌜ r ≡ windowLength s tail head ⌝ }
-{
-    if tail <= head {
-        head - tail
-    } else {
-        head + s - tail
-    }
-}
-
-pub fn window_of(g: Geometry, card: &[u8]) -> Window
-    requires { ⌜ Fitted g (now card) × Placed g (now card) ⌝ }
-    ensures { λ r. ⌜ WindowOf g (now (card .entry)) r ⌝ }
-{
-    let head = head_of(card);
-    let tail = tail_of(card);
-    Window {
-        tail: tail,
-        count: window_length(g.slots, tail, head),
-    }
-}
-
-// The slot j places forward from `tail`, going round at s.
-fn forward(s: u64, tail: u64, j: u64) -> u64
-    requires { ⌜ (tail < s) × (j < s) × (s ≤ 256) ⌝ }
-    ensures { λ r. ⌜ (r ≡ around s tail j) × (r < s) ⌝ }
-{
-    let ahead = tail + j;
-    if ahead < s { ahead } else { ahead - s }
-}
-
-// The number in the window's slot j, counted from Tail.
-fn window_number(g: Geometry, card: &[u8], w: Window, j: u64) -> u64
-    requires { ⌜ Fitted g (now card) × WindowOf g (now card) w × (j < w .count) ⌝ }
-    ensures { λ r. ⌜ r ≡ windowNumber g (now (card .entry)) j ⌝ }
-{
-    let at = 128 + 8 * forward(g.slots, w.tail, j);
-    numbers::get(card, at as usize, 8)
-}
-
-// Whether each number in the window is below D.
-fn window_fits(g: Geometry, card: &[u8], w: Window) -> bool
-    requires { ⌜ Fitted g (now card) × WindowOf g (now card) w ⌝ }
-    ensures { λ r. ⌜ r ≡ allBelow (windowNumberFits g (now (card .entry))) (w .count) ⌝ }
-{
-    let count = w.count;
-    let mut j: u64 = 0;
-    while j < count {
-        if window_number(g, card, w, j) >= g.disk {
-            return false;
+    let mut marks = [0u8; 128];
+    let mut i: usize = 0;
+    while i < n {
+        let k = wide(keys[i]);
+        i += 1;
+        if k < 128 {
+            if marks[k] != 0 {
+                return false;
+            }
+            marks[k] = 1;
         }
-        j += 1;
     }
     true
 }
 
-// Whether the number b stands in the window. A settled card's window is empty, so there it costs nothing.
-pub fn in_window(g: Geometry, card: &[u8], w: Window, b: u64) -> bool
-    requires { ⌜ Fitted g (now card) × WindowOf g (now card) w ⌝ }
-    ensures { λ r. ⌜ r ≡ inWindow g (now (card .entry)) b ⌝ }
+fn index(x: u8) -> usize
+    ensures { λ r. ⌜ r ≡ x ⌝ }
 {
-    let count = w.count;
-    let mut j: u64 = 0;
-    while j < count {
-        if window_number(g, card, w, j) == b {
+    x as usize
+}
+
+// Whether the key k stands in its chain, from the index before `from` down.
+fn chained(keys: &[u32; 128], links: &[u8; 128], k: u32, from: u8) -> bool
+    requires { ⌜ Chained (keyAt (now keys)) (now links) k from × (from ≤ 128) ⌝ }
+    ensures { λ r. ⌜ r ≡ anyBelow (keyed (keyAt (now (keys .entry))) k) from ⌝ }
+{
+    let mut at = from as usize;
+    while 0 < at {
+        at -= 1;
+        if keys[at] == k {
             return true;
         }
-        j += 1;
+        at = index(links[at]);
     }
     false
 }
 
-// Not 4: Head and Tail below S, the window's numbers below D.
-pub fn ring_fits(g: Geometry, card: &[u8]) -> bool
-    requires { ⌜ Fitted g (now card) ⌝ }
-    ensures { λ r. ⌜ r ≡ ringFits g (now (card .entry)) ⌝ }
+// Whether no two keys of disk blocks are equal. Each is compared with those before it that leave the same remainder, mostly none.
+fn numbers_apart(keys: &[u32; 128], n: usize) -> bool
+    requires { ⌜ n ≤ 128 ⌝ }
+    ensures { λ r. ⌜ r ≡ distinct (keyAt (now (keys .entry))) NONE n ⌝ }
 {
-    if head_of(card) >= g.slots {
-        return false;
+    let mut heads = [0u8; 1024];
+    let mut links = [0u8; 128];
+    let mut i: usize = 0;
+    while i < n {
+        let at = i;
+        let k = keys[at];
+        i += 1;
+        if k < 65536 {
+            let r = (k % 1024) as usize;
+            let from = heads[r];
+            if chained(keys, &links, k, from) {
+                return false;
+            }
+            links[at] = from;
+            heads[r] = i as u8;
+        }
     }
-    if tail_of(card) >= g.slots {
-        return false;
-    }
-    window_fits(g, card, window_of(g, card))
+    true
 }
