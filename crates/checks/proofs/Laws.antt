@@ -49,13 +49,19 @@ current-small g c e ok f q h = entry-limits g e ok (f .good) q h .1
 
 -- ---- a row of keys
 
-lists-more : (f : ℕ → ℕ) (xs : List ℕ) (i k : ℕ) → i < length xs → Lists f xs i → k ≡ f i → Lists f (set xs i k) (i + 1)
+pub lists-none : (f : ℕ → ℕ) (xs : List ℕ) → Lists f xs 0
+lists-none f xs j h = absurd (not-suc-le-zero h)
+
+pub lists-more : (f : ℕ → ℕ) (xs : List ℕ) (i k : ℕ) → i < length xs → Lists f xs i → k ≡ f i → Lists f (set xs i k) (i + 1)
 unfolding keyAt
 lists-more f xs i k l h e j b =
     ⊎-elim
     (λ (q : j ≡ i). subst (λ (x : ℕ). getD (set xs i k) x 0 ≡ f x) (sym q) (getD-set-same xs i k 0 l ∙ e))
     (λ (q : j < i). getD-set-other xs i j k 0 (omega arith) ∙ h j q)
     (last-or-before j i (rw add-one at b))
+
+pub lists-all : (f : ℕ → ℕ) (xs : List ℕ) (i n : ℕ) → n ≤ i → Lists f xs i → Lists f xs n
+lists-all f xs i n l h j b = h j (omega arith)
 
 -- what the pass has shown after i entries
 pub record Listed (g : Geometry) (c : List ℕ) (i : ℕ) (quiet : Bool) (ns cs : List ℕ) : Type 0 where
@@ -70,8 +76,8 @@ unfolding allBelow
 listed-start g c ns cs a b = record {
   good = refl;
   silent = refl;
-  numbers = λ j h. absurd (not-suc-le-zero h);
-  currents = λ j h. absurd (not-suc-le-zero h);
+  numbers = lists-none (numberKey g c) ns;
+  currents = lists-none (currentKey g c) cs;
   long = (a, b);
 }
 
@@ -108,6 +114,6 @@ listed-end g c i quiet ns cs h a b =
     record {
       fits = sym (all-done (goodEntryAt g c) (g .blocks) i (h .good) a b);
       quiet = λ t. h .silent ∙ ap (allBelow (roleFreeAt g c)) e;
-      numbers = λ t j l. h .numbers j (omega arith);
-      currents = λ t j l. h .currents j (omega arith);
+      numbers = λ t. lists-all (numberKey g c) ns i (g .blocks) a (h .numbers);
+      currents = λ t. lists-all (currentKey g c) cs i (g .blocks) a (h .currents);
     }

@@ -1,14 +1,15 @@
 -- Check 6 as a search for equal keys: what is compared of an entry, as one number, and when a row of keys has no two equal ones.
 use Prim.Native.Nat.{ℕ, _<_}
 use mathlib.Core.List.{List}
-use mathlib.Core.Bool.{Bool, cond, not, _&&_}
+use mathlib.Core.Bool.{Bool, cond, not, _&&_, _||_}
 use mathlib.Core.Path.{_≡_}
 use lib.ListN.{getD}
 use lib.Dec.{eqb, ltb}
 use Rattle.protocol.specs.declared.Geometry.{Geometry}
+use Rattle.protocol.specs.declared.Entry.{Entry}
 use Rattle.protocol.specs.Below.{allBelow, anyBelow}
-use Rattle.protocol.specs.Entry.{entryAt}
-use Rattle.protocol.specs.Ring.{usedAt, settledBlock}
+use Rattle.protocol.specs.Entry.{entryAt, inUse, hasLogRole}
+use Rattle.protocol.specs.Ring.{inWindow, usedAt, settledBlock}
 
 -- the key of an unused entry: no disk block and no data block has this number
 abbrev pub NONE : ℕ
@@ -29,6 +30,10 @@ currentKey g c i = key (usedAt g c i) (entryAt g c i .current)
 -- the settled block of entry i, or FRESH
 unfoldable pub settledKey : Geometry → List ℕ → ℕ → ℕ
 settledKey g c i = key (usedAt g c i) (settledBlock g c i)
+
+-- the entry e, which may stand anywhere, is undoable
+unfoldable pub undoableEntry : Geometry → List ℕ → Entry → Bool
+undoableEntry g c e = inUse e && (hasLogRole e || inWindow g c (e .number))
 
 -- index j has the key v
 unfoldable pub keyed : (ℕ → ℕ) → ℕ → ℕ → Bool

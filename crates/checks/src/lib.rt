@@ -1,15 +1,17 @@
 // Checks 5 to 7 of a card: the lowest refusal that holds, 0 for none, at every row of bytes, however damaged.
 use protocol::Entry;
 use protocol::Geometry;
+use ring::Window;
 ghost use mathlib.Core.Path.{_≡_};
 ghost use Prim.Native.Nat.{_≤_, _<_};
 ghost use lib.ListN.{length};
 ghost use Rattle.protocol.specs.Below.{anyBelow};
 ghost use Rattle.protocol.specs.Entry.{entryAt, inUse};
-ghost use Rattle.ring.specs.Fitted.{Fitted};
-ghost use Rattle.checks.specs.Keys.{NONE, key, keyed, distinct, keyAt};
+ghost use Rattle.protocol.specs.Check.{entriesApart};
+ghost use Rattle.ring.specs.Fitted.{Fitted, Placed, WindowOf};
+ghost use Rattle.checks.specs.Keys.{NONE, key, settledKey, undoableEntry, keyed, distinct, keyAt};
 ghost use Rattle.checks.specs.Chain.{Chained};
-ghost use Rattle.checks.specs.Passed.{Decoded};
+ghost use Rattle.checks.specs.Passed.{Decoded, Comparable};
 
 // Entry i of the card.
 pub fn entry_of(g: Geometry, card: &[u8], i: usize) -> Entry
@@ -132,4 +134,68 @@ fn numbers_apart(keys: &[u32; 128], n: usize) -> bool
         }
     }
     true
+}
+
+// Whether the entry e is undoable: in use, and with R or its number in the window.
+pub fn undoable(g: Geometry, card: &[u8], w: Window, e: Entry) -> bool
+    requires { ⌜ Fitted g (now card) × WindowOf g (now card) w ⌝ }
+    ensures { λ r. ⌜ r ≡ undoableEntry g (now (card .entry)) e ⌝ }
+{
+    if !codec::in_use(e) {
+        return false;
+    }
+    if codec::has_log_role(e) {
+        return true;
+    }
+    ring::in_window(g, card, w, e.number)
+}
+
+// The key of the settled block of entry i: FRESH where it has none.
+fn settled_key(g: Geometry, card: &[u8], w: Window, i: usize) -> u32
+    requires { ⌜ Fitted g (now card) × WindowOf g (now card) w × (i < g .blocks) ⌝ }
+    ensures { λ r. ⌜ r ≡ settledKey g (now (card .entry)) i ⌝ }
+{
+    let e = entry_of(g, card, i);
+    if !codec::in_use(e) {
+        return 65536;
+    }
+    if undoable(g, card, w, e) {
+        e.previous
+    } else {
+        e.current
+    }
+}
+
+// Whether no two settled blocks are equal.
+fn settled_apart(g: Geometry, card: &[u8]) -> bool
+    requires { ⌜ Fitted g (now card) × Placed g (now card) ⌝ }
+    ensures { λ r. ⌜ r ≡ distinct (settledKey g (now (card .entry))) 128 (g .blocks) ⌝ }
+{
+    let w = ring::window_of(g, card);
+    let n = g.blocks as usize;
+    let mut keys = [0u32; 128];
+    let mut i: usize = 0;
+    while i < n {
+        keys[i] = settled_key(g, card, w, i);
+        i += 1;
+    }
+    blocks_apart(&keys, n)
+}
+
+// Not 6, from the keys of numbers and current blocks. A settled card's settled blocks are its current ones.
+fn entries_apart(g: Geometry, card: &[u8], ids: &[u32; 128], currents: &[u32; 128], settled: bool) -> bool
+    requires { ⌜ Comparable g (now card) (now ids) (now currents) settled ⌝ }
+    ensures { λ r. ⌜ r ≡ entriesApart g (now (card .entry)) ⌝ }
+{
+    let n = g.blocks as usize;
+    if !numbers_apart(ids, n) {
+        return false;
+    }
+    if !blocks_apart(currents, n) {
+        return false;
+    }
+    if settled {
+        return true;
+    }
+    settled_apart(g, card)
 }
