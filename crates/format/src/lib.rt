@@ -1,0 +1,61 @@
+// Format: the header written, the control bytes, slots and entries zeroed, the data blocks left.
+use codec::card_length;
+use codec::good_geometry;
+use numbers::fill;
+use numbers::put;
+use protocol::Geometry;
+use protocol::Outcome;
+ghost use mathlib.Core.Path.{_≡_};
+ghost use mathlib.Core.Bool.{true};
+ghost use Prim.Native.Nat.{_≤_};
+ghost use lib.ListN.{length};
+ghost use Rattle.numbers.specs.Bytes.{patch};
+ghost use Rattle.protocol.specs.Table.{geometry};
+ghost use Rattle.protocol.specs.Layout.{goodGeometry, cardLength};
+ghost use Rattle.protocol.specs.Format.{outcomeOf, formatRefusal, formatted, afterFormat};
+ghost use Rattle.format.specs.Fields.{fieldBytes};
+
+// Writes the header's fields, one after the other.
+fn put_fields(card: &mut [u8], g: Geometry)
+    requires { ⌜ 16 ≤ length (now card) ⌝ }
+    ensures { λ _. ⌜ now (card .exit) ≡ patch (now (card .entry)) 0 (fieldBytes g) ⌝ }
+{
+    put(card, 0, 4, 64);
+    put(card, 4, 1, 1);
+    put(card, 5, 1, g.k);
+    put(card, 6, 2, g.slots);
+    put(card, 8, 4, g.blocks);
+    put(card, 12, 4, g.disk);
+}
+
+// Writes the header and zeros what follows it up to the data blocks.
+fn lay_out(card: &mut [u8], g: Geometry)
+    requires { ⌜ (goodGeometry g ≡ true) × (length (now card) ≡ cardLength g) ⌝ }
+    ensures { λ _. ⌜ now (card .exit) ≡ formatted g (now (card .entry)) ⌝ }
+{
+    put_fields(card, g);
+    fill(card, 16, (112 + 8 * g.slots + 16 * g.blocks) as usize, 0);
+}
+
+// Formats the card, or refuses and leaves every byte of it. The limits are tested first: outside of them the length may not fit a number.
+pub fn format(k: u64, slots: u64, blocks: u64, disk: u64, card: &mut [u8]) -> Outcome
+    ensures answer { λ r. ⌜ r ≡ outcomeOf (formatRefusal (geometry k slots blocks disk) (now (card .entry))) ⌝ }
+    ensures card { λ _. ⌜ now (card .exit) ≡ afterFormat (geometry k slots blocks disk) (now (card .entry)) ⌝ }
+{
+    let g = Geometry {
+        k: k,
+        slots: slots,
+        blocks: blocks,
+        disk: disk,
+    };
+    if good_geometry(g) {
+        if card.len() as u64 == card_length(g) {
+            lay_out(card, g);
+            Outcome::Done
+        } else {
+            Outcome::Refused(2)
+        }
+    } else {
+        Outcome::Refused(1)
+    }
+}
