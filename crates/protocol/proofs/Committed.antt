@@ -1,43 +1,40 @@
 -- Commit, cut before Tail's store, keeps the invariant and the row; Tail's store replaces the row's blocks by those given. The progress of a
 -- commit is told by how many entries are logged, how many numbers the window has taken in, and how many entries are switched. Assumes nothing.
-use Prim.Native.Nat.{ℕ, zero, suc, _+_, _*_, _-_, _≤_, _<_}
+use Prim.Native.Nat.{ℕ, suc, _+_, _*_, _-_, _≤_, _<_}
 use mathlib.Core.List.{List, [], _∷_, _++_, append-assoc}
-use mathlib.Core.Bool.{Bool, true, false, cond, not, _&&_, _||_}
+use mathlib.Core.Bool.{Bool, true, false, cond, not, _||_}
 use mathlib.Core.Option.{Option, none, some}
 use mathlib.Core.Path.{_≡_, refl, sym, ap, subst, _∙_}
 use mathlib.Core.Logic.{_⊎_, inl, inr, ⊎-elim}
-use native.Mathlib.Nat.{add-zero}
 use native.Mathlib.Numerals.{add-one}
 use native.Mathlib.Omega.{arith}
 use lib.ListN.{length, take, getD}
-use lib.Seq.{take-length}
-use lib.Dec.{eqb, leb, ltb}
-use borrow.Author.Tests.{leb-true, ltb-true, eqb-true, eqb-false, eq-eqb, ne-eqb, lt-ltb, le-ltb, not-true, not-false}
-use Rattle.numbers.specs.Bytes.{part}
+use lib.Dec.{eqb}
+use borrow.Author.Tests.{leb-true, ltb-true, eqb-true, eqb-false, eq-eqb, ne-eqb, lt-ltb, le-ltb, not-true}
 use Rattle.numbers.proofs.Laws.{length-part}
 use Rattle.protocol.specs.declared.Entry.{Entry}
 use Rattle.protocol.specs.declared.Geometry.{Geometry}
-use Rattle.protocol.specs.Below.{allBelow, anyBelow, countBelow, firstBelow, eachBelow, around}
+use Rattle.protocol.specs.Below.{anyBelow, countBelow, eachBelow, around}
 use Rattle.protocol.specs.Layout.{blockSize, blockAt, diskBlock}
-use Rattle.protocol.specs.Entry.{FRESH, entryOf, entryAt, inUse, isModified, hasLogRole, goodEntry, switched}
-use Rattle.protocol.specs.Ring.{headOf, tailOf, slotAt, windowLength, windowOf, windowNumber, windowHas, inWindow, usedAt, undoableAt, isSettled, findEntry, cached, currentOf}
-use Rattle.protocol.specs.Store.{card, disk, Store, Run, storedOn, madeOn, flat, single, words, entryStore, slotStore, headStore, tailStore}
+use Rattle.protocol.specs.Entry.{FRESH, entryAt, inUse, isModified, hasLogRole, goodEntry, switched}
+use Rattle.protocol.specs.Ring.{headOf, tailOf, slotAt, windowLength, windowOf, windowNumber, windowHas, inWindow, usedAt, findEntry, cached, currentOf}
+use Rattle.protocol.specs.Store.{card, disk, Store, storedOn, madeOn, flat, single, words, entryStore, slotStore, headStore, tailStore}
 use Rattle.protocol.specs.Search.{freeBlocks, unusedEntries}
 use Rattle.protocol.specs.Commit.{numberOf, uncachedAt, newBlock, entryFound, oldBlock, logEntry, dataOf, headAfter, blockRuns, switchRuns, commitRuns, countFits, dataFits, numberFits, numbersFit, numbersDiffer, newNumber, numbersApart, roomFor}
 use Rattle.protocol.specs.History.{placeAmong, replaced}
-use Rattle.protocol.proofs.Allowed.{UsedEntry, Flag, logged, modified, used-good, log-used, log-role, log-modified, kept-used, kept-role, kept-modified}
-use Rattle.protocol.proofs.Below.{either, same-or-other, below-or-above, last-or-before, absurd-bool, and-left, and-right, all-at, any-found, any-at, any-none, any-witness, count-le, count-below, first-at, first-none, around-below, around-apart, around-next}
+use Rattle.protocol.proofs.Allowed.{logged, modified, used-good, log-used, log-role, log-modified, kept-used, kept-role, kept-modified}
+use Rattle.protocol.proofs.Below.{either, below-or-above, last-or-before, absurd-bool, and-left, and-right, all-at, any-found, any-at, any-witness, count-le, count-below, first-at, first-none, around-below, around-apart, around-next}
 use Rattle.protocol.proofs.Checks.{Limits, limits}
-use Rattle.protocol.proofs.Holds.{idle-kind, live-kind, used-number, number-used, used-current, empty-window, no-undoable}
-use Rattle.protocol.proofs.Invariant.{Kind, idle, live, pending, kindNumber, kindCurrent, kindPrevious, kindHome, View, Safe, Owes}
+use Rattle.protocol.proofs.Holds.{idle-kind, live-kind, used-number, number-used, empty-window, no-undoable}
+use Rattle.protocol.proofs.Invariant.{idle, live, pending, kindNumber, kindCurrent, kindPrevious, kindHome, Owes}
 use Rattle.protocol.proofs.Loaded.{Rest, settled-ring, settled-role, Cached, cached-entry, not-cached}
 use Rattle.protocol.proofs.Made.{entry-changed, entry-stored, entry-elsewhere, head-changed, head-stored, head-elsewhere, slot-changed, slot-stored, slot-elsewhere, tail-changed, tail-stored, tail-elsewhere, words-changed, words-changed-all, words-elsewhere, words-stored}
 use Rattle.protocol.proofs.Passed.{CommitPassed}
-use Rattle.protocol.proofs.Planned.{new-below, new-free, new-apart, unused-below, unused-is, unused-apart, enough-unused, no-previous, current-used}
+use Rattle.protocol.proofs.Planned.{new-below, new-free, new-apart, unused-below, unused-is, unused-apart, enough-unused, no-previous}
 use Rattle.protocol.proofs.Recovered.{fits-entry}
 use Rattle.protocol.proofs.Region.{entry, block, slot, head, tail, block-ends}
-use Rattle.protocol.proofs.Shape.{Changed, head-kept, tail-kept, slot-kept, entry-kept, block-kept, window-empty, window-kept, number-kept, kindOf, kindAt, viewOf, Seen, seen-idle, seen-live, seen-pending, see, previousOf, previous-none, previous-is, previous-some, Shape, Inv}
-use Rattle.protocol.proofs.Steps.{undoable, entry-changes, entry-stays, run-in-block, slot-changes, head-moves, window-longer, number-stays, number-last, tail-moves, tail-settled, window-below, head-after}
+use Rattle.protocol.proofs.Shape.{Changed, head-kept, tail-kept, slot-kept, entry-kept, block-kept, window-empty, window-kept, number-kept, kindOf, kindAt, viewOf, Seen, seen-idle, seen-live, seen-pending, see, previousOf, previous-none, previous-is, previous-some, Inv}
+use Rattle.protocol.proofs.Steps.{entry-changes, entry-stays, run-in-block, slot-changes, head-moves, window-longer, number-stays, number-last, tail-moves, tail-settled, window-below, head-after}
 use Rattle.protocol.proofs.Stores.{Along, along-then, along-one, along-run, along-each, flat-append, flat-single, made-append}
 
 -- k is one of f's values below a, or none of them

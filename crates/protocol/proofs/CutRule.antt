@@ -1,46 +1,43 @@
 -- The cut rule and the plain row: by induction over the list of calls, from a formatted card, with the invariant at every call. Assumes nothing.
-use Prim.Native.Nat.{ℕ, zero, suc, _+_, _*_, _-_, _≤_, _<_}
+use Prim.Native.Nat.{ℕ, _≤_, _<_}
 use mathlib.Core.List.{List, [], _∷_, _++_}
 use mathlib.Core.Bool.{Bool, true, false, cond}
 use mathlib.Core.Option.{Option, none, some}
 use mathlib.Core.Path.{_≡_, refl, sym, ap, subst, _∙_}
-use mathlib.Core.Logic.{_⊎_, inl, inr, ⊎-elim}
+use mathlib.Core.Logic.{_⊎_, inl, inr}
 use native.Mathlib.Omega.{arith}
-use lib.ListN.{length, take, replicate, length-append}
+use lib.ListN.{length, take, length-append}
 use lib.Seq.{take-all, take-length, take-append-le}
 use lib.Dec.{eqb, ltb}
 use borrow.Author.Tests.{eqb-true, eqb-false, eq-eqb, ltb-true, ltb-false}
 use Rattle.numbers.specs.Bytes.{beFrom, be, part, numberAt}
 use Rattle.protocol.specs.declared.Answer.{Answer}
 use Rattle.protocol.specs.declared.Answer.the-variants.{Done, Cut, Refused}
-use Rattle.protocol.specs.declared.Outcome.{Outcome}
 use Rattle.protocol.specs.declared.Outcome.the-variants.{Done as FormatDone, Refused as FormatRefused}
-use Rattle.protocol.specs.declared.Entry.{Entry}
 use Rattle.protocol.specs.declared.Geometry.{Geometry}
-use Rattle.protocol.specs.Layout.{goodGeometry, cardLength, diskLength, diskBlock, geometryOf, entryPlace, headerBytes}
+use Rattle.protocol.specs.Layout.{goodGeometry, cardLength, diskLength, diskBlock, entryPlace}
 use Rattle.protocol.specs.Entry.{unused, entryIn, entryAt, inUse, hasLogRole, goodEntry}
-use Rattle.protocol.specs.Ring.{headOf, tailOf, windowLength, windowOf, usedAt, undoableAt, isSettled, contents}
-use Rattle.protocol.specs.Check.{refuse, _orElse_, cardFits}
-use Rattle.protocol.specs.Store.{Medium, card, disk, Store, Run, Work, madeOn, flat, made, storesOf, answerOf, afterOn, tailStore}
+use Rattle.protocol.specs.Ring.{headOf, tailOf, windowLength, windowOf, usedAt, undoableAt, isSettled}
+use Rattle.protocol.specs.Check.{refuse, cardFits}
+use Rattle.protocol.specs.Store.{Medium, card, disk, Store, Work, madeOn, flat, made, storesOf, answerOf, afterOn, tailStore}
 use Rattle.protocol.specs.Format.{outcomeOf, formatRefusal, formatted, afterFormat}
 use Rattle.protocol.specs.Commit.{commitRefusal, commitRuns, commitWork, headAfter}
-use Rattle.protocol.specs.Load.{loadRefusal, loadRuns, loadWork, evictRefusal, evictRuns, evictWork}
-use Rattle.protocol.specs.Recover.{recoverRefusal, recoverRuns, recoverWork}
+use Rattle.protocol.specs.Load.{loadRuns, loadWork, evictRuns, evictWork}
+use Rattle.protocol.specs.Recover.{recoverRuns, recoverWork}
 use Rattle.protocol.specs.History.{Call, commit, load, evict, recover, Request, Media, workOf, answerTo, after, run, answers, fresh, Row, replaced, rowStep, rowAfter}
-use Rattle.protocol.specs.CutRule.{left, rowLeft, recovering, Sound, CutRule, Uncut, PlainRow}
+use Rattle.protocol.specs.CutRule.{left, rowLeft, recovering, CutRule, Uncut, PlainRow}
 use Rattle.protocol.proofs.Allowed.{unused-good, unused-used, unused-role}
 use Rattle.protocol.proofs.Below.{either, absurd-bool, and-left}
 use Rattle.protocol.proofs.Checks.{Limits, limits}
 use Rattle.protocol.proofs.Codec.{entry-of-part, header-formatted, length-formatted, zero-formatted}
 use Rattle.protocol.proofs.Committed.{front, commit-flat, commit-cut, commit-done}
 use Rattle.protocol.proofs.Holds.{geometry-is, recover-passes, contents-hold, read-holds, look-holds, read-refuses, look-refuses, idle-kind}
-use Rattle.protocol.proofs.Invariant.{Kind, idle, kindNumber, kindCurrent, kindPrevious, kindHome, Safe}
+use Rattle.protocol.proofs.Invariant.{Kind, idle, kindNumber, kindCurrent, kindPrevious}
 use Rattle.protocol.proofs.Loaded.{Rest, eviction, loading}
 use Rattle.protocol.proofs.Passed.{first-zero, second-zero, passed, evict-passed, load-passed, commit-passed}
 use Rattle.protocol.proofs.Recovered.{recovery, settled-by}
-use Rattle.protocol.proofs.Region.{place, in-card, place-entry}
-use Rattle.protocol.proofs.Shape.{kindAt, viewOf, Shape, Inv, window-empty}
-use Rattle.protocol.proofs.Stores.{Along, length-made}
+use Rattle.protocol.proofs.Shape.{kindAt, Shape, Inv, window-empty}
+use Rattle.protocol.proofs.Stores.{Along}
 
 -- ---- what a call leaves, by its answer
 

@@ -2,17 +2,17 @@
 -- In each the card holds 7 in blocks 2 and 3 before the slip, and nothing but 7 may be read after it: the save of 8 is never finished.
 use Prim.Native.Nat.{ℕ, _+_}
 use mathlib.Core.List.{List, [], _∷_, _++_}
-use mathlib.Core.Bool.{Bool, true, false, cond, _&&_}
+use mathlib.Core.Bool.{Bool, cond, _&&_}
 use mathlib.Core.Path.{_≡_}
-use lib.ListN.{length, replicate}
+use lib.ListN.{replicate}
 use lib.Dec.{eqb}
 use Rattle.protocol.specs.declared.Entry.{Entry}
 use Rattle.protocol.specs.declared.Geometry.{Geometry}
 use Rattle.protocol.specs.Below.{eachBelow}
 use Rattle.protocol.specs.Entry.{FRESH, entryOf, unused, entryAt}
 use Rattle.protocol.specs.Ring.{headOf, inWindow, usedAt, undoableAt, findEntry}
-use Rattle.protocol.specs.Store.{card, disk, Run, madeOn, made, words, entryStore, slotStore, headStore, tailStore, single}
-use Rattle.protocol.specs.Commit.{numberOf, newBlock, entryFound, oldBlock, dataOf, headAfter, blockRuns, commitRuns}
+use Rattle.protocol.specs.Store.{card, disk, Run, madeOn, made, words, entryStore, tailStore, single}
+use Rattle.protocol.specs.Commit.{newBlock, entryFound, oldBlock, blockRuns, commitRuns}
 use Rattle.protocol.specs.Load.{writeBack}
 use Rattle.protocol.specs.Recover.{ifChanging, recoverRuns}
 use Rattle.protocol.specs.History.{Media, run}
