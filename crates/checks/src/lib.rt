@@ -183,7 +183,13 @@ fn settled_apart(g: Geometry, card: &[u8]) -> bool
 }
 
 // Not 6, from the keys of numbers and current blocks. A settled card's settled blocks are its current ones.
-fn entries_apart(g: Geometry, card: &[u8], ids: &[u32; 128], currents: &[u32; 128], settled: bool) -> bool
+fn entries_apart(
+    g: Geometry,
+    card: &[u8],
+    ids: &[u32; 128],
+    currents: &[u32; 128],
+    settled: bool,
+) -> bool
     requires { ⌜ Comparable g (now card) (now ids) (now currents) settled ⌝ }
     ensures { λ r. ⌜ r ≡ entriesApart g (now (card .entry)) ⌝ }
 {
