@@ -3,3 +3,5 @@ pub mod Marks
 pub mod Chain
 pub mod Settled
 pub mod Laws
+pub mod Order
+pub mod Find

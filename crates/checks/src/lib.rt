@@ -3,15 +3,17 @@ use protocol::Entry;
 use protocol::Geometry;
 use ring::Window;
 ghost use mathlib.Core.Path.{_≡_};
+ghost use mathlib.Core.Bool.{false};
 ghost use Prim.Native.Nat.{_≤_, _<_};
 ghost use lib.ListN.{length};
-ghost use Rattle.protocol.specs.Below.{anyBelow};
+ghost use Rattle.protocol.specs.Below.{anyBelow, firstBelow};
 ghost use Rattle.protocol.specs.Entry.{entryAt, inUse};
-ghost use Rattle.protocol.specs.Check.{entriesApart};
+ghost use Rattle.protocol.specs.Ring.{findEntry};
+ghost use Rattle.protocol.specs.Check.{entriesApart, damageRefusal, cardRefusal};
 ghost use Rattle.ring.specs.Fitted.{Fitted, Placed, WindowOf};
 ghost use Rattle.checks.specs.Keys.{NONE, key, settledKey, undoableEntry, keyed, distinct, keyAt};
 ghost use Rattle.checks.specs.Chain.{Chained};
-ghost use Rattle.checks.specs.Passed.{Decoded, Comparable};
+ghost use Rattle.checks.specs.Passed.{Decoded, Comparable, Inspected};
 
 // Entry i of the card.
 pub fn entry_of(g: Geometry, card: &[u8], i: usize) -> Entry
@@ -204,4 +206,98 @@ fn entries_apart(
         return true;
     }
     settled_apart(g, card)
+}
+
+// What checks 4 to 6 find, and where they find nothing, whether the card is settled.
+pub struct Verdict {
+    pub refusal: u8,
+    pub settled: bool,
+}
+
+fn refused(refusal: u8) -> Verdict
+    ensures { λ r. ⌜ (r .refusal ≡ refusal) × (r .settled ≡ false) ⌝ }
+{
+    Verdict {
+        refusal: refusal,
+        settled: false,
+    }
+}
+
+// Checks 4 to 6, and with them the keys of the card's entries for whoever looks for a number or a free block next.
+pub fn inspect(g: Geometry, card: &[u8], ids: &mut [u32; 128], currents: &mut [u32; 128]) -> Verdict
+    requires { ⌜ Fitted g (now card) × (length (now ids) ≡ 128) × (length (now currents) ≡ 128) ⌝ }
+    ensures { λ r. ⌜ Inspected g (now (card .entry)) (now (ids .exit)) (now (currents .exit)) r ⌝ }
+{
+    if !ring::ring_fits(g, card) {
+        return refused(4);
+    }
+    let seen = decode(g, card, ids, currents);
+    if !seen.fits {
+        return refused(5);
+    }
+    let settled = (ring::head_of(card) == ring::tail_of(card)) & seen.quiet;
+    if !entries_apart(g, card, ids, currents, settled) {
+        return refused(6);
+    }
+    Verdict {
+        refusal: 0,
+        settled: settled,
+    }
+}
+
+// 4 to 6: a damaged card.
+pub fn damage_refusal(g: Geometry, card: &[u8]) -> u8
+    requires { ⌜ Fitted g (now card) ⌝ }
+    ensures { λ r. ⌜ r ≡ damageRefusal g (now (card .entry)) ⌝ }
+{
+    let mut ids = [0u32; 128];
+    let mut currents = [0u32; 128];
+    let v = inspect(g, card, &mut ids, &mut currents);
+    v.refusal
+}
+
+// 4 to 7: a damaged card, or one that an earlier cut left unsettled.
+pub fn card_refusal(g: Geometry, card: &[u8]) -> u8
+    requires { ⌜ Fitted g (now card) ⌝ }
+    ensures { λ r. ⌜ r ≡ cardRefusal g (now (card .entry)) ⌝ }
+{
+    let mut ids = [0u32; 128];
+    let mut currents = [0u32; 128];
+    let v = inspect(g, card, &mut ids, &mut currents);
+    if v.refusal != 0 {
+        return v.refusal;
+    }
+    if v.settled { 0 } else { 7 }
+}
+
+// The first of n keys that is k, or n where none is.
+pub fn find_key(keys: &[u32; 128], n: usize, k: u32) -> usize
+    requires { ⌜ n ≤ 128 ⌝ }
+    ensures { λ r. ⌜ r ≡ firstBelow (keyed (keyAt (now (keys .entry))) k) n ⌝ }
+{
+    let mut i: usize = 0;
+    while i < n {
+        if keys[i] == k {
+            return i;
+        }
+        i += 1;
+    }
+    n
+}
+
+// The place of the in-use entry for disk block b, or N where b is not cached. After `inspect`, `find_key` answers it without decoding.
+pub fn find_entry(g: Geometry, card: &[u8], b: u64) -> usize
+    requires { ⌜ Fitted g (now card) ⌝ }
+    ensures { λ r. ⌜ r ≡ findEntry g (now (card .entry)) b ⌝ }
+{
+    let n = g.blocks as usize;
+    let mut i: usize = 0;
+    while i < n {
+        let e = entry_of(g, card, i);
+        if codec::in_use(e) & (e.number == b) {
+            return i;
+        }
+        i += 1;
+    }
+    n
 }
