@@ -93,9 +93,6 @@ module _ (c d : List ℕ) (z : pairRefusal c d ≡ 0) where
 -- ---- look
 
 module _ (c d : List ℕ) (b : ℕ) where
-
-
-
   pub card-part : (at n : ℕ) → Card at n ≡ foundAt c d b → at + n ≤ length c
   card-part at n e = go (where-is c d b (Card at n) e)
     where
@@ -186,12 +183,12 @@ pub copied-all : (src : List ℕ) (at n : ℕ) (out after : List ℕ) → at + n
     → Copied src at n out after true
 copied-all src at n out after f l e =
     let long : length (part src at n) ≡ n = length-part src at n f in
-    record
-    { fits = sym (eq-eqb _ _ l)
-    ; after-is =
-        e
-        ∙ sym (part-all (patch out 0 (part src at n)) n (length-patch out 0 (part src at n) ∙ l))
-        ∙ part-patch-same out 0 (part src at n) n long (omega arith)
+    record {
+      fits = sym (eq-eqb _ _ l);
+      after-is =
+          e
+          ∙ sym (part-all (patch out 0 (part src at n)) n (length-patch out 0 (part src at n) ∙ l))
+          ∙ part-patch-same out 0 (part src at n) n long (omega arith);
     }
 
 -- what read promises: its answer and its output
@@ -202,9 +199,10 @@ Promised c d b out after r = (r ≡ heldBy c d out b) × (after ≡ outputAfter 
 refused-so : (c d : List ℕ) (b : ℕ) (out : List ℕ) (r : ℕ) → r ≡ readRefusal c d out b → (r ≡ 0 → ⊥) → Promised c d b out out (HeldRefused r)
 unfolding heldBy outputAfter
 refused-so c d b out r e h =
-    let f : eqb (readRefusal c d out b) 0 ≡ false = ne-eqb _ _ (λ z. h (e ∙ z)) in
-    (ap HeldRefused e ∙ sym (ap (λ (t : Bool). cond t (cond (cached (G c) c b) HeldCard HeldDisk) (HeldRefused (readRefusal c d out b))) f),
-    sym (ap (λ (t : Bool). cond t (contents (G c) c d b) out) f))
+    let f : eqb (readRefusal c d out b) 0 ≡ false = ne-eqb _ _ (λ z. h (e ∙ z)) in (
+      ap HeldRefused e ∙ sym (ap (λ (t : Bool). cond t (cond (cached (G c) c b) HeldCard HeldDisk) (HeldRefused (readRefusal c d out b))) f),
+      sym (ap (λ (t : Bool). cond t (contents (G c) c d b) out) f),
+    )
 
 module _ (c d : List ℕ) (b : ℕ) (out : List ℕ) where
   pub read-refused : (r : ℕ) → Refused r ≡ foundAt c d b → Promised c d b out out (HeldRefused r)
@@ -252,9 +250,10 @@ module _ (c d : List ℕ) (b : ℕ) (out : List ℕ) where
       → cond (cached (G c) c b) HeldCard HeldDisk ≡ held → after ≡ contents (G c) c d b → Promised c d b out after held
   unfolding heldBy outputAfter refuse _orElse_
   taken held after z l len eh ea =
-      let r : readRefusal c d out b ≡ 0 = read-by c d z out b ∙ rw (eq-eqb _ _ len, lt-ltb b (G c .disk) l) in
-      (sym eh ∙ sym (ap (λ (t : Bool). cond t (cond (cached (G c) c b) HeldCard HeldDisk) (HeldRefused (readRefusal c d out b))) (eq-eqb _ _ r)),
-      ea ∙ sym (ap (λ (t : Bool). cond t (contents (G c) c d b) out) (eq-eqb _ _ r)))
+      let r : readRefusal c d out b ≡ 0 = read-by c d z out b ∙ rw (eq-eqb _ _ len, lt-ltb b (G c .disk) l) in (
+        sym eh ∙ sym (ap (λ (t : Bool). cond t (cond (cached (G c) c b) HeldCard HeldDisk) (HeldRefused (readRefusal c d out b))) (eq-eqb _ _ r)),
+        ea ∙ sym (ap (λ (t : Bool). cond t (contents (G c) c d b) out) (eq-eqb _ _ r)),
+      )
 
   pub read-card : (at n : ℕ) (after : List ℕ) (done : Bool) → Card at n ≡ foundAt c d b → Copied c at n out after done → done ≡ true
       → Promised c d b out after HeldCard

@@ -1,14 +1,21 @@
 // State, read and look: what a card and its disk hold, at every input, however damaged.
+use protocol::Condition;
 use protocol::Geometry;
 use protocol::Held;
+use protocol::Reported;
+use protocol::State;
+use ring::Window;
 ghost use mathlib.Core.Path.{_≡_};
 ghost use mathlib.Core.Bool.{true};
 ghost use Prim.Native.Nat.{_+_, _≤_, _<_};
 ghost use lib.ListN.{length};
 ghost use Rattle.protocol.specs.Layout.{goodGeometry, blockSize};
-ghost use Rattle.protocol.specs.Read.{heldBy, outputAfter, lookedAt, stateOf};
+ghost use Rattle.protocol.specs.Read.{heldBy, outputAfter, lookedAt, conditionOf, stateOf};
 ghost use Rattle.lookup.specs.Place.{Listed, Copied, placeIn, soughtAt, foundAt};
-ghost use Rattle.ring.specs.Fitted.{Fitted};
+ghost use Rattle.ring.specs.Fitted.{Fitted, Placed, WindowOf};
+ghost use Rattle.lookup.specs.Counted.{counted};
+ghost use Rattle.protocol.specs.Below.{countBelow};
+ghost use Rattle.protocol.specs.Ring.{isSettled};
 
 // Where a block lies: refused by checks 1 to 7, outside the disk, or at a place of the card or of the disk; with it B, if known.
 pub enum Found {
@@ -135,4 +142,78 @@ pub fn read(card: &[u8], disk: &[u8], b: u64, out: &mut [u8]) -> Held
             }
         }
     }
+}
+
+// Whether entry i is one that is counted: what 0 in use, 1 in use and modified, else undoable.
+fn is_counted(g: Geometry, card: &[u8], w: Window, what: u8, i: usize) -> bool
+    requires { ⌜ Fitted g (now card) × WindowOf g (now card) w × (i < g .blocks) ⌝ }
+    ensures { λ r. ⌜ r ≡ counted what g (now (card .entry)) i ⌝ }
+{
+    let e = checks::entry_of(g, card, i);
+    if what == 0 {
+        return codec::in_use(e);
+    }
+    if what == 1 {
+        return codec::in_use(e) & codec::is_modified(e);
+    }
+    checks::undoable(g, card, w, e)
+}
+
+// How many entries are counted.
+fn count(g: Geometry, card: &[u8], w: Window, what: u8) -> u64
+    requires { ⌜ Fitted g (now card) × WindowOf g (now card) w ⌝ }
+    ensures { λ r. ⌜ r ≡ countBelow (counted what g (now (card .entry))) (g .blocks) ⌝ }
+{
+    let n = g.blocks as usize;
+    let mut total: u64 = 0;
+    let mut i: usize = 0;
+    while i < n {
+        let hit = is_counted(g, card, w, what, i);
+        i += 1;
+        if hit {
+            total += 1;
+        }
+    }
+    total
+}
+
+// The condition of a card that passed checks 1 to 6.
+fn condition(g: Geometry, card: &[u8], settled: bool) -> Condition
+    requires { ⌜ Fitted g (now card) × Placed g (now card) × (settled ≡ isSettled g (now card)) ⌝ }
+    ensures { λ r. ⌜ r ≡ conditionOf g (now (card .entry)) ⌝ }
+{
+    let w = ring::window_of(g, card);
+    if settled {
+        Condition::Settled {
+            used: count(g, card, w, 0),
+            modified: count(g, card, w, 1),
+        }
+    } else {
+        Condition::Unsettled {
+            undoable: count(g, card, w, 2),
+            window: w.count,
+        }
+    }
+}
+
+// The geometry together with the card's condition.
+pub fn state(card: &[u8]) -> Reported
+    ensures { λ r. ⌜ r ≡ stateOf (now (card .entry)) ⌝ }
+{
+    let f = ring::fit_refusal(card);
+    if f != 0 {
+        return Reported::Refused(f);
+    }
+    let g = ring::geometry_of(card);
+    let mut ids = [0u32; 128];
+    let mut currents = [0u32; 128];
+    let v = checks::inspect(g, card, &mut ids, &mut currents);
+    if v.refusal != 0 {
+        return Reported::Refused(v.refusal);
+    }
+    let c = condition(g, card, v.settled);
+    Reported::Is(State {
+        geometry: g,
+        condition: c,
+    })
 }
