@@ -1,2 +1,3 @@
 -- Laws behind the functions' proofs.
 pub mod Request
+pub mod Rows

@@ -1,12 +1,17 @@
 // The plan of a commit, from the card at entry: its own refusals, and for each block its entry, its previous and its new data block.
 use protocol::Geometry;
 ghost use mathlib.Core.Path.{_≡_};
-ghost use mathlib.Core.Bool.{true};
-ghost use Prim.Native.Nat.{_≤_, _<_};
+ghost use mathlib.Core.Bool.{true, not};
+ghost use Prim.Native.Nat.{ℕ, _≤_, _<_};
 ghost use lib.ListN.{length};
+ghost use Rattle.protocol.specs.Below.{firstBelow, around};
 ghost use Rattle.protocol.specs.Layout.{goodGeometry};
 ghost use Rattle.protocol.specs.Commit.{numbersFit, newNumber, numbersApart};
 ghost use Rattle.plan.specs.Request.{requestRefusal};
+ghost use Rattle.plan.specs.Rows.{has, holds, Searched};
+
+// The key of an unused entry and the mark of a free data block: no disk block and no data block has this number.
+const NONE: u32 = 65536;
 
 // Not 10: each number is below D.
 fn numbers_fit(g: Geometry, numbers: &[u64]) -> bool
@@ -73,4 +78,87 @@ fn request_refusal(g: Geometry, numbers: &[u64], data: &[u8]) -> u8
         return 11;
     }
     0
+}
+
+fn wide(x: u32) -> u64
+    ensures { λ r. ⌜ r ≡ x ⌝ }
+{
+    x as u64
+}
+
+// The first of n keys that is b, or n where none is.
+fn find(keys: &[u32; 128], n: usize, b: u64) -> usize
+    requires { ⌜ n ≤ 128 ⌝ }
+    ensures { λ r. ⌜ r ≡ firstBelow (has (now (keys .entry)) b) n ⌝ }
+{
+    let mut i: usize = 0;
+    while i < n {
+        if wide(keys[i]) == b {
+            return i;
+        }
+        i += 1;
+    }
+    n
+}
+
+// A mark for each data block: NONE where it is none of the n keys.
+fn free_marks(keys: &[u32; 128], n: usize) -> [u32; 128]
+    requires { ⌜ n ≤ 128 ⌝ }
+    ensures { λ r. ⌜ ((p : ℕ) → p < 128 → has r 65536 p ≡ not (holds (now (keys .entry)) n p)) ⌝ }
+{
+    let mut marks = [NONE; 128];
+    let mut i: usize = 0;
+    while i < n {
+        let key = wide(keys[i]) as usize;
+        i += 1;
+        if key < 128 {
+            marks[key] = 0;
+        }
+    }
+    marks
+}
+
+// Places that a search found, in the order of the search.
+pub struct Places {
+    pub count: usize,
+    pub places: [u8; 128],
+}
+
+// One place forward, round at n.
+fn next(n: usize, at: usize) -> usize
+    requires { ⌜ (at < n) × (n ≤ 128) ⌝ }
+    ensures { λ r. ⌜ r ≡ around n at 1 ⌝ }
+{
+    let ahead = at + 1;
+    if ahead < n { ahead } else { ahead - n }
+}
+
+// Walks from `start` upward and round n places, and lists those that are marked NONE until it has as many as are wanted.
+fn walk(marks: &[u32; 128], n: usize, start: usize, want: usize) -> Places
+    requires { ⌜ (start < n) × (n ≤ 128) ⌝ }
+    ensures { λ r. ⌜ Searched (has (now (marks .entry)) 65536) n start want r ⌝ }
+{
+    let mut places = [0u8; 128];
+    let mut count: usize = 0;
+    let mut at = start;
+    let mut j: usize = 0;
+    while j < n {
+        if want <= count {
+            return Places {
+                count: count,
+                places: places,
+            };
+        }
+        let here = at;
+        at = next(n, here);
+        j += 1;
+        if marks[here] == NONE {
+            places[count] = here as u8;
+            count += 1;
+        }
+    }
+    Places {
+        count: count,
+        places: places,
+    }
 }
