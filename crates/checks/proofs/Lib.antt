@@ -1,1 +1,5 @@
+pub mod Keys
+pub mod Marks
+pub mod Chain
+pub mod Settled
 pub mod Laws

@@ -1,1 +1,3 @@
-pub mod Fitted
+pub mod Keys
+pub mod Chain
+pub mod Passed

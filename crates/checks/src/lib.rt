@@ -1,133 +1,201 @@
-// Checks 1 to 7 of a card: the lowest refusal that holds, 0 for none, at every row of bytes, however damaged.
-ghost use mathlib.Core.Path.{_≡_};
-ghost use mathlib.Core.Bool.{true};
-ghost use Prim.Native.Nat.{_+_, _≤_, _<_};
-ghost use lib.ListN.{length};
-ghost use Rattle.protocol.specs.Below.{allBelow};
-ghost use Rattle.protocol.specs.Layout.{goodK, goodSlots, goodBlocks, goodDisk, goodGeometry, geometryOf, blockSize, cardLength, diskLength, goodHeader, zeroFrom};
-ghost use Rattle.protocol.specs.Check.{headerFits, fitRefusal, diskRefusal};
+// Checks 5 to 7 of a card: the lowest refusal that holds, 0 for none, at every row of bytes, however damaged.
+use protocol::Entry;
 use protocol::Geometry;
+use ring::Window;
+ghost use mathlib.Core.Path.{_≡_};
+ghost use Prim.Native.Nat.{_≤_, _<_};
+ghost use lib.ListN.{length};
+ghost use Rattle.protocol.specs.Below.{anyBelow};
+ghost use Rattle.protocol.specs.Entry.{entryAt, inUse};
+ghost use Rattle.protocol.specs.Check.{entriesApart};
+ghost use Rattle.ring.specs.Fitted.{Fitted, Placed, WindowOf};
+ghost use Rattle.checks.specs.Keys.{NONE, key, settledKey, undoableEntry, keyed, distinct, keyAt};
+ghost use Rattle.checks.specs.Chain.{Chained};
+ghost use Rattle.checks.specs.Passed.{Decoded, Comparable};
 
-fn good_k(k: u64) -> bool
-    ensures { λ r. ⌜ r ≡ goodK k ⌝ }
+// Entry i of the card.
+pub fn entry_of(g: Geometry, card: &[u8], i: usize) -> Entry
+    requires { ⌜ Fitted g (now card) × (i < g .blocks) ⌝ }
+    ensures { λ r. ⌜ r ≡ entryAt g (now (card .entry)) i ⌝ }
 {
-    (9 <= k) & (k <= 12)
+    let at = 128 + 8 * g.slots + 16 * i as u64;
+    codec::entry_at(card, at as usize)
 }
 
-fn good_slots(s: u64) -> bool
-    ensures { λ r. ⌜ r ≡ goodSlots s ⌝ }
+// The key of an entry: x, or where it is unused a number that no block has.
+fn key_of(e: Entry, x: u64) -> u32
+    requires { ⌜ x < NONE ⌝ }
+    ensures { λ r. ⌜ r ≡ key (inUse e) x ⌝ }
 {
-    (8 <= s) & (s <= 256) & (s % 8 == 0)
+    if codec::in_use(e) { x as u32 } else { 65536 }
 }
 
-fn good_blocks(n: u64) -> bool
-    ensures { λ r. ⌜ r ≡ goodBlocks n ⌝ }
-{
-    (4 <= n) & (n <= 128) & (n % 4 == 0)
+// What one pass over the entries finds: whether check 5 allows them all, and whether none has R.
+pub struct Seen {
+    pub fits: bool,
+    pub quiet: bool,
 }
 
-fn good_disk(d: u64) -> bool
-    ensures { λ r. ⌜ r ≡ goodDisk d ⌝ }
+// One pass over the entries, each decoded once: not 5, and the keys of their numbers and current blocks for check 6.
+fn decode(g: Geometry, card: &[u8], ids: &mut [u32; 128], currents: &mut [u32; 128]) -> Seen
+    requires { ⌜ Fitted g (now card) × (length (now ids) ≡ 128) × (length (now currents) ≡ 128) ⌝ }
+    ensures { λ r. ⌜ Decoded g (now (card .entry)) (now (ids .exit)) (now (currents .exit)) r ⌝ }
 {
-    (1 <= d) & (d <= 65536)
-}
-
-// "B is two to the power k", by a shift.
-pub fn block_size(g: Geometry) -> u64
-    requires { ⌜ goodGeometry g ≡ true ⌝ }
-    ensures { λ r. ⌜ r ≡ blockSize g ⌝ }
-{
-    1u64 << g.k
-}
-
-pub fn card_length(g: Geometry) -> u64
-    requires { ⌜ goodGeometry g ≡ true ⌝ }
-    ensures { λ r. ⌜ r ≡ cardLength g ⌝ }
-{
-    128 + 8 * g.slots + 16 * g.blocks + g.blocks * block_size(g)
-}
-
-pub fn disk_length(g: Geometry) -> u64
-    requires { ⌜ goodGeometry g ≡ true ⌝ }
-    ensures { λ r. ⌜ r ≡ diskLength g ⌝ }
-{
-    g.disk * block_size(g)
-}
-
-// The geometry that the header spells, its fields within their limits or not.
-pub fn geometry_of(card: &[u8]) -> Geometry
-    requires { ⌜ 128 ≤ length (now card) ⌝ }
-    ensures { λ r. ⌜ r ≡ geometryOf (now (card .entry)) ⌝ }
-{
-    Geometry {
-        k: card[5] as u64,
-        slots: numbers::get(card, 6, 2),
-        blocks: numbers::get(card, 8, 4),
-        disk: numbers::get(card, 12, 4),
+    let n = g.blocks as usize;
+    let mut quiet = true;
+    let mut i: usize = 0;
+    while i < n {
+        let e = entry_of(g, card, i);
+        if !codec::good_entry(g.blocks, g.disk, e) {
+            return Seen {
+                fits: false,
+                quiet: false,
+            };
+        }
+        ids[i] = key_of(e, e.number);
+        currents[i] = key_of(e, e.current as u64);
+        quiet = quiet & !codec::has_log_role(e);
+        i += 1;
+    }
+    Seen {
+        fits: true,
+        quiet: quiet,
     }
 }
 
-fn good_geometry(g: Geometry) -> bool
-    ensures { λ r. ⌜ r ≡ goodGeometry g ⌝ }
+fn wide(k: u32) -> usize
+    ensures { λ r. ⌜ r ≡ k ⌝ }
 {
-    good_k(g.k) & (good_slots(g.slots) & (good_blocks(g.blocks) & good_disk(g.disk)))
+    k as usize
 }
 
-// Whether the n bytes from `at` on are zero.
-fn zeros(card: &[u8], at: usize, n: usize) -> bool
-    requires { ⌜ at + n ≤ length (now card) ⌝ }
-    ensures { λ r. ⌜ r ≡ allBelow (zeroFrom (now (card .entry)) at) n ⌝ }
+// Whether no two keys of data blocks are equal, by a mark for each block.
+fn blocks_apart(keys: &[u32; 128], n: usize) -> bool
+    requires { ⌜ n ≤ 128 ⌝ }
+    ensures { λ r. ⌜ r ≡ distinct (keyAt (now (keys .entry))) 128 n ⌝ }
 {
+    let mut marks = [0u8; 128];
     let mut i: usize = 0;
     while i < n {
-        if card[at + i] != 0 {
-            return false;
-        }
+        let k = wide(keys[i]);
         i += 1;
+        if k < 128 {
+            if marks[k] != 0 {
+                return false;
+            }
+            marks[k] = 1;
+        }
     }
     true
 }
 
-fn good_header(card: &[u8]) -> bool
-    requires { ⌜ 128 ≤ length (now card) ⌝ }
-    ensures { λ r. ⌜ r ≡ goodHeader (now (card .entry)) ⌝ }
+fn index(x: u8) -> usize
+    ensures { λ r. ⌜ r ≡ x ⌝ }
 {
-    let long = numbers::get(card, 0, 4) == 64;
-    let version = card[4] == 1;
-    long & (version & (good_geometry(geometry_of(card)) & zeros(card, 16, 48)))
+    x as usize
 }
 
-fn header_fits(card: &[u8]) -> bool
-    ensures { λ r. ⌜ r ≡ headerFits (now (card .entry)) ⌝ }
+// Whether the key k stands in its chain, from the index before `from` down.
+fn chained(keys: &[u32; 128], links: &[u8; 128], k: u32, from: u8) -> bool
+    requires { ⌜ Chained (keyAt (now keys)) (now links) k from × (from ≤ 128) ⌝ }
+    ensures { λ r. ⌜ r ≡ anyBelow (keyed (keyAt (now (keys .entry))) k) from ⌝ }
 {
-    if card.len() < 128 {
+    let mut at = from as usize;
+    while 0 < at {
+        at -= 1;
+        if keys[at] == k {
+            return true;
+        }
+        at = index(links[at]);
+    }
+    false
+}
+
+// Whether no two keys of disk blocks are equal. Each is compared with those before it that leave the same remainder, mostly none.
+fn numbers_apart(keys: &[u32; 128], n: usize) -> bool
+    requires { ⌜ n ≤ 128 ⌝ }
+    ensures { λ r. ⌜ r ≡ distinct (keyAt (now (keys .entry))) NONE n ⌝ }
+{
+    let mut heads = [0u8; 1024];
+    let mut links = [0u8; 128];
+    let mut i: usize = 0;
+    while i < n {
+        let at = i;
+        let k = keys[at];
+        i += 1;
+        if k < 65536 {
+            let r = (k % 1024) as usize;
+            let from = heads[r];
+            if chained(keys, &links, k, from) {
+                return false;
+            }
+            links[at] = from;
+            heads[r] = i as u8;
+        }
+    }
+    true
+}
+
+// Whether the entry e is undoable: in use, and with R or its number in the window.
+pub fn undoable(g: Geometry, card: &[u8], w: Window, e: Entry) -> bool
+    requires { ⌜ Fitted g (now card) × WindowOf g (now card) w ⌝ }
+    ensures { λ r. ⌜ r ≡ undoableEntry g (now (card .entry)) e ⌝ }
+{
+    if !codec::in_use(e) {
         return false;
     }
-    good_header(card)
+    if codec::has_log_role(e) {
+        return true;
+    }
+    ring::in_window(g, card, w, e.number)
 }
 
-// 1 and 2: what the fitter can get wrong on the card.
-pub fn fit_refusal(card: &[u8]) -> u8
-    ensures { λ r. ⌜ r ≡ fitRefusal (now (card .entry)) ⌝ }
+// The key of the settled block of entry i: FRESH where it has none.
+fn settled_key(g: Geometry, card: &[u8], w: Window, i: usize) -> u32
+    requires { ⌜ Fitted g (now card) × WindowOf g (now card) w × (i < g .blocks) ⌝ }
+    ensures { λ r. ⌜ r ≡ settledKey g (now (card .entry)) i ⌝ }
 {
-    if !header_fits(card) {
-        return 1;
+    let e = entry_of(g, card, i);
+    if !codec::in_use(e) {
+        return 65536;
     }
-    if card.len() as u64 == card_length(geometry_of(card)) {
-        0
+    if undoable(g, card, w, e) {
+        e.previous
     } else {
-        2
+        e.current
     }
 }
 
-// 3: a disk of the wrong length.
-pub fn disk_refusal(g: Geometry, disk: &[u8]) -> u8
-    requires { ⌜ goodGeometry g ≡ true ⌝ }
-    ensures { λ r. ⌜ r ≡ diskRefusal g (now (disk .entry)) ⌝ }
+// Whether no two settled blocks are equal.
+fn settled_apart(g: Geometry, card: &[u8]) -> bool
+    requires { ⌜ Fitted g (now card) × Placed g (now card) ⌝ }
+    ensures { λ r. ⌜ r ≡ distinct (settledKey g (now (card .entry))) 128 (g .blocks) ⌝ }
 {
-    if disk.len() as u64 == disk_length(g) {
-        0
-    } else {
-        3
+    let w = ring::window_of(g, card);
+    let n = g.blocks as usize;
+    let mut keys = [0u32; 128];
+    let mut i: usize = 0;
+    while i < n {
+        keys[i] = settled_key(g, card, w, i);
+        i += 1;
     }
+    blocks_apart(&keys, n)
+}
+
+// Not 6, from the keys of numbers and current blocks. A settled card's settled blocks are its current ones.
+fn entries_apart(g: Geometry, card: &[u8], ids: &[u32; 128], currents: &[u32; 128], settled: bool) -> bool
+    requires { ⌜ Comparable g (now card) (now ids) (now currents) settled ⌝ }
+    ensures { λ r. ⌜ r ≡ entriesApart g (now (card .entry)) ⌝ }
+{
+    let n = g.blocks as usize;
+    if !numbers_apart(ids, n) {
+        return false;
+    }
+    if !blocks_apart(currents, n) {
+        return false;
+    }
+    if settled {
+        return true;
+    }
+    settled_apart(g, card)
 }

@@ -54,6 +54,10 @@ pub or-true : (a b : Bool) → a || b ≡ true → (a ≡ true) ⊎ (b ≡ true)
 or-true true b e = inl refl
 or-true false b e = inr e
 
+pub or-none : (a : Bool) → a || false ≡ a
+or-none true = refl
+or-none false = refl
+
 -- an index below a successor is the last one or one before it
 pub last-or-before : (i n : ℕ) → i < suc n → (i ≡ n) ⊎ (i < n)
 last-or-before i n h = eq-or-lt-of-le (le-of-suc-le-suc h)
@@ -123,6 +127,13 @@ any-witness p (suc n) h =
 pub any-more : (p : ℕ → Bool) (i : ℕ) → anyBelow p i ≡ false → p i ≡ false → anyBelow p (i + 1) ≡ false
 unfolding anyBelow
 any-more p i h e = rw add-one (rw (h, e))
+
+pub any-hit : (p : ℕ → Bool) (i : ℕ) → p i ≡ true → anyBelow p (i + 1) ≡ true
+any-hit p i e = any-found p (i + 1) i (omega arith) e
+
+pub any-miss : (p : ℕ → Bool) (i : ℕ) → p i ≡ false → anyBelow p (i + 1) ≡ anyBelow p i
+unfolding anyBelow
+any-miss p i e = rw (add-one, e) (or-none (anyBelow p i))
 
 pub any-done : (p : ℕ → Bool) (n i : ℕ) → anyBelow p i ≡ false → n ≤ i → i ≤ n → anyBelow p n ≡ false
 any-done p n i h a b = let e : i ≡ n = omega arith in rw e at h

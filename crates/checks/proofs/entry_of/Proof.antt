@@ -1,0 +1,31 @@
+-- `entry_of` answers the entry, whose sixteen bytes lie on the card.
+use denote.Ref.{now}
+use Rattle.ring.proofs.Laws.{room}
+use Rattle.protocol.specs.Layout.{entryPlace}
+use Rattle.protocol.specs.Entry.{entryAt}
+use borrow.Author.Needs.{needs}
+use native.Mathlib.Omega.{arith}
+use Rattle.checks.proofs.entry_of.Statement.{statement}
+use Rattle.checks.proofs.entry_of.Tie as tie
+
+mul-at : tie.Need-mul-at
+mul-at c = let s = c .before .before in let k = room (s .args .g) (now (s .args .card)) (s .pre .0) in omega arith
+
+add-at : tie.Need-add-at
+add-at c = let s = c .before .before in let k = room (s .args .g) (now (s .args .card)) (s .pre .0) in omega arith
+
+mul-at-2 : tie.Need-mul-at-2
+mul-at-2 c = let s = c .before .before in let k = room (s .args .g) (now (s .args .card)) (s .pre .0) in omega arith
+
+add-at-2 : tie.Need-add-at-2
+add-at-2 c = let s = c .before .before in let k = room (s .args .g) (now (s .args .card)) (s .pre .0) in omega arith
+
+entry-at-requires : tie.Need-entry-at-requires
+entry-at-requires c κs = let s = c .before .before in let k = room (s .args .g) (now (s .args .card)) (s .pre .0) in omega arith
+
+returns : tie.Need-returns
+unfolding entryAt entryPlace
+returns c = search needs
+
+pub entry-of-spec : {M : Type 1} → statement M
+entry-of-spec = tie.close (tie.spec mul-at add-at mul-at-2 add-at-2 entry-at-requires returns)

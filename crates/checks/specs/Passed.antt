@@ -1,0 +1,28 @@
+-- What the passes over the entries answer.
+use Prim.Native.Nat.{ℕ}
+use mathlib.Core.List.{List}
+use mathlib.Core.Bool.{Bool, true}
+use mathlib.Core.Path.{_≡_}
+use Rattle.protocol.specs.declared.Geometry.{Geometry}
+use Rattle.protocol.specs.Below.{allBelow}
+use Rattle.protocol.specs.Ring.{roleFreeAt, isSettled}
+use Rattle.protocol.specs.Check.{entriesFit}
+use Rattle.ring.specs.Fitted.{Fitted, Placed}
+use Rattle.checks.specs.declared.Seen.{Seen}
+use Rattle.checks.specs.Keys.{numberKey, currentKey, Lists}
+
+-- what a pass over the entries found, and the keys that it listed where check 5 allows every entry
+pub record Decoded (g : Geometry) (c : List ℕ) (ns cs : List ℕ) (s : Seen) : Type 0 where
+  pub fits : s .fits ≡ entriesFit g c
+  pub quiet : s .fits ≡ true → s .quiet ≡ allBelow (roleFreeAt g c) (g .blocks)
+  pub numbers : s .fits ≡ true → Lists (numberKey g c) ns (g .blocks)
+  pub currents : s .fits ≡ true → Lists (currentKey g c) cs (g .blocks)
+
+-- what check 6 starts from: a card that passed checks 1 to 5, its keys listed, and whether it is settled
+pub record Comparable (g : Geometry) (c ns cs : List ℕ) (settled : Bool) : Type 0 where
+  pub fitted : Fitted g c
+  pub placed : Placed g c
+  pub fits : entriesFit g c ≡ true
+  pub numbers : Lists (numberKey g c) ns (g .blocks)
+  pub currents : Lists (currentKey g c) cs (g .blocks)
+  pub settled-is : settled ≡ isSettled g c

@@ -1,0 +1,196 @@
+-- Laws behind the checks' loops and tests.
+use Prim.Native.Nat.{ℕ, _+_, _*_, _-_, _%_, _^_, _≤_, _<_}
+use mathlib.Core.Path.{_≡_, refl, sym, ap, _∙_}
+use mathlib.Core.List.{List}
+use mathlib.Core.Logic.{⊎-elim}
+use mathlib.Core.Bool.{Bool, true, false, not, _&&_}
+use native.Mathlib.Nat.{one-mul}
+use native.Mathlib.Omega.{arith}
+use lib.ListN.{length, getD}
+use lib.Dec.{ltb, eqb}
+use lib.Pow.{shl-exact}
+use borrow.Author.Tests.{lt-ltb, le-ltb, le-leb, lt-leb, ltb-false, eq-eqb, ne-eqb, not-true, not-false}
+use Rattle.numbers.specs.Bytes.{numberAt}
+use Rattle.protocol.specs.declared.Geometry.{Geometry}
+use Rattle.protocol.specs.Below.{allBelow, anyBelow, around}
+use Rattle.protocol.specs.Layout.{goodGeometry, geometryOf, goodHeader, zeroFrom, slotPlace, cardLength, diskLength}
+use Rattle.protocol.specs.Ring.{headOf, tailOf, slotAt, windowLength, windowOf, windowNumber, windowHas, inWindow}
+use Rattle.protocol.specs.Check.{refuse, _orElse_, headerFits, cardFits, diskFits, windowNumberFits, ringFits, fitRefusal, diskRefusal}
+use Rattle.ring.specs.declared.Window.{Window}
+use Rattle.ring.specs.Fitted.{Fitted, Placed, WindowOf}
+use Rattle.protocol.proofs.Below.{and-left, and-right, and-fails, below-or-above, any-found, any-done}
+use Rattle.protocol.proofs.Checks.{Limits, limits, refuse-passed, refuse-failed, orElse-first, orElse-next}
+
+-- ---- the geometry
+
+-- a card that fits has room for its parts
+pub record Room (g : Geometry) (c : List ℕ) : Type 0 where
+  pub bounds : Limits g
+  pub parts : 128 + 8 * g .slots + 16 * g .blocks ≤ length c
+
+pub room : (g : Geometry) (c : List ℕ) → Fitted g c → Room g c
+unfolding cardLength
+room g c f =
+    let l : Limits g = limits g (f .good) in
+    record { bounds = l; parts = omega (arith, f .long) }
+
+pub fitted-long : (g : Geometry) (c : List ℕ) → Fitted g c → 128 ≤ length c
+fitted-long g c f = let k : Room g c = room g c f in omega arith
+
+pub fitted-slots : (g : Geometry) (c : List ℕ) → Fitted g c → g .slots ≤ 256
+fitted-slots g c f = let k : Room g c = room g c f in omega arith
+
+pub fitted-blocks : (g : Geometry) (c : List ℕ) → Fitted g c → g .blocks ≤ 128
+fitted-blocks g c f = let k : Room g c = room g c f in omega arith
+
+-- ---- checks 1 to 3
+
+pub header-short : (c : List ℕ) → length c < 128 → false ≡ headerFits c
+unfolding headerFits
+header-short c h = rw (lt-ltb (length c) 128 h)
+
+pub header-end : (c : List ℕ) (r : Bool) → 128 ≤ length c → r ≡ goodHeader c → r ≡ headerFits c
+unfolding headerFits
+header-end c r h e = rw (le-ltb (length c) 128 h) e
+
+pub disk-fits : (g : Geometry) (d : List ℕ) (n : ℕ) → n ≡ diskLength g → length d ≡ n → 0 ≡ diskRefusal g d
+unfolding diskRefusal diskFits
+disk-fits g d n e h = refuse-passed 3 (diskFits g d) (eq-eqb (length d) (diskLength g) (h ∙ e))
+
+pub disk-misfits : (g : Geometry) (d : List ℕ) (n : ℕ) → n ≡ diskLength g → (length d ≡ n → ⊥) → 3 ≡ diskRefusal g d
+unfolding diskRefusal diskFits
+disk-misfits g d n e h = refuse-failed 3 (diskFits g d) (ne-eqb (length d) (diskLength g) (λ q. h (q ∙ sym e)))
+
+header-passed : (c : List ℕ) (r : Bool) → r ≡ headerFits c → not r ≡ false → headerFits c ≡ true
+header-passed c r e h = sym e ∙ not-false r h
+
+pub header-long : (c : List ℕ) (r : Bool) → r ≡ headerFits c → not r ≡ false → 128 ≤ length c
+unfolding headerFits
+header-long c r e h =
+    ltb-false (length c) 128 (not-true _ (and-left (not (ltb (length c) 128)) (goodHeader c) (header-passed c r e h)))
+
+good-header-geometry : (c : List ℕ) → goodHeader c ≡ true → goodGeometry (geometryOf c) ≡ true
+unfolding goodHeader
+good-header-geometry c h =
+    let g : Bool = goodGeometry (geometryOf c) in
+    let z : Bool = allBelow (zeroFrom c 16) 48 in
+    and-left g z (and-right (eqb (getD c 4 0) 1) (g && z) (and-right (eqb (numberAt c 0 4) 64) (eqb (getD c 4 0) 1 && (g && z)) h))
+
+pub header-geometry : (c : List ℕ) (r : Bool) (g : Geometry) → r ≡ headerFits c → not r ≡ false → g ≡ geometryOf c
+    → goodGeometry g ≡ true
+unfolding headerFits
+header-geometry c r g e h q =
+    ap goodGeometry q
+    ∙ good-header-geometry c (and-right (not (ltb (length c) 128)) (goodHeader c) (header-passed c r e h))
+
+pub fit-header : (c : List ℕ) (r : Bool) → r ≡ headerFits c → not r ≡ true → 1 ≡ fitRefusal c
+unfolding fitRefusal
+fit-header c r e h =
+    orElse-first 1 (refuse 1 (headerFits c)) _ (refuse-failed 1 (headerFits c) (sym e ∙ not-true r h)) (omega arith)
+
+-- past check 1, what is said of the length decides
+fit-past : (c : List ℕ) (r : Bool) (a : ℕ) → r ≡ headerFits c → not r ≡ false → a ≡ refuse 2 (cardFits (geometryOf c) c) → a ≡ fitRefusal c
+unfolding fitRefusal
+fit-past c r a e h q =
+    orElse-next a (refuse 1 (headerFits c)) _ (refuse-passed 1 (headerFits c) (header-passed c r e h)) q
+
+pub fit-both : (c : List ℕ) (r : Bool) (g : Geometry) (n : ℕ) → r ≡ headerFits c → not r ≡ false → g ≡ geometryOf c
+    → n ≡ cardLength g → length c ≡ n → 0 ≡ fitRefusal c
+unfolding cardFits
+fit-both c r g n e h q s t =
+    fit-past c r 0 e h (refuse-passed 2 (cardFits (geometryOf c) c) (eq-eqb _ _ (t ∙ s ∙ ap cardLength q)))
+
+pub fit-length : (c : List ℕ) (r : Bool) (g : Geometry) (n : ℕ) → r ≡ headerFits c → not r ≡ false → g ≡ geometryOf c
+    → n ≡ cardLength g → (length c ≡ n → ⊥) → 2 ≡ fitRefusal c
+unfolding cardFits
+fit-length c r g n e h q s t =
+    fit-past c r 2 e h
+    (refuse-failed 2 (cardFits (geometryOf c) c) (ne-eqb _ _ (λ p. t (p ∙ sym (s ∙ ap cardLength q)))))
+
+-- ---- check 4
+
+pub window-ahead : (s tail head : ℕ) → tail ≤ head → head - tail ≡ windowLength s tail head
+unfolding windowLength
+window-ahead s tail head h = rw (le-leb tail head h)
+
+pub window-round : (s tail head : ℕ) → head < tail → head + s - tail ≡ windowLength s tail head
+unfolding windowLength
+window-round s tail head h = rw (lt-leb tail head h)
+
+window-short : (s tail head : ℕ) → tail < s → head < s → windowLength s tail head < s
+window-short s tail head t h =
+    ⊎-elim
+    (λ (b : head < tail). rw (← (window-round s tail head b)) (omega arith))
+    (λ (b : tail ≤ head). rw (← (window-ahead s tail head b)) (omega arith))
+    (below-or-above head tail)
+
+pub window-end : (g : Geometry) (c : List ℕ) (h t n : ℕ) → Placed g c → h ≡ headOf c → t ≡ tailOf c → n ≡ windowLength (g .slots) t h
+    → WindowOf g c (record { tail = t; count = n })
+unfolding windowOf
+window-end g c h t n p eh et en =
+    let e : n ≡ windowOf g c = en ∙ ap (λ (x : ℕ). windowLength (g .slots) x h) et ∙ ap (windowLength (g .slots) (tailOf c)) eh in
+    record {
+      tail = et;
+      count = e;
+      starts = rw et (p .tail);
+      ends = rw e (window-short (g .slots) (tailOf c) (headOf c) (p .tail) (p .head));
+    }
+
+pub window-on-ring : (g : Geometry) (c : List ℕ) (w : Window) (j : ℕ) → Fitted g c → WindowOf g c w → j < w .count
+    → (w .tail < g .slots) × (j < g .slots) × (g .slots ≤ 256)
+window-on-ring g c w j f h b = let k : Room g c = room g c f in omega arith
+
+pub around-ahead : (s tail j : ℕ) → tail + j < s → tail + j ≡ around s tail j
+unfolding around
+around-ahead s tail j h = rw (lt-ltb (tail + j) s h)
+
+pub around-past : (s tail j : ℕ) → s ≤ tail + j → tail + j - s ≡ around s tail j
+unfolding around
+around-past s tail j h = rw (le-ltb (tail + j) s h)
+
+pub window-at : (g : Geometry) (c : List ℕ) (w : Window) (j q r : ℕ) → WindowOf g c w → q ≡ around (g .slots) (w .tail) j
+    → r ≡ numberAt c (128 + 8 * q) 8 → r ≡ windowNumber g c j
+unfolding windowNumber slotAt slotPlace
+window-at g c w j q r h e n =
+    n ∙ ap (λ (x : ℕ). numberAt c (128 + 8 * x) 8) (e ∙ ap (λ (t : ℕ). around (g .slots) t j) (h .tail))
+
+pub window-number-fits : (g : Geometry) (c : List ℕ) (j r : ℕ) → r ≡ windowNumber g c j → r < g .disk → windowNumberFits g c j ≡ true
+unfolding windowNumberFits
+window-number-fits g c j r e h = lt-ltb _ _ (rw e at h)
+
+pub window-number-misfits : (g : Geometry) (c : List ℕ) (j r : ℕ) → r ≡ windowNumber g c j → g .disk ≤ r → windowNumberFits g c j ≡ false
+unfolding windowNumberFits
+window-number-misfits g c j r e h = le-ltb _ _ (rw e at h)
+
+pub window-has : (g : Geometry) (c : List ℕ) (b j r : ℕ) → r ≡ windowNumber g c j → r ≡ b → windowHas g c b j ≡ true
+unfolding windowHas
+window-has g c b j r e h = eq-eqb _ _ (sym e ∙ h)
+
+pub window-lacks : (g : Geometry) (c : List ℕ) (b j r : ℕ) → r ≡ windowNumber g c j → (r ≡ b → ⊥) → windowHas g c b j ≡ false
+unfolding windowHas
+window-lacks g c b j r e h = ne-eqb _ _ (λ q. h (e ∙ q))
+
+pub in-window-found : (g : Geometry) (c : List ℕ) (w : Window) (b j : ℕ) → WindowOf g c w → j < w .count → windowHas g c b j ≡ true
+    → true ≡ inWindow g c b
+unfolding inWindow
+in-window-found g c w b j h l e = sym (any-found (windowHas g c b) (windowOf g c) j (rw (h .count) at l) e)
+
+pub in-window-none : (g : Geometry) (c : List ℕ) (w : Window) (b j : ℕ) → WindowOf g c w → w .count ≤ j → j ≤ w .count
+    → anyBelow (windowHas g c b) j ≡ false → false ≡ inWindow g c b
+unfolding inWindow
+in-window-none g c w b j h l m e = sym (any-done (windowHas g c b) (windowOf g c) j e (rw (h .count) at l) (rw (h .count) at m))
+
+pub head-off : (g : Geometry) (c : List ℕ) (h : ℕ) → h ≡ headOf c → g .slots ≤ h → false ≡ ringFits g c
+unfolding ringFits
+head-off g c h e l = rw (le-ltb (headOf c) (g .slots) (rw e at l))
+
+pub tail-off : (g : Geometry) (c : List ℕ) (t : ℕ) → t ≡ tailOf c → g .slots ≤ t → false ≡ ringFits g c
+unfolding ringFits
+tail-off g c t e l = sym (and-fails (ltb (headOf c) (g .slots)) _ (rw (le-ltb (tailOf c) (g .slots) (rw e at l))))
+
+pub ring-end : (g : Geometry) (c : List ℕ) (w : Window) (r : Bool) (h t : ℕ) → h ≡ headOf c → h < g .slots → t ≡ tailOf c → t < g .slots
+    → WindowOf g c w → r ≡ allBelow (windowNumberFits g c) (w .count) → r ≡ ringFits g c
+unfolding ringFits
+ring-end g c w r h t eh lh et lt win e =
+    rw (lt-ltb (headOf c) (g .slots) (rw eh at lh), lt-ltb (tailOf c) (g .slots) (rw et at lt))
+    (e ∙ ap (allBelow (windowNumberFits g c)) (win .count))

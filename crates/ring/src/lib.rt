@@ -1,0 +1,197 @@
+// Checks 1 to 4 of a card and its disk, and the window of its ring. Each answers its definition at every row of bytes, however damaged.
+use protocol::Geometry;
+ghost use mathlib.Core.Path.{_≡_};
+ghost use mathlib.Core.Bool.{true};
+ghost use Prim.Native.Nat.{_+_, _≤_, _<_};
+ghost use lib.ListN.{length};
+ghost use Rattle.protocol.specs.Below.{allBelow, around};
+ghost use Rattle.protocol.specs.Layout.{goodGeometry, geometryOf, diskLength, goodHeader, zeroFrom};
+ghost use Rattle.protocol.specs.Ring.{headOf, tailOf, windowLength, windowNumber, inWindow};
+ghost use Rattle.protocol.specs.Check.{headerFits, fitRefusal, diskRefusal, windowNumberFits, ringFits};
+ghost use Rattle.ring.specs.Fitted.{Fitted, Placed, WindowOf};
+
+pub fn disk_length(g: Geometry) -> u64
+    requires { ⌜ goodGeometry g ≡ true ⌝ }
+    ensures { λ r. ⌜ r ≡ diskLength g ⌝ }
+{
+    g.disk * codec::block_size(g)
+}
+
+// The geometry that the header spells, its fields within their limits or not.
+pub fn geometry_of(card: &[u8]) -> Geometry
+    requires { ⌜ 128 ≤ length (now card) ⌝ }
+    ensures { λ r. ⌜ r ≡ geometryOf (now (card .entry)) ⌝ }
+{
+    Geometry {
+        k: card[5] as u64,
+        slots: numbers::get(card, 6, 2),
+        blocks: numbers::get(card, 8, 4),
+        disk: numbers::get(card, 12, 4),
+    }
+}
+
+// Whether the n bytes from `at` on are zero.
+fn zeros(card: &[u8], at: usize, n: usize) -> bool
+    requires { ⌜ at + n ≤ length (now card) ⌝ }
+    ensures { λ r. ⌜ r ≡ allBelow (zeroFrom (now (card .entry)) at) n ⌝ }
+{
+    let mut i: usize = 0;
+    while i < n {
+        if card[at + i] != 0 {
+            return false;
+        }
+        i += 1;
+    }
+    true
+}
+
+fn good_header(card: &[u8]) -> bool
+    requires { ⌜ 128 ≤ length (now card) ⌝ }
+    ensures { λ r. ⌜ r ≡ goodHeader (now (card .entry)) ⌝ }
+{
+    let long = numbers::get(card, 0, 4) == 64;
+    let version = card[4] == 1;
+    long & (version & (codec::good_geometry(geometry_of(card)) & zeros(card, 16, 48)))
+}
+
+fn header_fits(card: &[u8]) -> bool
+    ensures { λ r. ⌜ r ≡ headerFits (now (card .entry)) ⌝ }
+{
+    if card.len() < 128 {
+        return false;
+    }
+    good_header(card)
+}
+
+// 1 and 2: what the fitter can get wrong on the card.
+pub fn fit_refusal(card: &[u8]) -> u8
+    ensures { λ r. ⌜ r ≡ fitRefusal (now (card .entry)) ⌝ }
+{
+    if !header_fits(card) {
+        return 1;
+    }
+    if card.len() as u64 == codec::card_length(geometry_of(card)) {
+        0
+    } else {
+        2
+    }
+}
+
+// 3: a disk of the wrong length.
+pub fn disk_refusal(g: Geometry, disk: &[u8]) -> u8
+    requires { ⌜ goodGeometry g ≡ true ⌝ }
+    ensures { λ r. ⌜ r ≡ diskRefusal g (now (disk .entry)) ⌝ }
+{
+    if disk.len() as u64 == disk_length(g) {
+        0
+    } else {
+        3
+    }
+}
+
+// The window: where it starts and how many slots it has.
+pub struct Window {
+    pub tail: u64,
+    pub count: u64,
+}
+
+pub fn head_of(card: &[u8]) -> u64
+    requires { ⌜ 128 ≤ length (now card) ⌝ }
+    ensures { λ r. ⌜ r ≡ headOf (now (card .entry)) ⌝ }
+{
+    numbers::get(card, 64, 8)
+}
+
+pub fn tail_of(card: &[u8]) -> u64
+    requires { ⌜ 128 ≤ length (now card) ⌝ }
+    ensures { λ r. ⌜ r ≡ tailOf (now (card .entry)) ⌝ }
+{
+    numbers::get(card, 72, 8)
+}
+
+fn window_length(s: u64, tail: u64, head: u64) -> u64
+    requires { ⌜ (tail < s) × (head < s) × (s ≤ 256) ⌝ }
+    ensures { λ r. ⌜ r ≡ windowLength s tail head ⌝ }
+{
+    if tail <= head {
+        head - tail
+    } else {
+        head + s - tail
+    }
+}
+
+pub fn window_of(g: Geometry, card: &[u8]) -> Window
+    requires { ⌜ Fitted g (now card) × Placed g (now card) ⌝ }
+    ensures { λ r. ⌜ WindowOf g (now (card .entry)) r ⌝ }
+{
+    let head = head_of(card);
+    let tail = tail_of(card);
+    Window {
+        tail: tail,
+        count: window_length(g.slots, tail, head),
+    }
+}
+
+// The slot j places forward from `tail`, going round at s.
+fn forward(s: u64, tail: u64, j: u64) -> u64
+    requires { ⌜ (tail < s) × (j < s) × (s ≤ 256) ⌝ }
+    ensures { λ r. ⌜ (r ≡ around s tail j) × (r < s) ⌝ }
+{
+    let ahead = tail + j;
+    if ahead < s { ahead } else { ahead - s }
+}
+
+// The number in the window's slot j, counted from Tail.
+fn window_number(g: Geometry, card: &[u8], w: Window, j: u64) -> u64
+    requires { ⌜ Fitted g (now card) × WindowOf g (now card) w × (j < w .count) ⌝ }
+    ensures { λ r. ⌜ r ≡ windowNumber g (now (card .entry)) j ⌝ }
+{
+    let at = 128 + 8 * forward(g.slots, w.tail, j);
+    numbers::get(card, at as usize, 8)
+}
+
+// Whether each number in the window is below D.
+fn window_fits(g: Geometry, card: &[u8], w: Window) -> bool
+    requires { ⌜ Fitted g (now card) × WindowOf g (now card) w ⌝ }
+    ensures { λ r. ⌜ r ≡ allBelow (windowNumberFits g (now (card .entry))) (w .count) ⌝ }
+{
+    let count = w.count;
+    let mut j: u64 = 0;
+    while j < count {
+        if window_number(g, card, w, j) >= g.disk {
+            return false;
+        }
+        j += 1;
+    }
+    true
+}
+
+// Whether the number b stands in the window. A settled card's window is empty, so there it costs nothing.
+pub fn in_window(g: Geometry, card: &[u8], w: Window, b: u64) -> bool
+    requires { ⌜ Fitted g (now card) × WindowOf g (now card) w ⌝ }
+    ensures { λ r. ⌜ r ≡ inWindow g (now (card .entry)) b ⌝ }
+{
+    let count = w.count;
+    let mut j: u64 = 0;
+    while j < count {
+        if window_number(g, card, w, j) == b {
+            return true;
+        }
+        j += 1;
+    }
+    false
+}
+
+// Not 4: Head and Tail below S, the window's numbers below D.
+pub fn ring_fits(g: Geometry, card: &[u8]) -> bool
+    requires { ⌜ Fitted g (now card) ⌝ }
+    ensures { λ r. ⌜ r ≡ ringFits g (now (card .entry)) ⌝ }
+{
+    if head_of(card) >= g.slots {
+        return false;
+    }
+    if tail_of(card) >= g.slots {
+        return false;
+    }
+    window_fits(g, card, window_of(g, card))
+}
