@@ -3,3 +3,4 @@ pub mod Marks
 pub mod Chain
 pub mod Settled
 pub mod Laws
+pub mod Order

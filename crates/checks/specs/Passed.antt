@@ -6,9 +6,10 @@ use mathlib.Core.Path.{_≡_}
 use Rattle.protocol.specs.declared.Geometry.{Geometry}
 use Rattle.protocol.specs.Below.{allBelow}
 use Rattle.protocol.specs.Ring.{roleFreeAt, isSettled}
-use Rattle.protocol.specs.Check.{entriesFit}
+use Rattle.protocol.specs.Check.{entriesFit, damageRefusal}
 use Rattle.ring.specs.Fitted.{Fitted, Placed}
 use Rattle.checks.specs.declared.Seen.{Seen}
+use Rattle.checks.specs.declared.Verdict.{Verdict}
 use Rattle.checks.specs.Keys.{numberKey, currentKey, Lists}
 
 -- what a pass over the entries found, and the keys that it listed where check 5 allows every entry
@@ -26,3 +27,10 @@ pub record Comparable (g : Geometry) (c ns cs : List ℕ) (settled : Bool) : Typ
   pub numbers : Lists (numberKey g c) ns (g .blocks)
   pub currents : Lists (currentKey g c) cs (g .blocks)
   pub settled-is : settled ≡ isSettled g c
+
+-- what checks 4 to 6 found, and of a card that passed them whether it is settled and the keys of its entries
+pub record Inspected (g : Geometry) (c ns cs : List ℕ) (v : Verdict) : Type 0 where
+  pub refusal-is : v .refusal ≡ damageRefusal g c
+  pub settled-is : v .refusal ≡ 0 → v .settled ≡ isSettled g c
+  pub numbers : v .refusal ≡ 0 → Lists (numberKey g c) ns (g .blocks)
+  pub currents : v .refusal ≡ 0 → Lists (currentKey g c) cs (g .blocks)

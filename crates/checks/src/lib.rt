@@ -3,15 +3,16 @@ use protocol::Entry;
 use protocol::Geometry;
 use ring::Window;
 ghost use mathlib.Core.Path.{_≡_};
+ghost use mathlib.Core.Bool.{false};
 ghost use Prim.Native.Nat.{_≤_, _<_};
 ghost use lib.ListN.{length};
 ghost use Rattle.protocol.specs.Below.{anyBelow};
 ghost use Rattle.protocol.specs.Entry.{entryAt, inUse};
-ghost use Rattle.protocol.specs.Check.{entriesApart};
+ghost use Rattle.protocol.specs.Check.{entriesApart, damageRefusal, cardRefusal};
 ghost use Rattle.ring.specs.Fitted.{Fitted, Placed, WindowOf};
 ghost use Rattle.checks.specs.Keys.{NONE, key, settledKey, undoableEntry, keyed, distinct, keyAt};
 ghost use Rattle.checks.specs.Chain.{Chained};
-ghost use Rattle.checks.specs.Passed.{Decoded, Comparable};
+ghost use Rattle.checks.specs.Passed.{Decoded, Comparable, Inspected};
 
 // Entry i of the card.
 pub fn entry_of(g: Geometry, card: &[u8], i: usize) -> Entry
@@ -183,7 +184,13 @@ fn settled_apart(g: Geometry, card: &[u8]) -> bool
 }
 
 // Not 6, from the keys of numbers and current blocks. A settled card's settled blocks are its current ones.
-fn entries_apart(g: Geometry, card: &[u8], ids: &[u32; 128], currents: &[u32; 128], settled: bool) -> bool
+fn entries_apart(
+    g: Geometry,
+    card: &[u8],
+    ids: &[u32; 128],
+    currents: &[u32; 128],
+    settled: bool,
+) -> bool
     requires { ⌜ Comparable g (now card) (now ids) (now currents) settled ⌝ }
     ensures { λ r. ⌜ r ≡ entriesApart g (now (card .entry)) ⌝ }
 {
@@ -198,4 +205,66 @@ fn entries_apart(g: Geometry, card: &[u8], ids: &[u32; 128], currents: &[u32; 12
         return true;
     }
     settled_apart(g, card)
+}
+
+// What checks 4 to 6 find, and where they find nothing, whether the card is settled.
+pub struct Verdict {
+    pub refusal: u8,
+    pub settled: bool,
+}
+
+fn refused(refusal: u8) -> Verdict
+    ensures { λ r. ⌜ (r .refusal ≡ refusal) × (r .settled ≡ false) ⌝ }
+{
+    Verdict {
+        refusal: refusal,
+        settled: false,
+    }
+}
+
+// Checks 4 to 6, and with them the keys of the card's entries for whoever looks for a number or a free block next.
+pub fn inspect(g: Geometry, card: &[u8], ids: &mut [u32; 128], currents: &mut [u32; 128]) -> Verdict
+    requires { ⌜ Fitted g (now card) × (length (now ids) ≡ 128) × (length (now currents) ≡ 128) ⌝ }
+    ensures { λ r. ⌜ Inspected g (now (card .entry)) (now (ids .exit)) (now (currents .exit)) r ⌝ }
+{
+    if !ring::ring_fits(g, card) {
+        return refused(4);
+    }
+    let seen = decode(g, card, ids, currents);
+    if !seen.fits {
+        return refused(5);
+    }
+    let settled = (ring::head_of(card) == ring::tail_of(card)) & seen.quiet;
+    if !entries_apart(g, card, ids, currents, settled) {
+        return refused(6);
+    }
+    Verdict {
+        refusal: 0,
+        settled: settled,
+    }
+}
+
+// 4 to 6: a damaged card.
+pub fn damage_refusal(g: Geometry, card: &[u8]) -> u8
+    requires { ⌜ Fitted g (now card) ⌝ }
+    ensures { λ r. ⌜ r ≡ damageRefusal g (now (card .entry)) ⌝ }
+{
+    let mut ids = [0u32; 128];
+    let mut currents = [0u32; 128];
+    let v = inspect(g, card, &mut ids, &mut currents);
+    v.refusal
+}
+
+// 4 to 7: a damaged card, or one that an earlier cut left unsettled.
+pub fn card_refusal(g: Geometry, card: &[u8]) -> u8
+    requires { ⌜ Fitted g (now card) ⌝ }
+    ensures { λ r. ⌜ r ≡ cardRefusal g (now (card .entry)) ⌝ }
+{
+    let mut ids = [0u32; 128];
+    let mut currents = [0u32; 128];
+    let v = inspect(g, card, &mut ids, &mut currents);
+    if v.refusal != 0 {
+        return v.refusal;
+    }
+    if v.settled { 0 } else { 7 }
 }
