@@ -81,12 +81,12 @@ listed-start g c ns cs a b = record {
   long = (a, b);
 }
 
-pub listed-turn : (g : Geometry) (c : List ℕ) (i : ℕ) (quiet : Bool) (ns cs : List ℕ) (e : Entry) (ok role : Bool) (n kn kc : ℕ) → Fitted g c
-    → n ≡ g .blocks → i < n → Listed g c i quiet ns cs → e ≡ entryAt g c i → ok ≡ goodEntry (g .blocks) (g .disk) e → not ok ≡ false
+pub listed-turn : (g : Geometry) (c : List ℕ) (i : ℕ) (quiet : Bool) (ns cs : List ℕ) (e : Entry) (ok role : Bool) (kn kc : ℕ) → Fitted g c
+    → i < g .blocks → Listed g c i quiet ns cs → e ≡ entryAt g c i → ok ≡ goodEntry (g .blocks) (g .disk) e → not ok ≡ false
     → kn ≡ key (inUse e) (e .number) → kc ≡ key (inUse e) (e .current) → role ≡ hasLogRole e
     → Listed g c (i + 1) (quiet && not role) (set ns i kn) (set cs i kc)
 unfolding allBelow goodEntryAt roleFreeAt numberKey currentKey usedAt
-listed-turn g c i quiet ns cs e ok role n kn kc f b l h q p o kn-is kc-is r =
+listed-turn g c i quiet ns cs e ok role kn kc f l h q p o kn-is kc-is r =
     let k : Limits g = limits g (f .good) in
     record {
       good = all-more (goodEntryAt g c) i (h .good) (ap (goodEntry (g .blocks) (g .disk)) (sym q) ∙ sym p ∙ not-false ok o);

@@ -4,3 +4,4 @@ pub mod Chain
 pub mod Settled
 pub mod Laws
 pub mod Order
+pub mod Find

@@ -6,8 +6,9 @@ ghost use mathlib.Core.Path.{_≡_};
 ghost use mathlib.Core.Bool.{false};
 ghost use Prim.Native.Nat.{_≤_, _<_};
 ghost use lib.ListN.{length};
-ghost use Rattle.protocol.specs.Below.{anyBelow};
+ghost use Rattle.protocol.specs.Below.{anyBelow, firstBelow};
 ghost use Rattle.protocol.specs.Entry.{entryAt, inUse};
+ghost use Rattle.protocol.specs.Ring.{findEntry};
 ghost use Rattle.protocol.specs.Check.{entriesApart, damageRefusal, cardRefusal};
 ghost use Rattle.ring.specs.Fitted.{Fitted, Placed, WindowOf};
 ghost use Rattle.checks.specs.Keys.{NONE, key, settledKey, undoableEntry, keyed, distinct, keyAt};
@@ -267,4 +268,36 @@ pub fn card_refusal(g: Geometry, card: &[u8]) -> u8
         return v.refusal;
     }
     if v.settled { 0 } else { 7 }
+}
+
+// The first of n keys that is k, or n where none is.
+pub fn find_key(keys: &[u32; 128], n: usize, k: u32) -> usize
+    requires { ⌜ n ≤ 128 ⌝ }
+    ensures { λ r. ⌜ r ≡ firstBelow (keyed (keyAt (now (keys .entry))) k) n ⌝ }
+{
+    let mut i: usize = 0;
+    while i < n {
+        if keys[i] == k {
+            return i;
+        }
+        i += 1;
+    }
+    n
+}
+
+// The place of the in-use entry for disk block b, or N where b is not cached. After `inspect`, `find_key` answers it without decoding.
+pub fn find_entry(g: Geometry, card: &[u8], b: u64) -> usize
+    requires { ⌜ Fitted g (now card) ⌝ }
+    ensures { λ r. ⌜ r ≡ findEntry g (now (card .entry)) b ⌝ }
+{
+    let n = g.blocks as usize;
+    let mut i: usize = 0;
+    while i < n {
+        let e = entry_of(g, card, i);
+        if codec::in_use(e) & (e.number == b) {
+            return i;
+        }
+        i += 1;
+    }
+    n
 }

@@ -38,6 +38,17 @@ unfolding _orElse_
 orElse-next r zero b z e = e
 orElse-next r (suc a) b z e = absurd (omega arith)
 
+-- neither refuses
+pub orElse-none : (a b : ℕ) → a orElse b ≡ 0 → (a ≡ 0) × (b ≡ 0)
+unfolding _orElse_
+orElse-none zero b e = (refl, e)
+orElse-none (suc a) b e = absurd (omega arith)
+
+pub refuse-none : (n : ℕ) (ok : Bool) → 0 < n → refuse n ok ≡ 0 → ok ≡ true
+unfolding refuse
+refuse-none n true l e = refl
+refuse-none n false l e = absurd (omega arith)
+
 -- ---- the geometry
 
 between-orders : (low high x : ℕ) → between low high x ≡ true → (low ≤ x) × (x ≤ high)

@@ -9,7 +9,7 @@ use native.Mathlib.Omega.{arith}
 use lib.ListN.{length, getD}
 use lib.Dec.{ltb, eqb}
 use lib.Pow.{shl-exact}
-use borrow.Author.Tests.{lt-ltb, le-ltb, le-leb, lt-leb, ltb-false, eq-eqb, ne-eqb, not-true, not-false}
+use borrow.Author.Tests.{lt-ltb, le-ltb, le-leb, lt-leb, ltb-false, eq-eqb, ne-eqb, eqb-true, not-true, not-false}
 use Rattle.numbers.specs.Bytes.{numberAt}
 use Rattle.protocol.specs.declared.Geometry.{Geometry}
 use Rattle.protocol.specs.Below.{allBelow, anyBelow, around}
@@ -19,7 +19,7 @@ use Rattle.protocol.specs.Check.{refuse, _orElse_, headerFits, cardFits, diskFi
 use Rattle.ring.specs.declared.Window.{Window}
 use Rattle.ring.specs.Fitted.{Fitted, Placed, WindowOf}
 use Rattle.protocol.proofs.Below.{and-left, and-right, and-fails, below-or-above, any-found, any-done}
-use Rattle.protocol.proofs.Checks.{Limits, limits, refuse-passed, refuse-failed, orElse-first, orElse-next}
+use Rattle.protocol.proofs.Checks.{Limits, limits, refuse-passed, refuse-failed, orElse-first, orElse-next, orElse-none, refuse-none}
 
 -- ---- the geometry
 
@@ -106,6 +106,24 @@ unfolding cardFits
 fit-length c r g n e h q s t =
     fit-past c r 2 e h
     (refuse-failed 2 (cardFits (geometryOf c) c) (ne-eqb _ _ (λ p. t (p ∙ sym (s ∙ ap cardLength q)))))
+
+-- a card that passes both checks fits
+pub fit-long : (c : List ℕ) (r : ℕ) → r ≡ fitRefusal c → r ≡ 0 → 128 ≤ length c
+unfolding fitRefusal
+fit-long c r e z =
+    let h : headerFits c ≡ true = refuse-none 1 (headerFits c) (omega arith) (orElse-none (refuse 1 (headerFits c)) _ (sym e ∙ z) .0) in
+    header-long c true (sym h) refl
+
+pub fit-fitted : (c : List ℕ) (g : Geometry) (r : ℕ) → r ≡ fitRefusal c → r ≡ 0 → g ≡ geometryOf c → Fitted g c
+unfolding fitRefusal cardFits
+fit-fitted c g r e z q =
+    let both = orElse-none (refuse 1 (headerFits c)) _ (sym e ∙ z) in
+    let h : headerFits c ≡ true = refuse-none 1 (headerFits c) (omega arith) (both .0) in
+    let l : cardFits (geometryOf c) c ≡ true = refuse-none 2 (cardFits (geometryOf c) c) (omega arith) (both .1) in
+    record {
+      good = header-geometry c true g (sym h) refl q;
+      long = eqb-true (length c) (cardLength (geometryOf c)) l ∙ ap cardLength (sym q)
+    }
 
 -- ---- check 4
 

@@ -9,13 +9,13 @@ use Rattle.checks.proofs.decode.Statement.{statement}
 use Rattle.checks.proofs.decode.Tie as tie
 
 abbrev Inv-loop : tie.InvT-loop
-Inv-loop g card ids₀ currents₀ n quiet₀ i₀ ids currents quiet i = (n ≡ g .blocks) × (n ≤ 128) × (i ≤ n) × Listed g card i quiet ids currents
+Inv-loop g card ids₀ currents₀ n quiet₀ i₀ ids currents quiet i = (n ≤ 128) × (i ≤ n) × Listed g card i quiet ids currents
 
 abbrev μ-loop : tie.MeasureT-loop
 μ-loop g card ids₀ currents₀ n quiet₀ i₀ ids currents quiet i = n - i
 
 loop-holds : tie.Need-loop-holds Inv-loop μ-loop
-loop-holds c = let k = limits (c .before .args .g) (c .before .pre .0 .good) in (search needs, omega arith, search needs, search (listed-start, needs))
+loop-holds c = let k = limits (c .before .args .g) (c .before .pre .0 .good) in (omega arith, search needs, search (listed-start, needs))
 
 entry-of-requires : tie.Need-entry-of-requires Inv-loop μ-loop
 entry-of-requires c κs = search needs
@@ -57,7 +57,7 @@ loop-less : tie.Need-loop-less Inv-loop μ-loop
 loop-less c = search needs
 
 loop-again : tie.Need-loop-again Inv-loop μ-loop
-loop-again c = let b = c .before .before .before in let m = b .before in let h = m .before .before .before .before in (search needs, search needs, search needs, listed-turn _ _ _ _ _ _ _ _ _ _ _ _ (h .before .before .pre .0) (h .loop .inv .0) (m .before .before .before .loop-test .taken) (h .loop .inv .3) (m .before .before .entry-of .ensures) (m .before .good-entry .ensures) (m .if1 .left) (b .key-of .ensures) (c .before .key-of2 .ensures) (c .has-log-role .ensures))
+loop-again c = let b = c .before .before .before in let m = b .before in let h = m .before .before .before .before in (search needs, search needs, listed-turn _ _ _ _ _ _ _ _ _ _ _ (h .before .before .pre .0) (m .before .before .before .loop-test .taken) (h .loop .inv .2) (m .before .before .entry-of .ensures) (m .before .good-entry .ensures) (m .if1 .left) (b .key-of .ensures) (c .before .key-of2 .ensures) (c .has-log-role .ensures))
 
 returns-2 : tie.Need-returns-2 Inv-loop μ-loop
 returns-2 c = search (listed-end, needs)

@@ -12,7 +12,7 @@ use Rattle.checks.proofs.settled_apart.Statement.{statement}
 use Rattle.checks.proofs.settled_apart.Tie as tie
 
 abbrev Inv-loop : tie.InvT-loop
-Inv-loop g card w n keys₀ i₀ keys i = (n ≡ g .blocks) × (n ≤ 128) × (i ≤ n) × (length keys ≡ 128) × Lists (settledKey g card) keys i
+Inv-loop g card w n keys₀ i₀ keys i = (n ≤ 128) × (i ≤ n) × (length keys ≡ 128) × Lists (settledKey g card) keys i
 
 abbrev μ-loop : tie.MeasureT-loop
 μ-loop g card w n keys₀ i₀ keys i = n - i
@@ -21,7 +21,7 @@ window-of-requires : tie.Need-window-of-requires Inv-loop μ-loop
 window-of-requires c κs = search needs
 
 loop-holds : tie.Need-loop-holds Inv-loop μ-loop
-loop-holds c = (search needs, search (fitted-blocks, needs), search needs, search needs, lists-none _ _)
+loop-holds c = (search (fitted-blocks, needs), search needs, search needs, lists-none _ _)
 
 settled-key-requires : tie.Need-settled-key-requires Inv-loop μ-loop
 settled-key-requires c κs = search needs
@@ -39,13 +39,13 @@ loop-less : tie.Need-loop-less Inv-loop μ-loop
 loop-less c = search needs
 
 loop-again : tie.Need-loop-again Inv-loop μ-loop
-loop-again c = let l = c .before .before .loop in let b : l .i < length (l .keys) = omega arith in (search needs, search needs, search needs, search needs, lists-more _ _ _ _ b (l .inv .4) (c .settled-key .ensures))
+loop-again c = let l = c .before .before .loop in let b : l .i < length (l .keys) = omega arith in (search needs, search needs, search needs, lists-more _ _ _ _ b (l .inv .3) (c .settled-key .ensures))
 
 blocks-apart-requires : tie.Need-blocks-apart-requires Inv-loop μ-loop
 blocks-apart-requires c κs = search needs
 
 returns : tie.Need-returns Inv-loop μ-loop
-returns c = let e = c .before .before in listed-distinct _ _ _ _ _ (lists-all _ _ _ _ (e .loop-test .left) (e .before .loop .inv .4)) (c .blocks-apart .ensures)
+returns c = let e = c .before .before in listed-distinct _ _ _ _ _ (lists-all _ _ _ _ (e .loop-test .left) (e .before .loop .inv .3)) (c .blocks-apart .ensures)
 
 pub settled-apart-spec : {M : Type 1} → statement M
 settled-apart-spec = tie.close (tie.spec Inv-loop μ-loop window-of-requires loop-holds settled-key-requires mul-keys array-write-keys add-i loop-less loop-again blocks-apart-requires returns)

@@ -1,0 +1,48 @@
+-- Searches for a number: none of the indices passed has it. What is found among the listed keys is found among the entries. Assumes nothing.
+use Prim.Native.Nat.{ℕ, zero, suc, _≤_, _<_}
+use mathlib.Core.List.{List}
+use mathlib.Core.Bool.{Bool, true, false, cond, _&&_}
+use mathlib.Core.Path.{_≡_, refl, sym, ap, _∙_}
+use native.Mathlib.Omega.{arith}
+use lib.Dec.{eqb, ltb}
+use borrow.Author.Tests.{ne-eqb}
+use Rattle.protocol.specs.declared.Geometry.{Geometry}
+use Rattle.protocol.specs.declared.Entry.{Entry}
+use Rattle.protocol.specs.Below.{anyBelow, firstBelow}
+use Rattle.protocol.specs.Entry.{entryAt, inUse}
+use Rattle.protocol.specs.Ring.{usedAt, entryFor, findEntry}
+use Rattle.protocol.proofs.Below.{any-at, first-at, first-none}
+use Rattle.checks.specs.Keys.{NONE, key, numberKey, keyed, keyAt, Lists}
+
+-- the first index that has p, where none before it has
+pub first-here : (p : ℕ → Bool) (n i : ℕ) → anyBelow p i ≡ false → i < n → p i ≡ true → i ≡ firstBelow p n
+first-here p n i h l e = sym (first-at p n i l e (λ j b. any-at p i j h b))
+
+pub first-nowhere : (p : ℕ → Bool) (n i : ℕ) → anyBelow p i ≡ false → n ≤ i → n ≡ firstBelow p n
+first-nowhere p n i h l = sym (first-none p n (λ j b. any-at p i j h (omega arith)))
+
+-- tests that agree below n find the same
+first-same : (p q : ℕ → Bool) (n : ℕ) → ((i : ℕ) → i < n → p i ≡ q i) → firstBelow p n ≡ firstBelow q n
+unfolding firstBelow
+first-same p q zero h = refl
+first-same p q (suc n) h =
+    let e : firstBelow p n ≡ firstBelow q n = first-same p q n (λ i l. h i (omega arith)) in
+    λ t. cond (ltb (e t) n) (e t) (cond (h n (omega arith) t) n (suc n))
+
+pub entry-for : (g : Geometry) (c : List ℕ) (b i : ℕ) (e : Entry) (u r : Bool) → e ≡ entryAt g c i → u ≡ inUse e → u && eqb (e .number) b ≡ r
+    → entryFor g c b i ≡ r
+unfolding entryFor usedAt
+entry-for g c b i e u r q used t = sym (λ k. inUse (q k) && eqb (q k .number) b) ∙ ap (λ (x : Bool). x && eqb (e .number) b) (sym used) ∙ t
+
+-- an entry in use for b has the key b
+key-for : (u : Bool) (x b : ℕ) → b < NONE → eqb (key u x) b ≡ u && eqb x b
+unfolding key
+key-for true x b l = refl
+key-for false x b l = ne-eqb NONE b (omega arith)
+
+pub find-listed : (g : Geometry) (c ids : List ℕ) (b : ℕ) → Lists (numberKey g c) ids (g .blocks) → b < NONE
+    → firstBelow (keyed (keyAt ids) b) (g .blocks) ≡ findEntry g c b
+unfolding findEntry entryFor numberKey keyed
+find-listed g c ids b h l =
+    first-same (keyed (keyAt ids) b) (entryFor g c b) (g .blocks)
+    (λ i m. ap (λ (k : ℕ). eqb k b) (h i m) ∙ key-for (usedAt g c i) (entryAt g c i .number) b l)
