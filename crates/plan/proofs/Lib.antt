@@ -1,3 +1,4 @@
 -- Laws behind the functions' proofs.
 pub mod Request
 pub mod Rows
+pub mod Keyed

@@ -1,5 +1,5 @@
--- The turns of the searches in rows: the first number that is x, the marks of those that are held, and a walk round that lists what it
--- finds. After j steps the list is the walk of j steps, which is where the whole walk begins. Assumes nothing.
+-- The turns of the searches in rows of keys: the marks of the data blocks that are no key, and a walk round that lists what it finds. After j
+-- steps the list is the walk of j steps, with which the whole walk begins. Assumes nothing.
 use Prim.Native.Nat.{ℕ, zero, suc, _+_, _-_, _≤_, _<_}
 use mathlib.Core.List.{List, [], _∷_, _++_, append-nil, append-assoc}
 use mathlib.Core.Bool.{Bool, true, false, cond, not, _||_}
@@ -12,79 +12,51 @@ use lib.ListN.{length, getD, set, replicate, length-set, length-replicate, getD-
 use lib.Seq.{getD-set-same, getD-set-other, getD-append-seam}
 use lib.Dec.{leb, ltb, eqb}
 use borrow.Author.Tests.{eq-eqb, ne-eqb, lt-ltb, le-ltb, le-leb}
-use Rattle.protocol.specs.Below.{anyBelow, firstBelow, eachBelow, keep, around, walked}
-use Rattle.protocol.proofs.Below.{same-or-other, below-or-above, any-at, any-more, first-at, first-none, around-below, around-next}
-use Rattle.plan.specs.Rows.{has, holds, Searched}
-
--- ---- the first number that is x
-
-pub find-turn : (xs : List ℕ) (x i y : ℕ) → anyBelow (has xs x) i ≡ false → y ≡ getD xs i 0 → (y ≡ x → ⊥)
-    → anyBelow (has xs x) (i + 1) ≡ false
-unfolding has
-find-turn xs x i y h q o = any-more (has xs x) i h (ne-eqb (getD xs i 0) x (λ e. o (q ∙ e)))
-
-pub find-hit : (xs : List ℕ) (x n i y : ℕ) → i < n → anyBelow (has xs x) i ≡ false → y ≡ getD xs i 0 → y ≡ x
-    → i ≡ firstBelow (has xs x) n
-unfolding has
-find-hit xs x n i y l h q e =
-    sym (first-at (has xs x) n i l (eq-eqb (getD xs i 0) x (sym q ∙ e)) (λ j b. any-at (has xs x) i j h b))
-
-pub find-miss : (xs : List ℕ) (x n i : ℕ) → n ≤ i → anyBelow (has xs x) i ≡ false → n ≡ firstBelow (has xs x) n
-find-miss xs x n i l h = sym (first-none (has xs x) n (λ j b. any-at (has xs x) i j h (omega arith)))
+use Rattle.protocol.specs.Below.{anyBelow, eachBelow, keep, around, walked}
+use Rattle.protocol.proofs.Below.{same-or-other, below-or-above, any-hit, any-miss, around-below, around-next}
+use Rattle.checks.specs.Keys.{NONE, keyed, keyAt}
+use Rattle.plan.specs.Searched.{Searched}
 
 -- ---- marks
 
 -- place v is marked free where it is none of the first i keys
 pub record Marked (keys : List ℕ) (i : ℕ) (marks : List ℕ) : Type 0 where
   pub long : length marks ≡ 128
-  pub free : (v : ℕ) → v < 128 → has marks 65536 v ≡ not (holds keys i v)
+  pub free : (v : ℕ) → v < 128 → keyed (keyAt marks) NONE v ≡ not (anyBelow (keyed (keyAt keys) v) i)
 
-pub marked-start : (keys : List ℕ) → Marked keys 0 (replicate 128 65536)
-unfolding has holds anyBelow
+pub marked-start : (keys : List ℕ) → Marked keys 0 (replicate 128 NONE)
+unfolding keyed keyAt anyBelow
 marked-start keys = record {
-  long = length-replicate {A = ℕ} 128 65536;
-  free = λ v h. eq-eqb _ 65536 (getD-replicate 128 v 65536 0 h);
+  long = length-replicate {A = ℕ} 128 NONE;
+  free = λ v h. eq-eqb _ NONE (getD-replicate 128 v NONE 0 h);
 }
-
-holds-more : (keys : List ℕ) (i v : ℕ) → holds keys (i + 1) v ≡ holds keys i v || eqb (getD keys i 0) v
-unfolding holds anyBelow has
-holds-more keys i v = ap (λ (z : ℕ). holds keys z v) (add-one i)
-
-or-none : (b : Bool) → b || false ≡ b
-or-none true = refl
-or-none false = refl
-
-or-one : (b : Bool) → not (b || true) ≡ false
-or-one true = refl
-or-one false = refl
 
 module _ (keys : List ℕ) (i : ℕ) (marks : List ℕ) (h : Marked keys i marks) where
   -- another key leaves what is said of v
-  mark-kept : (v : ℕ) → v < 128 → (getD keys i 0 ≡ v → ⊥) → has marks 65536 v ≡ not (holds keys (i + 1) v)
-  mark-kept v l o =
-      h .free v l
-      ∙ ap not (sym (holds-more keys i v ∙ ap (λ (b : Bool). holds keys i v || b) (ne-eqb (getD keys i 0) v o) ∙ or-none (holds keys i v)))
+  mark-kept : (v : ℕ) → v < 128 → (getD keys i 0 ≡ v → ⊥) → keyed (keyAt marks) NONE v ≡ not (anyBelow (keyed (keyAt keys) v) (i + 1))
+  unfolding keyed keyAt
+  mark-kept v l o = h .free v l ∙ ap not (sym (any-miss (keyed (keyAt keys) v) i (ne-eqb (getD keys i 0) v o)))
 
   pub marked-skip : (k : ℕ) → k ≡ getD keys i 0 → 128 ≤ k → Marked keys (i + 1) marks
   marked-skip k q b = record { long = h .long; free = λ v l. mark-kept v l (omega arith) }
 
   pub marked-more : (k : ℕ) → k ≡ getD keys i 0 → k < 128 → Marked keys (i + 1) (set marks k 0)
-  unfolding has
+  unfolding keyed keyAt
   marked-more k q b = record {
     long = length-set marks k 0 ∙ h .long;
     free =
         λ v l.
         ⊎-elim
         (λ (e : v ≡ k).
-        ap (λ (x : ℕ). eqb (getD (set marks k 0) x 0) 65536) e
-        ∙ ap (λ (x : ℕ). eqb x 65536) (getD-set-same marks k 0 0 (omega (arith, h .long)))
-        ∙ sym (ap not (holds-more keys i v ∙ ap (λ (t : Bool). holds keys i v || t) (eq-eqb (getD keys i 0) v (sym (e ∙ q)))) ∙ or-one (holds keys i v)))
-        (λ (e : v ≡ k → ⊥). ap (λ (x : ℕ). eqb x 65536) (getD-set-other marks k v 0 0 e) ∙ mark-kept v l (λ z. e (sym z ∙ sym q)))
+        ap (λ (x : ℕ). eqb (getD (set marks k 0) x 0) NONE) e
+        ∙ ap (λ (x : ℕ). eqb x NONE) (getD-set-same marks k 0 0 (omega (arith, h .long)))
+        ∙ ap not (sym (any-hit (keyed (keyAt keys) v) i (eq-eqb (getD keys i 0) v (sym (e ∙ q))))))
+        (λ (e : v ≡ k → ⊥). ap (λ (x : ℕ). eqb x NONE) (getD-set-other marks k v 0 0 e) ∙ mark-kept v l (λ z. e (sym z ∙ sym q)))
         (same-or-other v k);
   }
 
-  pub marked-end : (n : ℕ) → i ≤ n → n ≤ i → (v : ℕ) → v < 128 → has marks 65536 v ≡ not (holds keys n v)
-  marked-end n a b v l = let e : i ≡ n = omega arith in h .free v l ∙ ap (λ (z : ℕ). not (holds keys z v)) e
+  pub marked-end : (n : ℕ) → i ≤ n → n ≤ i → (v : ℕ) → v < 128 → keyed (keyAt marks) NONE v ≡ not (anyBelow (keyed (keyAt keys) v) n)
+  marked-end n a b v l = let e : i ≡ n = omega arith in h .free v l ∙ ap (λ (z : ℕ). not (anyBelow (keyed (keyAt keys) v) z)) e
 
 -- ---- a walk round
 
@@ -224,13 +196,13 @@ module _ (p : ℕ → Bool) (n start : ℕ) (s : start < n) where
       }
 
 -- a turn at a place that is marked as wanted, and at another
-module _ (marks : List ℕ) (n start j count at : ℕ) (places : List ℕ) (s : start < n) (h : Walking (has marks 65536) n start j count at places) (l : j < n)
+module _ (marks : List ℕ) (n start j count at : ℕ) (places : List ℕ) (s : start < n) (h : Walking (keyed (keyAt marks) NONE) n start j count at places) (l : j < n)
     (next : ℕ) (e : next ≡ around n at 1)
   where
-    pub walk-lists : n ≤ 128 → getD marks at 0 ≡ 65536 → Walking (has marks 65536) n start (j + 1) (count + 1) next (set places count at)
-    unfolding has
-    walk-lists m q = walk-hit (has marks 65536) n start s j count at places h l next e m (eq-eqb (getD marks at 0) 65536 q)
+    pub walk-lists : n ≤ 128 → getD marks at 0 ≡ NONE → Walking (keyed (keyAt marks) NONE) n start (j + 1) (count + 1) next (set places count at)
+    unfolding keyed keyAt
+    walk-lists m q = walk-hit (keyed (keyAt marks) NONE) n start s j count at places h l next e m (eq-eqb (getD marks at 0) NONE q)
 
-    pub walk-passes : (getD marks at 0 ≡ 65536 → ⊥) → Walking (has marks 65536) n start (j + 1) count next places
-    unfolding has
-    walk-passes q = walk-miss (has marks 65536) n start s j count at places h l next e (ne-eqb (getD marks at 0) 65536 q)
+    pub walk-passes : (getD marks at 0 ≡ NONE → ⊥) → Walking (keyed (keyAt marks) NONE) n start (j + 1) count next places
+    unfolding keyed keyAt
+    walk-passes q = walk-miss (keyed (keyAt marks) NONE) n start s j count at places h l next e (ne-eqb (getD marks at 0) NONE q)

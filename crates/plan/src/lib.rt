@@ -4,14 +4,18 @@ ghost use mathlib.Core.Path.{_≡_};
 ghost use mathlib.Core.Bool.{true, not};
 ghost use Prim.Native.Nat.{ℕ, _≤_, _<_};
 ghost use lib.ListN.{length};
-ghost use Rattle.protocol.specs.Below.{firstBelow, around};
+ghost use Rattle.protocol.specs.Below.{anyBelow, around};
 ghost use Rattle.protocol.specs.Layout.{goodGeometry};
+ghost use Rattle.protocol.specs.Search.{isFree, unusedAt, searchStart};
+ghost use Rattle.protocol.specs.Check.{entriesFit};
 ghost use Rattle.protocol.specs.Commit.{numbersFit, newNumber, numbersApart};
 ghost use Rattle.plan.specs.Request.{requestRefusal};
-ghost use Rattle.plan.specs.Rows.{has, holds, Searched};
+ghost use Rattle.ring.specs.Fitted.{Fitted};
+ghost use Rattle.checks.specs.Keys.{NONE, keyed, keyAt, numberKey, currentKey, Lists};
+ghost use Rattle.plan.specs.Searched.{Searched};
 
 // The key of an unused entry and the mark of a free data block: no disk block and no data block has this number.
-const NONE: u32 = 65536;
+const NOTHING: u32 = 65536;
 
 // Not 10: each number is below D.
 fn numbers_fit(g: Geometry, numbers: &[u64]) -> bool
@@ -80,36 +84,21 @@ fn request_refusal(g: Geometry, numbers: &[u64], data: &[u8]) -> u8
     0
 }
 
-fn wide(x: u32) -> u64
+fn wide(x: u32) -> usize
     ensures { λ r. ⌜ r ≡ x ⌝ }
 {
-    x as u64
+    x as usize
 }
 
-// The first of n keys that is b, or n where none is.
-fn find(keys: &[u32; 128], n: usize, b: u64) -> usize
-    requires { ⌜ n ≤ 128 ⌝ }
-    ensures { λ r. ⌜ r ≡ firstBelow (has (now (keys .entry)) b) n ⌝ }
-{
-    let mut i: usize = 0;
-    while i < n {
-        if wide(keys[i]) == b {
-            return i;
-        }
-        i += 1;
-    }
-    n
-}
-
-// A mark for each data block: NONE where it is none of the n keys.
+// A mark for each data block: NOTHING where it is none of the n keys.
 fn free_marks(keys: &[u32; 128], n: usize) -> [u32; 128]
     requires { ⌜ n ≤ 128 ⌝ }
-    ensures { λ r. ⌜ ((p : ℕ) → p < 128 → has r 65536 p ≡ not (holds (now (keys .entry)) n p)) ⌝ }
+    ensures { λ r. ⌜ ((p : ℕ) → p < 128 → keyed (keyAt r) NONE p ≡ not (anyBelow (keyed (keyAt (now (keys .entry))) p) n)) ⌝ }
 {
-    let mut marks = [NONE; 128];
+    let mut marks = [NOTHING; 128];
     let mut i: usize = 0;
     while i < n {
-        let key = wide(keys[i]) as usize;
+        let key = wide(keys[i]);
         i += 1;
         if key < 128 {
             marks[key] = 0;
@@ -133,10 +122,10 @@ fn next(n: usize, at: usize) -> usize
     if ahead < n { ahead } else { ahead - n }
 }
 
-// Walks from `start` upward and round n places, and lists those that are marked NONE until it has as many as are wanted.
+// Walks from `start` upward and round n places, and lists those that are marked NOTHING until it has as many as are wanted.
 fn walk(marks: &[u32; 128], n: usize, start: usize, want: usize) -> Places
     requires { ⌜ (start < n) × (n ≤ 128) ⌝ }
-    ensures { λ r. ⌜ Searched (has (now (marks .entry)) 65536) n start want r ⌝ }
+    ensures { λ r. ⌜ Searched (keyed (keyAt (now (marks .entry))) NONE) n start want r ⌝ }
 {
     let mut places = [0u8; 128];
     let mut count: usize = 0;
@@ -152,7 +141,7 @@ fn walk(marks: &[u32; 128], n: usize, start: usize, want: usize) -> Places
         let here = at;
         at = next(n, here);
         j += 1;
-        if marks[here] == NONE {
+        if marks[here] == NOTHING {
             places[count] = here as u8;
             count += 1;
         }
@@ -161,4 +150,30 @@ fn walk(marks: &[u32; 128], n: usize, start: usize, want: usize) -> Places
         count: count,
         places: places,
     }
+}
+
+// Document 01's search starts at Head mod N.
+fn search_start(g: Geometry, card: &[u8]) -> usize
+    requires { ⌜ Fitted g (now card) ⌝ }
+    ensures { λ r. ⌜ (r ≡ searchStart g (now (card .entry))) × (r < g .blocks) ⌝ }
+{
+    (ring::head_of(card) % g.blocks) as usize
+}
+
+// The first `want` free data blocks, from the keys of the current blocks.
+pub fn free_blocks(g: Geometry, card: &[u8], currents: &[u32; 128], want: usize) -> Places
+    requires { ⌜ Fitted g (now card) × Lists (currentKey g (now card)) (now currents) (g .blocks) ⌝ }
+    ensures { λ r. ⌜ Searched (isFree g (now (card .entry))) (g .blocks) (searchStart g (now (card .entry))) want r ⌝ }
+{
+    let n = g.blocks as usize;
+    let marks = free_marks(currents, n);
+    walk(&marks, n, search_start(g, card), want)
+}
+
+// The first `want` unused entries, from the keys of the numbers.
+pub fn unused_entries(g: Geometry, card: &[u8], ids: &[u32; 128], want: usize) -> Places
+    requires { ⌜ Fitted g (now card) × (entriesFit g (now card) ≡ true) × Lists (numberKey g (now card)) (now ids) (g .blocks) ⌝ }
+    ensures { λ r. ⌜ Searched (unusedAt g (now (card .entry))) (g .blocks) (searchStart g (now (card .entry))) want r ⌝ }
+{
+    walk(ids, g.blocks as usize, search_start(g, card), want)
 }

@@ -1,13 +1,13 @@
 -- `walk` lists what a walk round finds. The invariant: what is listed is what j steps have found.
 use Prim.Native.Nat.{_≤_, _-_}
-use Rattle.plan.specs.Rows.{has}
+use Rattle.checks.specs.Keys.{NONE, keyed, keyAt}
 use Rattle.plan.proofs.Rows.{Walking, walk-start, walk-lists, walk-passes, walk-full, walk-end}
 use borrow.Author.Needs.{needs}
 use Rattle.plan.proofs.walk.Statement.{statement}
 use Rattle.plan.proofs.walk.Tie as tie
 
 abbrev Inv-loop : tie.InvT-loop
-Inv-loop marks n start want places₀ count₀ at₀ j₀ places count at j = (j ≤ n) × Walking (has marks 65536) n start j count at places
+Inv-loop marks n start want places₀ count₀ at₀ j₀ places count at j = (j ≤ n) × Walking (keyed (keyAt marks) NONE) n start j count at places
 
 abbrev μ-loop : tie.MeasureT-loop
 μ-loop marks n start want places₀ count₀ at₀ j₀ places count at j = n - j
