@@ -2,3 +2,4 @@
 pub mod Request
 pub mod Rows
 pub mod Keyed
+pub mod Housing

@@ -1,4 +1,5 @@
 // The plan of a commit, from the card at entry: its own refusals, and for each block its entry, its previous and its new data block.
+use protocol::FRESH;
 use protocol::Geometry;
 ghost use mathlib.Core.Path.{_≡_};
 ghost use mathlib.Core.Bool.{true, not};
@@ -13,6 +14,7 @@ ghost use Rattle.plan.specs.Request.{requestRefusal};
 ghost use Rattle.ring.specs.Fitted.{Fitted};
 ghost use Rattle.checks.specs.Keys.{NONE, keyed, keyAt, numberKey, currentKey, Lists};
 ghost use Rattle.plan.specs.Searched.{Searched};
+ghost use Rattle.plan.specs.Planned.{Keyed, Housed, AllHoused, Saved};
 
 // The key of an unused entry and the mark of a free data block: no disk block and no data block has this number.
 const NOTHING: u32 = 65536;
@@ -176,4 +178,135 @@ pub fn unused_entries(g: Geometry, card: &[u8], ids: &[u32; 128], want: usize) -
     ensures { λ r. ⌜ Searched (unusedAt g (now (card .entry))) (g .blocks) (searchStart g (now (card .entry))) want r ⌝ }
 {
     walk(ids, g.blocks as usize, search_start(g, card), want)
+}
+
+// Where one block of a commit belongs: its entry, its previous data block, and how many numbers were not cached up to it.
+pub struct Home {
+    pub entry: u8,
+    pub previous: u32,
+    pub misses: usize,
+}
+
+// The entry with the key b, or the next unused one.
+fn home_of(
+    ids: &[u32; 128],
+    currents: &[u32; 128],
+    unused: &[u8; 128],
+    n: usize,
+    b: u64,
+    misses: usize,
+) -> Home
+    requires { ⌜ (n ≤ 128) × (b < NONE) × (misses < 128) ⌝ }
+    ensures { λ r. ⌜ Housed (now (ids .entry)) (now (currents .entry)) (now (unused .entry)) n b misses r ⌝ }
+{
+    let at = checks::find_key(ids, n, b as u32);
+    if at < n {
+        Home {
+            entry: at as u8,
+            previous: currents[at],
+            misses: misses,
+        }
+    } else {
+        Home {
+            entry: unused[misses],
+            previous: FRESH,
+            misses: misses + 1,
+        }
+    }
+}
+
+// For each block of a commit its entry's place and its previous data block.
+pub struct Homes {
+    pub entries: [u8; 128],
+    pub previous: [u32; 128],
+}
+
+fn homes_of(g: Geometry, card: &[u8], ids: &[u32; 128], currents: &[u32; 128], numbers: &[u64]) -> Homes
+    requires { ⌜ Keyed g (now card) (now ids) (now currents) × (numbersFit g (now numbers) ≡ true) × (length (now numbers) ≤ 128) ⌝ }
+    ensures { λ r. ⌜ AllHoused g (now (card .entry)) (now (numbers .entry)) r ⌝ }
+{
+    let found = unused_entries(g, card, ids, numbers.len());
+    let unused = found.places;
+    let mut entries = [0u8; 128];
+    let mut previous = [0u32; 128];
+    let mut misses: usize = 0;
+    let mut i: usize = 0;
+    while i < numbers.len() {
+        let h = home_of(
+            ids,
+            currents,
+            &unused,
+            g.blocks as usize,
+            numbers[i],
+            misses,
+        );
+        entries[i] = h.entry;
+        previous[i] = h.previous;
+        misses = h.misses;
+        i += 1;
+    }
+    Homes {
+        entries: entries,
+        previous: previous,
+    }
+}
+
+// The plan of a commit: for each block its entry's place, its previous and its new data block.
+pub struct Plan {
+    pub entries: [u8; 128],
+    pub previous: [u32; 128],
+    pub blocks: [u8; 128],
+}
+
+// What a commit asks of a card that is not damaged and settled: refused, or planned.
+pub struct Saving {
+    pub refusal: u8,
+    pub plan: Plan,
+}
+
+fn unplanned(refusal: u8) -> Saving
+    ensures { λ r. ⌜ r .refusal ≡ refusal ⌝ }
+{
+    Saving {
+        refusal: refusal,
+        plan: Plan {
+            entries: [0u8; 128],
+            previous: [0u32; 128],
+            blocks: [0u8; 128],
+        },
+    }
+}
+
+// 8 to 14, and where none of them is given the plan.
+pub fn save(
+    g: Geometry,
+    card: &[u8],
+    ids: &[u32; 128],
+    currents: &[u32; 128],
+    numbers: &[u64],
+    data: &[u8],
+) -> Saving
+    requires { ⌜ Keyed g (now card) (now ids) (now currents) ⌝ }
+    ensures { λ r. ⌜ Saved g (now (card .entry)) (now (numbers .entry)) (now («data» .entry)) r ⌝ }
+{
+    let refusal = request_refusal(g, numbers, data);
+    if refusal != 0 {
+        return unplanned(refusal);
+    }
+    let free = free_blocks(g, card, currents, numbers.len());
+    if free.count < numbers.len() {
+        return unplanned(14);
+    }
+    let h = homes_of(g, card, ids, currents, numbers);
+    let entries = h.entries;
+    let previous = h.previous;
+    let blocks = free.places;
+    Saving {
+        refusal: 0,
+        plan: Plan {
+            entries: entries,
+            previous: previous,
+            blocks: blocks,
+        },
+    }
 }
