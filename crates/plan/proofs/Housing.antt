@@ -56,52 +56,52 @@ number-key g c ids currents ns i k h l =
 module _ (g : Geometry) (c ids currents ns unused : List ℕ) (i missed : ℕ) (r : Home) (k : Keyed g c ids currents) (b : getD ns i 0 < NONE)
     (m : missed ≡ countBelow (uncachedAt g c ns) i) (h : Housed ids currents unused (g .blocks) (getD ns i 0) missed r)
   where
-  found-is : keyPlace ids (g .blocks) (getD ns i 0) ≡ findEntry g c (getD ns i 0)
-  unfolding keyPlace
-  found-is = find-listed g c ids (getD ns i 0) (k .numbers) b
+    found-is : keyPlace ids (g .blocks) (getD ns i 0) ≡ findEntry g c (getD ns i 0)
+    unfolding keyPlace
+    found-is = find-listed g c ids (getD ns i 0) (k .numbers) b
 
-  home-entry : getD unused missed 0 ≡ getD (unusedEntries g c) missed 0 → r .entry ≡ entryFound g c ns i
-  unfolding entryFound uncachedAt cached numberOf
-  home-entry u =
-      h .entry
-      ∙ (λ t. cond (ltb (found-is t) (g .blocks)) (found-is t) (u t))
-      ∙ (λ t. cond (ltb (findEntry g c (getD ns i 0)) (g .blocks)) (findEntry g c (getD ns i 0)) (getD (unusedEntries g c) (m t) 0))
-      ∙ cond-not (ltb (findEntry g c (getD ns i 0)) (g .blocks)) _ _
+    home-entry : getD unused missed 0 ≡ getD (unusedEntries g c) missed 0 → r .entry ≡ entryFound g c ns i
+    unfolding entryFound uncachedAt cached numberOf
+    home-entry u =
+        h .entry
+        ∙ (λ t. cond (ltb (found-is t) (g .blocks)) (found-is t) (u t))
+        ∙ (λ t. cond (ltb (findEntry g c (getD ns i 0)) (g .blocks)) (findEntry g c (getD ns i 0)) (getD (unusedEntries g c) (m t) 0))
+        ∙ cond-not (ltb (findEntry g c (getD ns i 0)) (g .blocks)) _ _
 
-  found-current : findEntry g c (getD ns i 0) < g .blocks → getD currents (findEntry g c (getD ns i 0)) 0 ≡ currentOf g c (getD ns i 0)
-  unfolding keyAt currentKey currentOf findEntry entryFor key
-  found-current l =
-      let at = findEntry g c (getD ns i 0) in
-      let used : usedAt g c at ≡ true = and-left (usedAt g c at) _ (first-found (entryFor g c (getD ns i 0)) (g .blocks) l) in
-      k .blocks at l ∙ ap (λ (t : Bool). cond t (entryAt g c at .current) NONE) used
+    found-current : findEntry g c (getD ns i 0) < g .blocks → getD currents (findEntry g c (getD ns i 0)) 0 ≡ currentOf g c (getD ns i 0)
+    unfolding keyAt currentKey currentOf findEntry entryFor key
+    found-current l =
+        let at = findEntry g c (getD ns i 0) in
+        let used : usedAt g c at ≡ true = and-left (usedAt g c at) _ (first-found (entryFor g c (getD ns i 0)) (g .blocks) l) in
+        k .blocks at l ∙ ap (λ (t : Bool). cond t (entryAt g c at .current) NONE) used
 
-  home-previous : r .previous ≡ oldBlock g c ns i
-  unfolding oldBlock uncachedAt cached numberOf
-  home-previous =
-      h .previous
-      ∙ (λ t. cond (ltb (found-is t) (g .blocks)) (getD currents (found-is t) 0) FRESH)
-      ∙ old (either (ltb (findEntry g c (getD ns i 0)) (g .blocks)))
-      ∙ cond-not (ltb (findEntry g c (getD ns i 0)) (g .blocks)) _ _
-    where
-      at : ℕ
-      at = findEntry g c (getD ns i 0)
+    home-previous : r .previous ≡ oldBlock g c ns i
+    unfolding oldBlock uncachedAt cached numberOf
+    home-previous =
+        h .previous
+        ∙ (λ t. cond (ltb (found-is t) (g .blocks)) (getD currents (found-is t) 0) FRESH)
+        ∙ old (either (ltb (findEntry g c (getD ns i 0)) (g .blocks)))
+        ∙ cond-not (ltb (findEntry g c (getD ns i 0)) (g .blocks)) _ _
+      where
+        at : ℕ
+        at = findEntry g c (getD ns i 0)
 
-      old : (ltb at (g .blocks) ≡ true) ⊎ (ltb at (g .blocks) ≡ false)
-          → cond (ltb at (g .blocks)) (getD currents at 0) FRESH ≡ cond (ltb at (g .blocks)) (currentOf g c (getD ns i 0)) FRESH
-      old (inl t) = rw t (found-current (ltb-true _ _ t))
-      old (inr t) = rw t
+        old : (ltb at (g .blocks) ≡ true) ⊎ (ltb at (g .blocks) ≡ false)
+            → cond (ltb at (g .blocks)) (getD currents at 0) FRESH ≡ cond (ltb at (g .blocks)) (currentOf g c (getD ns i 0)) FRESH
+        old (inl t) = rw t (found-current (ltb-true _ _ t))
+        old (inr t) = rw t
 
-  home-misses : r .misses ≡ countBelow (uncachedAt g c ns) (i + 1)
-  unfolding uncachedAt cached numberOf
-  home-misses =
-      h .misses
-      ∙ (λ t. cond (ltb (found-is t) (g .blocks)) (m t) (m t + 1))
-      ∙ ⊎-elim
-      (λ t. ap (λ (z : Bool). cond z (countBelow (uncachedAt g c ns) i) (countBelow (uncachedAt g c ns) i + 1)) t
-      ∙ sym (count-miss (uncachedAt g c ns) i (ap not t)))
-      (λ t. ap (λ (z : Bool). cond z (countBelow (uncachedAt g c ns) i) (countBelow (uncachedAt g c ns) i + 1)) t
-      ∙ sym (count-hit (uncachedAt g c ns) i (ap not t)))
-      (either (ltb (findEntry g c (getD ns i 0)) (g .blocks)))
+    home-misses : r .misses ≡ countBelow (uncachedAt g c ns) (i + 1)
+    unfolding uncachedAt cached numberOf
+    home-misses =
+        h .misses
+        ∙ (λ t. cond (ltb (found-is t) (g .blocks)) (m t) (m t + 1))
+        ∙ ⊎-elim
+        (λ t. ap (λ (z : Bool). cond z (countBelow (uncachedAt g c ns) i) (countBelow (uncachedAt g c ns) i + 1)) t
+        ∙ sym (count-miss (uncachedAt g c ns) i (ap not t)))
+        (λ t. ap (λ (z : Bool). cond z (countBelow (uncachedAt g c ns) i) (countBelow (uncachedAt g c ns) i + 1)) t
+        ∙ sym (count-hit (uncachedAt g c ns) i (ap not t)))
+        (either (ltb (findEntry g c (getD ns i 0)) (g .blocks)))
 
 -- ---- all of them
 

@@ -3,3 +3,4 @@ pub mod Request
 pub mod Rows
 pub mod Keyed
 pub mod Housing
+pub mod Order

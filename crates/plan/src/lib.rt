@@ -221,7 +221,13 @@ pub struct Homes {
     pub previous: [u32; 128],
 }
 
-fn homes_of(g: Geometry, card: &[u8], ids: &[u32; 128], currents: &[u32; 128], numbers: &[u64]) -> Homes
+fn homes_of(
+    g: Geometry,
+    card: &[u8],
+    ids: &[u32; 128],
+    currents: &[u32; 128],
+    numbers: &[u64],
+) -> Homes
     requires { ⌜ Keyed g (now card) (now ids) (now currents) × (numbersFit g (now numbers) ≡ true) × (length (now numbers) ≤ 128) ⌝ }
     ensures { λ r. ⌜ AllHoused g (now (card .entry)) (now (numbers .entry)) r ⌝ }
 {

@@ -1,0 +1,103 @@
+-- Commit's own refusals in order, and the plan where there is none. Assumes nothing.
+use Prim.Native.Nat.{ℕ, zero, suc, _+_, _≤_, _<_}
+use mathlib.Core.List.{List, [], _∷_}
+use mathlib.Core.Bool.{Bool, true, false}
+use mathlib.Core.Path.{_≡_, refl, sym, ap, _∙_}
+use native.Mathlib.Omega.{arith}
+use lib.ListN.{length, length-append}
+use lib.Dec.{leb}
+use borrow.Author.Tests.{le-leb, lt-leb, leb-true}
+use Rattle.protocol.specs.declared.Geometry.{Geometry}
+use Rattle.protocol.specs.Below.{eachBelow, keep, around, walked}
+use Rattle.protocol.specs.Check.{refuse, _orElse_}
+use Rattle.protocol.specs.Search.{isFree, searchStart, freeBlocks}
+use Rattle.protocol.specs.Commit.{newBlock, countFits, dataFits, numbersFit, numbersApart, roomFor, saveRefusal}
+use Rattle.protocol.proofs.Checks.{Limits, limits, refuse-passed, refuse-failed, orElse-first, orElse-next, orElse-none, refuse-none}
+use Rattle.checks.specs.Keys.{keyAt}
+use Rattle.plan.specs.declared.Places.{Places}
+use Rattle.plan.specs.declared.Homes.{Homes}
+use Rattle.plan.specs.declared.Saving.{Saving}
+use Rattle.plan.specs.Request.{requestRefusal}
+use Rattle.plan.specs.Searched.{Searched}
+use Rattle.plan.specs.Planned.{Keyed, AllHoused, Planned, Saved}
+
+-- what stands behind a refusal that is one of several
+orElse-assoc : (a b c : ℕ) → (a orElse b) orElse c ≡ a orElse (b orElse c)
+unfolding _orElse_
+orElse-assoc zero b c = refl
+orElse-assoc (suc a) b c = refl
+
+-- 8 to 11, then 14
+save-splits : (g : Geometry) (c ns bs : List ℕ) → requestRefusal g ns bs orElse refuse 14 (roomFor g c (length ns)) ≡ saveRefusal g c ns bs
+unfolding requestRefusal saveRefusal
+save-splits g c ns bs =
+    orElse-assoc (refuse 8 (countFits g ns)) _ _
+    ∙ ap (λ (r : ℕ). refuse 8 (countFits g ns) orElse r)
+    (orElse-assoc (refuse 9 (dataFits g ns bs)) _ _
+    ∙ ap (λ (r : ℕ). refuse 9 (dataFits g ns bs) orElse r) (orElse-assoc (refuse 10 (numbersFit g ns)) _ _))
+
+-- a walk finds no more than its steps
+walk-few : (p : ℕ → Bool) (n start j : ℕ) → length (walked p n start j) ≤ j
+unfolding walked eachBelow keep
+walk-few p n start zero = omega arith
+walk-few p n start (suc j) =
+    omega (
+      arith,
+      length-append (walked p n start j) (keep (p (around n start j)) (around n start j)),
+      walk-few p n start j,
+      one (p (around n start j)) (around n start j),
+    )
+  where
+    one : (b : Bool) (x : ℕ) → length (keep b x) ≤ 1
+    one true x = omega arith
+    one false x = omega arith
+
+module _ (g : Geometry) (c ns bs : List ℕ) (r : ℕ) (e : r ≡ requestRefusal g ns bs) where
+  pub saved-request : (u : Saving) → (r ≡ 0 → ⊥) → u .refusal ≡ r → Saved g c ns bs u
+  saved-request u h q =
+      let s : u .refusal ≡ saveRefusal g c ns bs = q ∙ orElse-first r (requestRefusal g ns bs) _ e h ∙ save-splits g c ns bs in
+      record { refusal-is = s; planned = λ z. absurd (h (sym q ∙ z)) }
+
+  module _ (z : r ≡ 0) where
+    pub passed-numbers : numbersFit g ns ≡ true
+    unfolding requestRefusal
+    passed-numbers =
+        let a = orElse-none (refuse 8 (countFits g ns)) _ (sym e ∙ z) .1 in
+        let b = orElse-none (refuse 9 (dataFits g ns bs)) _ a .1 in
+        refuse-none 10 (numbersFit g ns) (omega arith) (orElse-none (refuse 10 (numbersFit g ns)) _ b .0)
+
+    past-request : (q : ℕ) → q ≡ refuse 14 (roomFor g c (length ns)) → q ≡ saveRefusal g c ns bs
+    past-request q h = orElse-next q (requestRefusal g ns bs) _ (sym z ∙ e) h ∙ save-splits g c ns bs
+
+    module _ (free : Places) (s : Searched (isFree g c) (g .blocks) (searchStart g c) (length ns) free) where
+      room-is : (b : Bool) → leb (length ns) (free .count) ≡ b → roomFor g c (length ns) ≡ b
+      unfolding roomFor freeBlocks
+      room-is b h = sym (s .enough) ∙ h
+
+      pub saved-full : (u : Saving) → free .count < length ns → u .refusal ≡ 14 → Saved g c ns bs u
+      saved-full u l q =
+          let full = room-is false (lt-leb (length ns) (free .count) l) in
+          record {
+            refusal-is = q ∙ past-request 14 (refuse-failed 14 (roomFor g c (length ns)) full);
+            planned = λ w. absurd (omega arith);
+          }
+
+      module _ (l : length ns ≤ free .count) where
+        room : roomFor g c (length ns) ≡ true
+        room = room-is true (le-leb (length ns) (free .count) l)
+
+        pub saved-few : (ids currents : List ℕ) → Keyed g c ids currents → length ns ≤ 128
+        unfolding roomFor freeBlocks
+        saved-few ids currents k =
+            let m : Limits g = limits g (k .fitted .good) in
+            let h : length ns ≤ length (freeBlocks g c) = leb-true _ _ room in
+            omega (arith, h, walk-few (isFree g c) (g .blocks) (searchStart g c) (g .blocks))
+
+        pub saved-planned : (h : Homes) → AllHoused g c ns h
+            → Saved g c ns bs (record { refusal = 0; plan = record { entries = h .entries; previous = h .previous; blocks = free .places } })
+        unfolding newBlock freeBlocks keyAt
+        saved-planned h a =
+            record {
+              refusal-is = past-request 0 (refuse-passed 14 (roomFor g c (length ns)) room);
+              planned = λ w. record { entries = a .entries; previous = a .previous; blocks = λ i b. s .listed i b };
+            }
