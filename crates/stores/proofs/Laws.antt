@@ -1,8 +1,8 @@
 -- Stores made under an allowance: lists of them one after the other, one store, units side by side, and what a call answers once its list is
 -- made. By the one law that an allowance is spent on the first list and what is left of it on the second. Assumes nothing.
-use Prim.Native.Nat.{ℕ, zero, suc, _+_, _*_, _-_, _≤_, _<_, min}
+use Prim.Native.Nat.{ℕ, zero, suc, _+_, _*_, _-_, _/_, _≤_, _<_, min}
 use mathlib.Core.List.{List, [], _∷_, _++_}
-use mathlib.Core.Bool.{cond}
+use mathlib.Core.Bool.{true, cond}
 use mathlib.Core.Path.{_≡_, refl, sym, ap, subst, _∙_}
 use mathlib.Core.Logic.{⊎-elim}
 use native.Mathlib.Nat.{mul-le-mul-right}
@@ -11,15 +11,24 @@ use native.Mathlib.Omega.{arith}
 use lib.ListN.{length, take, length-append}
 use lib.Seq.{take-take, take-all}
 use lib.Dec.{ltb}
+use mir.Syntax.{w64}
+use mir.Val.{Fits}
 use borrow.Author.Tests.{eq-eqb, ne-eqb, lt-ltb, le-ltb}
 use Rattle.numbers.specs.Bytes.{part, patch}
 use Rattle.numbers.proofs.Laws.{length-part}
 use Rattle.protocol.specs.declared.Answer.{Answer}
 use Rattle.protocol.specs.declared.Answer.the-variants.{Done, Cut, Refused}
+use Rattle.protocol.specs.declared.Entry.{Entry}
+use Rattle.protocol.specs.declared.Geometry.{Geometry}
+use Rattle.protocol.specs.Entry.{entryBytes}
 use Rattle.protocol.specs.Below.{eachBelow}
-use Rattle.protocol.specs.Store.{Medium, card, Store, Run, Work, isOn, storedOn, madeOn, flat, made, units, storesOf, answerOf, afterOn}
+use Rattle.protocol.specs.Layout.{goodGeometry, blockSize, entryPlace, blockPlace, diskPlace, cardLength, diskLength}
+use Rattle.protocol.specs.Store.{Medium, card, disk, Store, Run, Work, isOn, storedOn, madeOn, flat, made, units, words, sectors, entryStore, storesOf, answerOf, afterOn}
 use Rattle.protocol.proofs.Stores.{length-made, made-cut, flat-append, units-made, length-units}
 use Rattle.protocol.proofs.Below.{below-or-above}
+use Rattle.protocol.proofs.Checks.{limits}
+use Rattle.protocol.proofs.Region.{block-ends, whole, entry, block, in-card, place-entry, place-block}
+use Rattle.protocol.proofs.Made.{in-disk}
 use Rattle.stores.specs.Did.{Did, cardStore}
 
 -- ---- lists of stores
@@ -108,6 +117,69 @@ units-did m w n at a k src xs ys from h e p =
         (λ (l : n ≤ a).
         take-all a _ (omega (arith, length-units m w n at bytes)) ∙ sym (take-all k _ (omega (arith, length-units m w n at bytes))))
         (below-or-above a n)
+
+-- ---- places
+
+-- within the limits of a good geometry no place wraps, and each block lies on its medium
+module _ (g : Geometry) (good : goodGeometry g ≡ true) (size : ℕ) (is : size ≡ blockSize g) where
+  pub block-fits : (p : ℕ) → p < g .blocks → Fits w64 (p * size)
+  block-fits p l = let k = limits g good in rw is (omega (arith, block-ends p (g .blocks) (blockSize g) l))
+
+  pub disk-fits : (b : ℕ) → b < g .disk → Fits w64 (b * size)
+  disk-fits b l = let k = limits g good in rw is (omega (arith, block-ends b (g .disk) (blockSize g) l))
+
+  module _ (first : ℕ) (at : first ≡ entryPlace g (g .blocks)) (p : ℕ) (l : p < g .blocks) where
+    pub block-sum : Fits w64 (first + p * size)
+    unfolding entryPlace
+    block-sum = let k = limits g good in rw is (omega (arith, block-ends p (g .blocks) (blockSize g) l))
+
+    pub block-placed : first + p * size ≡ blockPlace g p
+    unfolding entryPlace blockPlace
+    block-placed = λ t. at t + p * is t
+
+  -- the units of a block, its words or its sectors, are all of its bytes
+  module _ (src : List ℕ) (from : ℕ) where
+    units-fit : (w at end : ℕ) → blockSize g / w * w ≡ blockSize g → at + blockSize g ≤ end → from + blockSize g ≤ length src
+        → (at + size / w * w ≤ end) × (from + size / w * w ≤ length src)
+    units-fit w at end e h k = rw (is, e) (h, k)
+
+    units-are : (m : Medium) (w at to a : ℕ) (xs ys : List ℕ) (r : ℕ) → blockSize g / w * w ≡ blockSize g → at ≡ to
+        → Did m (units m w (size / w) at (part src from (size / w * w))) a xs ys r
+        → Did m (units m w (blockSize g / w) to (part src from (blockSize g))) a xs ys r
+    units-are m w at to a xs ys r e h =
+        did-same
+        (ap (λ (n : ℕ). units m w (n / w) at (part src from (n / w * w))) is ∙ (λ t. units m w (blockSize g / w) (h t) (part src from (e t))))
+
+    pub words-fit : (s : List ℕ) (p at : ℕ) → length s ≡ cardLength g → p < g .blocks → from + blockSize g ≤ length src → at ≡ blockPlace g p
+        → (at + size / 8 * 8 ≤ length s) × (from + size / 8 * 8 ≤ length src)
+    words-fit s p at n l h e =
+        units-fit 8 at (length s) (whole g (limits g good) .in-words) (omega (arith, in-card g (block p) (omega arith) l, place-block g p)) h
+
+    pub words-did : (p at a : ℕ) (xs ys : List ℕ) (r : ℕ) → at ≡ blockPlace g p
+        → ((m : Medium) → Did m (units m 8 (size / 8) at (part src from (size / 8 * 8))) a xs ys r)
+        → Did card (words g p (part src from (blockSize g))) a xs ys r
+    unfolding words
+    words-did p at a xs ys r e x = units-are card 8 at (blockPlace g p) a xs ys r (whole g (limits g good) .in-words) e (x card)
+
+    pub sectors-fit : (s : List ℕ) (b at : ℕ) → length s ≡ diskLength g → b < g .disk → from + blockSize g ≤ length src → at ≡ diskPlace g b
+        → (at + size / 512 * 512 ≤ length s) × (from + size / 512 * 512 ≤ length src)
+    sectors-fit s b at n l h e =
+        units-fit 512 at (length s) (whole g (limits g good) .in-sectors) (omega (arith, in-disk g b l)) h
+
+    pub sectors-did : (b at a : ℕ) (xs ys : List ℕ) (r : ℕ) → at ≡ diskPlace g b
+        → ((m : Medium) → Did m (units m 512 (size / 512) at (part src from (size / 512 * 512))) a xs ys r)
+        → Did disk (sectors g b (part src from (blockSize g))) a xs ys r
+    unfolding sectors
+    sectors-did b at a xs ys r e x = units-are disk 512 at (diskPlace g b) a xs ys r (whole g (limits g good) .in-sectors) e (x disk)
+
+-- an entry lies on the card
+pub entry-fits : (g : Geometry) (s : List ℕ) (i at : ℕ) → length s ≡ cardLength g → i < g .blocks → at ≡ entryPlace g i → at + 16 ≤ length s
+entry-fits g s i at n l e = omega (arith, in-card g (entry i) (omega arith) l, place-entry g i)
+
+pub entry-did : (g : Geometry) (i at : ℕ) (e : Entry) (a : ℕ) (xs ys : List ℕ) (r : ℕ) → at ≡ entryPlace g i
+    → Did card (cardStore at (entryBytes e) ∷ []) a xs ys r → Did card (entryStore g i e ∷ []) a xs ys r
+unfolding entryStore
+entry-did g i at e a xs ys r h = did-same (λ t. cardStore (h t) (entryBytes e) ∷ [])
 
 -- ---- the call's answer
 
