@@ -8,8 +8,9 @@ use lib.Dec.{ltb}
 use Rattle.protocol.specs.declared.Geometry.{Geometry}
 use Rattle.protocol.specs.Below.{firstBelow}
 use Rattle.protocol.specs.Entry.{FRESH}
-use Rattle.protocol.specs.Check.{entriesFit}
-use Rattle.protocol.specs.Commit.{newBlock, entryFound, oldBlock, saveRefusal}
+use Rattle.protocol.specs.Layout.{geometryOf}
+use Rattle.protocol.specs.Check.{_orElse_, entriesFit, cardRefusal}
+use Rattle.protocol.specs.Commit.{newBlock, entryFound, oldBlock, saveRefusal, commitRefusal}
 use Rattle.ring.specs.Fitted.{Fitted}
 use Rattle.checks.specs.Keys.{keyed, keyAt, numberKey, currentKey, Lists}
 use Rattle.plan.specs.declared.Home.{Home}
@@ -49,3 +50,13 @@ pub record Planned (g : Geometry) (c ns : List ℕ) (p : Plan) : Type 0 where
 pub record Saved (g : Geometry) (c ns bs : List ℕ) (r : Saving) : Type 0 where
   pub refusal-is : r .refusal ≡ saveRefusal g c ns bs
   pub planned : r .refusal ≡ 0 → Planned g c ns (r .plan)
+
+-- the refusals of the card's contents before commit's own
+pub record Examined (g : Geometry) (c ns bs : List ℕ) (r : Saving) : Type 0 where
+  pub refusal-is : r .refusal ≡ cardRefusal g c orElse saveRefusal g c ns bs
+  pub planned : r .refusal ≡ 0 → Planned g c ns (r .plan)
+
+-- all of commit's refusals, and where there is none the plan
+pub record Prepared (c ns bs : List ℕ) (r : Saving) : Type 0 where
+  pub refusal-is : r .refusal ≡ commitRefusal c ns bs
+  pub planned : r .refusal ≡ 0 → Planned (geometryOf c) c ns (r .plan)

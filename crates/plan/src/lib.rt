@@ -14,7 +14,7 @@ ghost use Rattle.plan.specs.Request.{requestRefusal};
 ghost use Rattle.ring.specs.Fitted.{Fitted};
 ghost use Rattle.checks.specs.Keys.{NONE, keyed, keyAt, numberKey, currentKey, Lists};
 ghost use Rattle.plan.specs.Searched.{Searched};
-ghost use Rattle.plan.specs.Planned.{Keyed, Housed, AllHoused, Saved};
+ghost use Rattle.plan.specs.Planned.{Keyed, Housed, AllHoused, Saved, Examined, Prepared};
 
 // The key of an unused entry and the mark of a free data block: no disk block and no data block has this number.
 const NOTHING: u32 = 65536;
@@ -315,4 +315,32 @@ pub fn save(
             blocks: blocks,
         },
     }
+}
+
+// 4 to 14 of a card that fits, and where none of them is given the plan. Each entry is decoded once, for the checks and for the plan.
+fn examine(g: Geometry, card: &[u8], numbers: &[u64], data: &[u8]) -> Saving
+    requires { ⌜ Fitted g (now card) ⌝ }
+    ensures { λ r. ⌜ Examined g (now (card .entry)) (now (numbers .entry)) (now («data» .entry)) r ⌝ }
+{
+    let mut ids = [0u32; 128];
+    let mut currents = [0u32; 128];
+    let v = checks::inspect(g, card, &mut ids, &mut currents);
+    if v.refusal != 0 {
+        return unplanned(v.refusal);
+    }
+    if !v.settled {
+        return unplanned(7);
+    }
+    save(g, card, &ids, &currents, numbers, data)
+}
+
+// What a commit comes to on the card at entry: its refusal, and where there is none its plan.
+pub fn prepare(card: &[u8], numbers: &[u64], data: &[u8]) -> Saving
+    ensures { λ r. ⌜ Prepared (now (card .entry)) (now (numbers .entry)) (now («data» .entry)) r ⌝ }
+{
+    let misfit = ring::fit_refusal(card);
+    if misfit != 0 {
+        return unplanned(misfit);
+    }
+    examine(ring::geometry_of(card), card, numbers, data)
 }
