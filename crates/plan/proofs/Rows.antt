@@ -60,14 +60,6 @@ module _ (keys : List ℕ) (i : ℕ) (marks : List ℕ) (h : Marked keys i marks
 
 -- ---- a walk round
 
-pub next-up : (n at r : ℕ) → r ≡ at + 1 → r < n → r ≡ around n at 1
-unfolding around
-next-up n at r e h = let l : at + 1 < n = omega arith in rw (lt-ltb (at + 1) n l) e
-
-pub next-round : (n at r : ℕ) → r ≡ at + 1 → n ≤ r → r - n ≡ around n at 1
-unfolding around
-next-round n at r e h = let l : n ≤ at + 1 = omega arith in rw (le-ltb (at + 1) n l) (omega arith)
-
 zeros : (n k : ℕ) → getD {A = ℕ} (replicate n 0) k 0 ≡ 0
 zeros n k =
     ⊎-elim

@@ -115,12 +115,12 @@ pub struct Places {
     pub places: [u8; 128],
 }
 
-// One place forward, round at n.
-fn next(n: usize, at: usize) -> usize
-    requires { ⌜ (at < n) × (n ≤ 128) ⌝ }
-    ensures { λ r. ⌜ r ≡ around n at 1 ⌝ }
+// The place j places forward from `at`, round at n.
+pub fn forward(n: usize, at: usize, j: usize) -> usize
+    requires { ⌜ (at < n) × (j ≤ n) × (n ≤ 256) ⌝ }
+    ensures { λ r. ⌜ (r ≡ around n at j) × (r < n) ⌝ }
 {
-    let ahead = at + 1;
+    let ahead = at + j;
     if ahead < n { ahead } else { ahead - n }
 }
 
@@ -141,7 +141,7 @@ fn walk(marks: &[u32; 128], n: usize, start: usize, want: usize) -> Places
             };
         }
         let here = at;
-        at = next(n, here);
+        at = forward(n, here, 1);
         j += 1;
         if marks[here] == NOTHING {
             places[count] = here as u8;

@@ -18,8 +18,8 @@ loop-holds c = search (walk-start, needs)
 returns : tie.Need-returns Inv-loop μ-loop
 returns c = search (walk-full, needs)
 
-next-requires : tie.Need-next-requires Inv-loop μ-loop
-next-requires c κs = search needs
+forward-requires : tie.Need-forward-requires Inv-loop μ-loop
+forward-requires c κs = search needs
 
 add-j : tie.Need-add-j Inv-loop μ-loop
 add-j c = search needs
@@ -62,7 +62,7 @@ walk-spec =
     μ-loop
     loop-holds
     returns
-    next-requires
+    forward-requires
     add-j
     mul-if2
     element-copy-out-if2
