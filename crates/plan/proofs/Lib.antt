@@ -4,3 +4,4 @@ pub mod Rows
 pub mod Keyed
 pub mod Housing
 pub mod Order
+pub mod Bounds

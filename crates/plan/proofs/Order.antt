@@ -1,14 +1,13 @@
 -- Commit's refusals in order, and the plan where there is none. Assumes nothing.
-use Prim.Native.Nat.{ℕ, zero, suc, _+_, _≤_, _<_}
-use mathlib.Core.List.{List, [], _∷_}
+use Prim.Native.Nat.{ℕ, zero, suc, _≤_, _<_}
+use mathlib.Core.List.{List}
 use mathlib.Core.Bool.{Bool, true, false, not}
 use mathlib.Core.Path.{_≡_, refl, sym, ap, subst, _∙_}
 use native.Mathlib.Omega.{arith}
-use lib.ListN.{length, length-append}
+use lib.ListN.{length}
 use lib.Dec.{leb}
 use borrow.Author.Tests.{le-leb, lt-leb, leb-true, not-true, not-false}
 use Rattle.protocol.specs.declared.Geometry.{Geometry}
-use Rattle.protocol.specs.Below.{eachBelow, keep, around, walked}
 use Rattle.protocol.specs.Layout.{geometryOf}
 use Rattle.protocol.specs.Check.{refuse, _orElse_, ringFits, entriesFit, fitRefusal, damageRefusal, cardRefusal}
 use Rattle.protocol.specs.Search.{isFree, searchStart, freeBlocks}
@@ -24,6 +23,7 @@ use Rattle.plan.specs.declared.Homes.{Homes}
 use Rattle.plan.specs.declared.Saving.{Saving}
 use Rattle.plan.specs.Request.{requestRefusal}
 use Rattle.plan.specs.Searched.{Searched}
+use Rattle.plan.proofs.Rows.{walk-few}
 use Rattle.plan.specs.Planned.{Keyed, AllHoused, Planned, Saved, Examined, Prepared}
 
 -- what stands behind a refusal that is one of several
@@ -40,22 +40,6 @@ save-splits g c ns bs =
     ∙ ap (λ (r : ℕ). refuse 8 (countFits g ns) orElse r)
     (orElse-assoc (refuse 9 (dataFits g ns bs)) _ _
     ∙ ap (λ (r : ℕ). refuse 9 (dataFits g ns bs) orElse r) (orElse-assoc (refuse 10 (numbersFit g ns)) _ _))
-
--- a walk finds no more than its steps
-walk-few : (p : ℕ → Bool) (n start j : ℕ) → length (walked p n start j) ≤ j
-unfolding walked eachBelow keep
-walk-few p n start zero = omega arith
-walk-few p n start (suc j) =
-    omega (
-      arith,
-      length-append (walked p n start j) (keep (p (around n start j)) (around n start j)),
-      walk-few p n start j,
-      one (p (around n start j)) (around n start j),
-    )
-  where
-    one : (b : Bool) (x : ℕ) → length (keep b x) ≤ 1
-    one true x = omega arith
-    one false x = omega arith
 
 module _ (g : Geometry) (c ns bs : List ℕ) (r : ℕ) (e : r ≡ requestRefusal g ns bs) where
   pub saved-request : (u : Saving) → (r ≡ 0 → ⊥) → u .refusal ≡ r → Saved g c ns bs u

@@ -74,6 +74,22 @@ each-split f a (suc b) =
     rw add-suc
     (ap (λ (l : List ℕ). l ++ f (a + b)) (each-split f a b) ∙ append-assoc (eachBelow f a) (eachBelow (λ i. f (a + i)) b) (f (a + b)))
 
+-- a walk finds no more than its steps
+pub walk-few : (p : ℕ → Bool) (n start j : ℕ) → length (walked p n start j) ≤ j
+unfolding walked eachBelow keep
+walk-few p n start zero = omega arith
+walk-few p n start (suc j) =
+    omega (
+      arith,
+      length-append (walked p n start j) (keep (p (around n start j)) (around n start j)),
+      walk-few p n start j,
+      one (p (around n start j)) (around n start j),
+    )
+  where
+    one : (b : Bool) (x : ℕ) → length (keep b x) ≤ 1
+    one true x = omega arith
+    one false x = omega arith
+
 -- what j steps have found: as many as count, listed from the front, and zeros behind them
 pub record Walking (p : ℕ → Bool) (n start j count at : ℕ) (places : List ℕ) : Type 0 where
   pub long : length places ≡ 128
