@@ -1,0 +1,3 @@
+-- Laws behind the functions' proofs.
+pub mod Steps
+pub mod Loops

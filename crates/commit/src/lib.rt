@@ -1,0 +1,106 @@
+// Commit: a set of blocks saved whole or not at all. It is planned from the card at entry, and then made store by store under the allowance.
+use plan::Plan;
+use protocol::Answer;
+use protocol::Entry;
+use protocol::Geometry;
+ghost use mathlib.Core.Path.{_≡_};
+ghost use mathlib.Core.List.{[], _∷_};
+ghost use mathlib.Core.Bool.{true};
+ghost use Prim.Native.Nat.{_+_, _*_, _/_, _≤_, _<_};
+ghost use lib.ListN.{length};
+ghost use Rattle.protocol.specs.Below.{eachBelow, around};
+ghost use Rattle.protocol.specs.Layout.{goodGeometry, cardLength, blockSize};
+ghost use Rattle.protocol.specs.Entry.{entryOf};
+ghost use Rattle.protocol.specs.Store.{Medium, flat, slotStore, headStore, answerOf, afterOn};
+ghost use Rattle.protocol.specs.Commit.{commitWork};
+ghost use Rattle.ring.specs.Fitted.{Fitted};
+ghost use Rattle.stores.specs.Did.{Did};
+ghost use Rattle.commit.specs.Making.{stepRuns, plannedBlock, plannedSwitch, plannedRuns, Named, Ready};
+
+fn wide(x: u8) -> usize
+    ensures { λ r. ⌜ r ≡ x ⌝ }
+{
+    x as usize
+}
+
+// An entry for the data block `block`.
+fn entry_with(flags: u8, number: u64, previous: u32, block: u8) -> Entry
+    ensures { λ r. ⌜ r ≡ entryOf flags number previous block ⌝ }
+{
+    Entry {
+        flags: flags,
+        number: number,
+        previous: previous,
+        current: block as u32,
+    }
+}
+
+// The number into the slot at Head, and Head forward by one: Head is i places past where it stood at entry.
+fn log_number(g: Geometry, card: &mut [u8], head: usize, i: usize, number: u64, left: u64) -> u64
+    requires { ⌜ Fitted g (now card) × (head < g .slots) × (i < g .slots) ⌝ }
+    ensures { λ r. ⌜ Did Medium.card (slotStore (around (g .slots) head i) number ∷ headStore (around (g .slots) head (i + 1)) ∷ []) left (now (card .entry)) (now (card .exit)) r ⌝ }
+{
+    let s = g.slots as usize;
+    let slot = plan::forward(s, head, i);
+    let a = stores::make_word(card, 128 + 8 * slot, number, left);
+    let next = plan::forward(s, head, i + 1);
+    stores::make_word(card, 64, next as u64, a)
+}
+
+// Block i: its words, its entry at place `at`, its number into the ring.
+fn make_block(
+    g: Geometry,
+    card: &mut [u8],
+    at: usize,
+    e: Entry,
+    data: &[u8],
+    head: usize,
+    i: usize,
+    left: u64,
+) -> u64
+    requires { ⌜ Fitted g (now card) × (at < g .blocks) × (e .current < g .blocks) × (i * blockSize g + blockSize g ≤ length (now «data»)) × (head < g .slots) × (i < g .slots) ⌝ }
+    ensures { λ r. ⌜ Did Medium.card (flat (stepRuns g at e (now («data» .entry)) head i)) left (now (card .entry)) (now (card .exit)) r ⌝ }
+{
+    let from = i * codec::block_size(g) as usize;
+    let a = stores::make_words(g, card, e.current as u64, data, from, left);
+    let b = stores::make_entry_at(g, card, at, e, a);
+    log_number(g, card, head, i, e.number, b)
+}
+
+// Each block in turn.
+fn make_blocks(
+    g: Geometry,
+    card: &mut [u8],
+    p: Plan,
+    numbers: &[u64],
+    data: &[u8],
+    head: usize,
+    left: u64,
+) -> u64
+    requires { ⌜ Fitted g (now card) × Ready g p head (now numbers) (now «data») ⌝ }
+    ensures { λ r. ⌜ Did Medium.card (flat (eachBelow (plannedBlock g p head (now (numbers .entry)) (now («data» .entry))) (length (now (numbers .entry))))) left (now (card .entry)) (now (card .exit)) r ⌝ }
+{
+    let mut a = left;
+    let mut i: usize = 0;
+    while i < numbers.len() {
+        let e = entry_with(0x83, numbers[i], p.previous[i], p.blocks[i]);
+        a = make_block(g, card, wide(p.entries[i]), e, data, head, i, a);
+        i += 1;
+    }
+    a
+}
+
+// The role switches: each entry again, with flag 82.
+fn make_switches(g: Geometry, card: &mut [u8], p: Plan, numbers: &[u64], left: u64) -> u64
+    requires { ⌜ Fitted g (now card) × Named g p (now numbers) ⌝ }
+    ensures { λ r. ⌜ Did Medium.card (flat (eachBelow (plannedSwitch g p (now (numbers .entry))) (length (now (numbers .entry))))) left (now (card .entry)) (now (card .exit)) r ⌝ }
+{
+    let mut a = left;
+    let mut i: usize = 0;
+    while i < numbers.len() {
+        let e = entry_with(0x82, numbers[i], p.previous[i], p.blocks[i]);
+        a = stores::make_entry_at(g, card, wide(p.entries[i]), e, a);
+        i += 1;
+    }
+    a
+}
