@@ -34,8 +34,11 @@ module _ (g : Geometry) (c : List ℕ) (f : Fitted g c) where
   pub slot-room : (x : ℕ) → x < g .slots → 128 + 8 * x + 8 ≤ length c
   slot-room x l = let k : Room g c = room g c f in omega arith
 
-  pub head-room : {m : Medium} {ss : List Store} {a : ℕ} {d : List ℕ} {r : ℕ} → Did m ss a c d r → 64 + 8 ≤ length d
-  head-room x = let k : Room g c = room g c f in omega (arith, did-length x)
+  pub head-room : (d : List ℕ) → length d ≡ length c → 64 + 8 ≤ length d
+  head-room d e = let k : Room g c = room g c f in omega arith
+
+  pub tail-room : (d e : List ℕ) → length d ≡ length c → length e ≡ length d → 72 + 8 ≤ length e
+  tail-room d e p q = let k : Room g c = room g c f in omega arith
 
 -- ---- one block
 

@@ -9,13 +9,13 @@ ghost use mathlib.Core.Bool.{true};
 ghost use Prim.Native.Nat.{_+_, _*_, _/_, _≤_, _<_};
 ghost use lib.ListN.{length};
 ghost use Rattle.protocol.specs.Below.{eachBelow, around};
-ghost use Rattle.protocol.specs.Layout.{goodGeometry, cardLength, blockSize};
+ghost use Rattle.protocol.specs.Layout.{goodGeometry, blockSize};
 ghost use Rattle.protocol.specs.Entry.{entryOf};
-ghost use Rattle.protocol.specs.Store.{Medium, flat, slotStore, headStore, answerOf, afterOn};
-ghost use Rattle.protocol.specs.Commit.{commitWork};
+ghost use Rattle.protocol.specs.Store.{Medium, flat, slotStore, headStore};
 ghost use Rattle.ring.specs.Fitted.{Fitted};
 ghost use Rattle.stores.specs.Did.{Did};
 ghost use Rattle.commit.specs.Making.{stepRuns, plannedBlock, plannedSwitch, plannedRuns, Named, Ready};
+ghost use Rattle.commit.specs.Committed.{Committed};
 
 fn wide(x: u8) -> usize
     ensures { λ r. ⌜ r ≡ x ⌝ }
@@ -103,4 +103,47 @@ fn make_switches(g: Geometry, card: &mut [u8], p: Plan, numbers: &[u64], left: u
         i += 1;
     }
     a
+}
+
+// All of the plan's stores: the blocks, the role switches, then Tail set to Head.
+fn make_plan(
+    g: Geometry,
+    card: &mut [u8],
+    p: Plan,
+    numbers: &[u64],
+    data: &[u8],
+    head: usize,
+    left: u64,
+) -> u64
+    requires { ⌜ Fitted g (now card) × Ready g p head (now numbers) (now «data») ⌝ }
+    ensures { λ r. ⌜ Did Medium.card (flat (plannedRuns g p head (now (numbers .entry)) (now («data» .entry)))) left (now (card .entry)) (now (card .exit)) r ⌝ }
+{
+    let a = make_blocks(g, card, p, numbers, data, head, left);
+    let b = make_switches(g, card, p, numbers, a);
+    let end = plan::forward(g.slots as usize, head, numbers.len());
+    stores::make_word(card, 72, end as u64, b)
+}
+
+// m, the count of stores of a commit of n blocks.
+fn count_of(g: Geometry, n: usize) -> u64
+    requires { ⌜ (goodGeometry g ≡ true) × (n < g .slots) ⌝ }
+    ensures { λ r. ⌜ r ≡ n * (blockSize g / 8 + 4) + 1 ⌝ }
+{
+    n as u64 * (codec::block_size(g) / 8 + 4) + 1
+}
+
+// Saves the blocks `numbers`, with their bytes side by side in `data`, as one commit. `allowance` stores still happen. Refused before any
+// store: 1, 2, 4 to 11 and 14.
+pub fn commit(card: &mut [u8], numbers: &[u64], data: &[u8], allowance: u64) -> Answer
+    ensures { λ r. ⌜ Committed (now (card .entry)) (now (numbers .entry)) (now («data» .entry)) allowance r (now (card .exit)) ⌝ }
+{
+    let s = plan::prepare(card, numbers, data);
+    if s.refusal != 0 {
+        return Answer::Refused(s.refusal);
+    }
+    let g = ring::geometry_of(card);
+    let head = ring::head_of(card) as usize;
+    let p = s.plan;
+    make_plan(g, card, p, numbers, data, head, allowance);
+    stores::answer(count_of(g, numbers.len()), allowance)
 }
