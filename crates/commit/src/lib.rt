@@ -10,7 +10,7 @@ ghost use Prim.Native.Nat.{_+_, _*_, _/_, _≤_, _<_};
 ghost use lib.ListN.{length};
 ghost use Rattle.protocol.specs.Below.{eachBelow, around};
 ghost use Rattle.protocol.specs.Layout.{goodGeometry, blockSize};
-ghost use Rattle.protocol.specs.Entry.{entryOf};
+ghost use Rattle.protocol.specs.Entry.{entryOf, switched};
 ghost use Rattle.protocol.specs.Store.{Medium, flat, slotStore, headStore};
 ghost use Rattle.ring.specs.Fitted.{Fitted};
 ghost use Rattle.stores.specs.Did.{Did};
@@ -23,15 +23,27 @@ fn wide(x: u8) -> usize
     x as usize
 }
 
-// An entry for the data block `block`.
-fn entry_with(flags: u8, number: u64, previous: u32, block: u8) -> Entry
-    ensures { λ r. ⌜ r ≡ entryOf flags number previous block ⌝ }
+// The entry of a block that is being saved, with the log role.
+fn log_entry(number: u64, previous: u32, block: u8) -> Entry
+    ensures { λ r. ⌜ r ≡ entryOf 0x83 number previous block ⌝ }
 {
     Entry {
-        flags: flags,
+        flags: 0x83,
         number: number,
         previous: previous,
         current: block as u32,
+    }
+}
+
+// The role switch: flag 82 and nothing else changed. The previous block stays named, since a cut before Tail moves must find it.
+fn switch_role(e: Entry) -> Entry
+    ensures { λ r. ⌜ r ≡ switched e ⌝ }
+{
+    Entry {
+        flags: 0x82,
+        number: e.number,
+        previous: e.previous,
+        current: e.current,
     }
 }
 
@@ -42,8 +54,8 @@ fn log_number(g: Geometry, card: &mut [u8], head: usize, i: usize, number: u64, 
 {
     let s = g.slots as usize;
     let slot = plan::forward(s, head, i);
-    let a = stores::make_word(card, 128 + 8 * slot, number, left);
     let next = plan::forward(s, head, i + 1);
+    let a = stores::make_word(card, 128 + 8 * slot, number, left);
     stores::make_word(card, 64, next as u64, a)
 }
 
@@ -83,7 +95,7 @@ fn make_blocks(
     let mut a = left;
     let mut i: usize = 0;
     while i < numbers.len() {
-        let e = entry_with(0x83, numbers[i], p.previous[i], p.blocks[i]);
+        let e = log_entry(numbers[i], p.previous[i], p.blocks[i]);
         a = make_block(g, card, wide(p.entries[i]), e, data, head, i, a);
         i += 1;
     }
@@ -98,7 +110,7 @@ fn make_switches(g: Geometry, card: &mut [u8], p: Plan, numbers: &[u64], left: u
     let mut a = left;
     let mut i: usize = 0;
     while i < numbers.len() {
-        let e = entry_with(0x82, numbers[i], p.previous[i], p.blocks[i]);
+        let e = switch_role(log_entry(numbers[i], p.previous[i], p.blocks[i]));
         a = stores::make_entry_at(g, card, wide(p.entries[i]), e, a);
         i += 1;
     }

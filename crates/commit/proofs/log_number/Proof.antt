@@ -8,6 +8,12 @@ use Rattle.commit.proofs.log_number.Tie as tie
 forward-requires : tie.Need-forward-requires
 forward-requires c κs = search (fitted-slots, needs)
 
+add-forward : tie.Need-add-forward
+add-forward c = search needs
+
+forward-requires-2 : tie.Need-forward-requires-2
+forward-requires-2 c κs = search (fitted-slots, needs)
+
 mul-make-word : tie.Need-mul-make-word
 mul-make-word c = record { fits = search (slot-times, needs) }
 
@@ -16,12 +22,6 @@ add-make-word c = record { fits = search (slot-place, needs) }
 
 make-word-requires : tie.Need-make-word-requires
 make-word-requires c κs = search (slot-room, needs)
-
-add-forward : tie.Need-add-forward
-add-forward c = search needs
-
-forward-requires-2 : tie.Need-forward-requires-2
-forward-requires-2 c κs = search (fitted-slots, needs)
 
 make-word-requires-2 : tie.Need-make-word-requires-2
 make-word-requires-2 c κs = search (head-room, needs)
@@ -37,11 +37,11 @@ log-number-spec =
     tie.close
     (tie.spec
     forward-requires
+    add-forward
+    forward-requires-2
     mul-make-word
     add-make-word
     make-word-requires
-    add-forward
-    forward-requires-2
     make-word-requires-2
     same-length
     returns)

@@ -21,23 +21,23 @@ abbrev μ-loop : tie.MeasureT-loop
 loop-holds : tie.Need-loop-holds Inv-loop μ-loop
 loop-holds c = search (did-start, needs)
 
-mul-entry-with : tie.Need-mul-entry-with Inv-loop μ-loop
-mul-entry-with c = search needs
+mul-log-entry : tie.Need-mul-log-entry Inv-loop μ-loop
+mul-log-entry c = search needs
 
-shared-slice-read-entry-with : tie.Need-shared-slice-read-entry-with Inv-loop μ-loop
-shared-slice-read-entry-with c = search needs
+shared-slice-read-log-entry : tie.Need-shared-slice-read-log-entry Inv-loop μ-loop
+shared-slice-read-log-entry c = search needs
 
-mul-entry-with-2 : tie.Need-mul-entry-with-2 Inv-loop μ-loop
-mul-entry-with-2 c = search needs
+mul-log-entry-2 : tie.Need-mul-log-entry-2 Inv-loop μ-loop
+mul-log-entry-2 c = search needs
 
-element-copy-out-entry-with : tie.Need-element-copy-out-entry-with Inv-loop μ-loop
-element-copy-out-entry-with c = search needs
+element-copy-out-log-entry : tie.Need-element-copy-out-log-entry Inv-loop μ-loop
+element-copy-out-log-entry c = search needs
 
-element-copy-out-entry-with-2 : tie.Need-element-copy-out-entry-with-2 Inv-loop μ-loop
-element-copy-out-entry-with-2 c = search needs
+element-copy-out-log-entry-2 : tie.Need-element-copy-out-log-entry-2 Inv-loop μ-loop
+element-copy-out-log-entry-2 c = search needs
 
-entry-with-requires : tie.Need-entry-with-requires Inv-loop μ-loop
-entry-with-requires c κs = search needs
+log-entry-requires : tie.Need-log-entry-requires Inv-loop μ-loop
+log-entry-requires c κs = search needs
 
 element-copy-out-wide : tie.Need-element-copy-out-wide Inv-loop μ-loop
 element-copy-out-wide c = search needs
@@ -58,11 +58,11 @@ loop-again : tie.Need-loop-again Inv-loop μ-loop
 loop-again c =
     let made = c .before .before in
     let placed = made .before in
-    let entry = placed .before .before .before in
-    let head = entry .before .before .before .before .before in (
+    let logged = placed .before .before .before in
+    let head = logged .before .before .before .before .before in (
       search needs,
       search needs,
-      block-turn _ _ _ _ _ _ _ _ _ _ _ _ (placed .wide .ensures) _ _ (entry .entry-with .ensures) (head .loop .inv .2) (made .make-block .ensures),
+      block-turn _ _ _ _ _ _ _ _ _ _ _ _ (placed .wide .ensures) (logged .log-entry .ensures) _ _ (head .loop .inv .2) (made .make-block .ensures),
     )
 
 same-length : tie.Need-same-length Inv-loop μ-loop
@@ -78,12 +78,12 @@ make-blocks-spec =
     Inv-loop
     μ-loop
     loop-holds
-    mul-entry-with
-    shared-slice-read-entry-with
-    mul-entry-with-2
-    element-copy-out-entry-with
-    element-copy-out-entry-with-2
-    entry-with-requires
+    mul-log-entry
+    shared-slice-read-log-entry
+    mul-log-entry-2
+    element-copy-out-log-entry
+    element-copy-out-log-entry-2
+    log-entry-requires
     element-copy-out-wide
     wide-requires
     make-block-requires
