@@ -1,0 +1,64 @@
+-- The stores of one block, one after the other: each function's stores are those of the ones that it calls, put together under one allowance.
+-- Assumes nothing.
+use Prim.Native.Nat.{ℕ, _+_, _*_, _^_, _≤_, _<_}
+use mathlib.Core.List.{List, [], _∷_, _++_}
+use mathlib.Core.Path.{_≡_, refl, sym, ap, _∙_}
+use native.Mathlib.Omega.{arith}
+use lib.ListN.{length}
+use Rattle.numbers.specs.Bytes.{part}
+use Rattle.protocol.specs.declared.Entry.{Entry}
+use Rattle.protocol.specs.declared.Geometry.{Geometry}
+use Rattle.protocol.specs.Below.{around}
+use Rattle.protocol.specs.Layout.{blockSize, slotPlace}
+use Rattle.protocol.specs.Store.{Medium, card, Store, flat, single, words, entryStore, wordStore, slotStore, headStore}
+use Rattle.protocol.specs.Commit.{dataOf}
+use Rattle.ring.specs.Fitted.{Fitted}
+use Rattle.ring.proofs.Laws.{Room, room}
+use Rattle.stores.specs.Did.{Did}
+use Rattle.stores.proofs.Laws.{did-length, did-then, did-same}
+use Rattle.commit.specs.Making.{stepRuns}
+
+-- ---- places on the card
+
+-- a card that fits still does after stores
+pub fitted-did : {g : Geometry} {m : Medium} {ss : List Store} {a : ℕ} {xs ys : List ℕ} {r : ℕ} → Fitted g xs → Did m ss a xs ys r → Fitted g ys
+fitted-did f x = record { good = f .good; long = did-length x ∙ f .long }
+
+module _ (g : Geometry) (c : List ℕ) (f : Fitted g c) where
+  pub slot-times : (x : ℕ) → x < g .slots → 8 * x < 2 ^ 64
+  slot-times x l = let k : Room g c = room g c f in omega arith
+
+  pub slot-place : (x : ℕ) → x < g .slots → 128 + 8 * x < 2 ^ 64
+  slot-place x l = let k : Room g c = room g c f in omega arith
+
+  pub slot-room : (x : ℕ) → x < g .slots → 128 + 8 * x + 8 ≤ length c
+  slot-room x l = let k : Room g c = room g c f in omega arith
+
+  pub head-room : (d : List ℕ) → length d ≡ length c → 64 + 8 ≤ length d
+  head-room d e = let k : Room g c = room g c f in omega arith
+
+  pub tail-room : (d e : List ℕ) → length d ≡ length c → length e ≡ length d → 72 + 8 ≤ length e
+  tail-room d e p q = let k : Room g c = room g c f in omega arith
+
+-- ---- one block
+
+pub logged : (s h i slot next number a b r : ℕ) (xs ys zs : List ℕ) → slot ≡ around s h i → next ≡ around s h (i + 1)
+    → Did card (wordStore (128 + 8 * slot) number ∷ []) a xs ys b → Did card (wordStore 64 next ∷ []) b ys zs r
+    → Did card (slotStore (around s h i) number ∷ headStore (around s h (i + 1)) ∷ []) a xs zs r
+unfolding slotStore slotPlace headStore
+logged s h i slot next number a b r xs ys zs p q x y = rw (← p, ← q) (did-then x y)
+
+module _ (g : Geometry) (i b : ℕ) (bs : List ℕ) (e : b ≡ blockSize g) (h : i * blockSize g + blockSize g ≤ length bs) where
+  pub from-fits : length bs < 2 ^ 64 → i * b < 2 ^ 64
+  from-fits l = rw e (omega arith)
+
+  pub from-room : i * b + blockSize g ≤ length bs
+  from-room = rw e h
+
+pub stepped : (g : Geometry) (at : ℕ) (x : Entry) (bs : List ℕ) (h i b left a d r : ℕ) (xs ys zs ws : List ℕ) → b ≡ blockSize g
+    → Did card (words g (x .current) (part bs (i * b) (blockSize g))) left xs ys a → Did card (entryStore g at x ∷ []) a ys zs d
+    → Did card (slotStore (around (g .slots) h i) (x .number) ∷ headStore (around (g .slots) h (i + 1)) ∷ []) d zs ws r
+    → Did card (flat (stepRuns g at x bs h i)) left xs ws r
+unfolding stepRuns flat single dataOf
+stepped g at x bs h i b left a d r xs ys zs ws e p q s =
+    did-then (did-same (ap (λ (z : ℕ). words g (x .current) (part bs (i * z) (blockSize g))) e) p) (did-then q s)

@@ -1,0 +1,201 @@
+-- A whole commit: the plan's runs are those of the definition, they are so many stores, and what the checks have passed is all that making them
+-- needs. Assumes nothing.
+use Prim.Native.Nat.{ℕ, zero, suc, _+_, _*_, _-_, _/_, _^_, _≤_, _<_}
+use mathlib.Core.List.{List, [], _∷_, _++_}
+use mathlib.Core.Path.{_≡_, refl, sym, ap, subst, _∙_}
+use native.Mathlib.Nat.{mul-le-mul, suc-mul, zero-mul, mul-add}
+use native.Mathlib.Numerals.{add-one}
+use native.Mathlib.Omega.{arith}
+use lib.ListN.{length, getD, length-append}
+use mathlib.Core.Bool.{true, cond}
+use lib.Dec.{ltb}
+use Rattle.protocol.specs.declared.Answer.{Answer}
+use Rattle.protocol.specs.declared.Answer.the-variants.{Done, Cut, Refused}
+use Rattle.protocol.specs.declared.Entry.{Entry}
+use Rattle.protocol.specs.declared.Geometry.{Geometry}
+use Rattle.protocol.specs.Below.{eachBelow, around}
+use Rattle.protocol.specs.Layout.{goodGeometry, geometryOf, blockSize}
+use Rattle.protocol.specs.Entry.{entryOf, switched}
+use Rattle.protocol.specs.Ring.{headOf}
+use Rattle.protocol.specs.Store.{Medium, card, Store, Run, Work, flat, single, units, words, entryStore, wordStore, tailStore, storesOf}
+use Rattle.protocol.specs.Commit.{numberOf, newBlock, entryFound, oldBlock, logEntry, dataOf, headAfter, blockRuns, switchRuns, commitRuns, commitRefusal, commitWork}
+use Rattle.protocol.proofs.Checks.{Limits, limits}
+use Rattle.protocol.proofs.Stores.{flat-append, length-units}
+use Rattle.ring.specs.Fitted.{Fitted}
+use Rattle.ring.proofs.Laws.{fitted-long}
+use Rattle.checks.specs.Keys.{keyAt}
+use Rattle.plan.specs.declared.Plan.{Plan}
+use Rattle.plan.specs.declared.Saving.{Saving}
+use Rattle.plan.specs.Planned.{Planned, Prepared}
+use Rattle.plan.proofs.Bounds.{Passed, passed, few-numbers, new-below, entry-below}
+use Rattle.stores.specs.Did.{Did}
+use Rattle.stores.proofs.Laws.{did-then, did-same, length-each, refused-answer, refused-after, made-answer, made-after}
+use Rattle.commit.specs.Making.{stepRuns, plannedEntry, plannedBlock, plannedSwitch, plannedRuns, Named, Ready}
+use Rattle.commit.specs.Committed.{Committed}
+
+-- ---- the plan's runs are the definition's
+
+each-same : (f h : ℕ → List Run) (n : ℕ) → ((i : ℕ) → i < n → f i ≡ h i) → eachBelow f n ≡ eachBelow h n
+unfolding eachBelow
+each-same f h zero e = refl
+each-same f h (suc n) e = λ t. each-same f h n (λ i l. e i (omega arith)) t ++ e n (omega arith) t
+
+module _ (g : Geometry) (c ns bs : List ℕ) (p : Plan) (x : Planned g c ns p) where
+  entry-same : (i : ℕ) → i < length ns → plannedEntry p ns i ≡ logEntry g c ns i
+  unfolding plannedEntry logEntry keyAt
+  entry-same i l = λ t. entryOf 0x83 (numberOf ns i) (x .previous i l t) (x .blocks i l t)
+
+  place-same : (i : ℕ) → i < length ns → getD (p .entries) i 0 ≡ entryFound g c ns i
+  unfolding keyAt
+  place-same i l = x .entries i l
+
+  block-same : (i : ℕ) → i < length ns → plannedBlock g p (headOf c) ns bs i ≡ blockRuns g c ns bs i
+  unfolding plannedBlock stepRuns blockRuns headAfter logEntry
+  block-same i l = λ t. stepRuns g (place-same i l t) (entry-same i l t) bs (headOf c) i
+
+  switch-same : (i : ℕ) → i < length ns → plannedSwitch g p ns i ≡ switchRuns g c ns i
+  unfolding plannedSwitch switchRuns
+  switch-same i l = λ t. single (entryStore g (place-same i l t) (switched (entry-same i l t)))
+
+  pub runs-same : plannedRuns g p (headOf c) ns bs ≡ commitRuns g c ns bs
+  unfolding plannedRuns commitRuns headAfter
+  runs-same = λ t.
+      each-same (plannedBlock g p (headOf c) ns bs) (blockRuns g c ns bs) (length ns) block-same t
+      ++ (each-same (plannedSwitch g p ns) (switchRuns g c ns) (length ns) switch-same t
+      ++ single (tailStore (around (g .slots) (headOf c) (length ns))))
+
+-- ---- how many stores they are
+
+each-count : (f : ℕ → List Run) (k n : ℕ) → ((i : ℕ) → length (flat (f i)) ≡ k) → length (flat (eachBelow f n)) ≡ n * k
+unfolding eachBelow flat
+each-count f k zero e = sym (zero-mul k)
+each-count f k (suc n) e =
+    ap (λ (z : ℕ). length (flat (eachBelow f z))) (sym (add-one n))
+    ∙ length-each f n
+    ∙ omega (arith, each-count f k n e, e n, suc-mul n k)
+
+flat-length : (rs qs : List Run) → length (flat (rs ++ qs)) ≡ length (flat rs) + length (flat qs)
+flat-length rs qs = ap length (flat-append rs qs) ∙ length-append (flat rs) (flat qs)
+
+module _ (g : Geometry) (c ns bs : List ℕ) where
+  block-count : (i : ℕ) → length (flat (blockRuns g c ns bs i)) ≡ blockSize g / 8 + 3
+  unfolding blockRuns flat single words
+  block-count i =
+      length-append (units card 8 (blockSize g / 8) _ (dataOf g bs i)) _
+      ∙ ap (λ (z : ℕ). z + 3) (length-units card 8 (blockSize g / 8) _ (dataOf g bs i))
+
+  switch-count : (i : ℕ) → length (flat (switchRuns g c ns i)) ≡ 1
+  unfolding switchRuns flat single
+  switch-count i = refl
+
+  pub runs-count : length (flat (commitRuns g c ns bs)) ≡ length ns * (blockSize g / 8 + 4) + 1
+  unfolding commitRuns single flat
+  runs-count =
+      let n = length ns in
+      let blocks = eachBelow (blockRuns g c ns bs) n in
+      let switches = eachBelow (switchRuns g c ns) n in
+      let last = single (tailStore (headAfter g c n)) in
+      omega (
+        arith,
+        flat-length blocks (switches ++ last),
+        flat-length switches last,
+        each-count (blockRuns g c ns bs) (blockSize g / 8 + 3) n block-count,
+        each-count (switchRuns g c ns) 1 n switch-count,
+        mul-add n (blockSize g / 8) 3,
+        mul-add n (blockSize g / 8) 4,
+      )
+
+-- ---- all of them made
+
+pub plan-made : (g : Geometry) (p : Plan) (h : ℕ) (ns bs : List ℕ) (end left a b r : ℕ) (xs ys zs ws : List ℕ)
+    → Did card (flat (eachBelow (plannedBlock g p h ns bs) (length ns))) left xs ys a
+    → Did card (flat (eachBelow (plannedSwitch g p ns) (length ns))) a ys zs b → end ≡ around (g .slots) h (length ns)
+    → Did card (wordStore 72 end ∷ []) b zs ws r → Did card (flat (plannedRuns g p h ns bs)) left xs ws r
+unfolding plannedRuns tailStore single flat
+plan-made g p h ns bs end left a b r xs ys zs ws x y e z =
+    let n = length ns in
+    let blocks = eachBelow (plannedBlock g p h ns bs) n in
+    let switches = eachBelow (plannedSwitch g p ns) n in
+    did-same (sym (flat-append blocks _))
+    (did-then x
+    (did-same (sym (flat-append switches _))
+    (did-then y (did-same (ap (λ (v : ℕ). wordStore 72 v ∷ []) e) z))))
+
+-- m fits a word
+module _ (g : Geometry) (n b : ℕ) (h : (goodGeometry g ≡ true) × (n < g .slots)) (e : b ≡ blockSize g) where
+  count-small : n * (b / 8 + 4) ≤ 132096
+  count-small =
+      let l : Limits g = limits g (h .0) in
+      let few : n ≤ 256 = omega (arith, h .1) in
+      let size : b / 8 + 4 ≤ 516 = omega arith in
+      mul-le-mul few size
+
+  pub count-times : n * (b / 8 + 4) < 2 ^ 64
+  count-times = omega (arith, count-small)
+
+  pub count-sum : n * (b / 8 + 4) + 1 < 2 ^ 64
+  count-sum = omega (arith, count-small)
+
+  pub count-is : n * (b / 8 + 4) + 1 ≡ n * (blockSize g / 8 + 4) + 1
+  count-is = ap (λ (z : ℕ). n * (z / 8 + 4) + 1) e
+
+-- ---- what the checks have passed
+
+module _ (c ns bs : List ℕ) (s : Saving) (x : Prepared c ns bs s) where
+  pub commit-refused : (a : ℕ) → (s .refusal ≡ 0 → ⊥) → Committed c ns bs a (Refused (s .refusal)) c
+  unfolding commitWork
+  commit-refused a h = record {
+    answers = refused-answer (commitWork c ns bs) a (s .refusal) (x .refusal-is) h;
+    leaves = refused-after (commitWork c ns bs) a card (s .refusal) c (x .refusal-is) h;
+  }
+
+  module _ (z : s .refusal ≡ 0) where
+    pub commit-passed : Passed (geometryOf c) c ns bs
+    commit-passed = passed c ns bs (sym (x .refusal-is) ∙ z)
+
+    pub commit-long : 128 ≤ length c
+    commit-long = fitted-long (geometryOf c) c (commit-passed .fitted)
+
+    pub commit-fitted : (g : Geometry) → g ≡ geometryOf c → Fitted g c
+    commit-fitted g e = rw e (commit-passed .fitted)
+
+    pub commit-few : (g : Geometry) → g ≡ geometryOf c → length ns < g .slots
+    commit-few g e =
+        let v = commit-passed in
+        let l : Limits (geometryOf c) = limits (geometryOf c) (v .fitted .good) in
+        rw e (omega (arith, v .count))
+
+    pub commit-good : (g : Geometry) → g ≡ geometryOf c → goodGeometry g ≡ true
+    commit-good g e = commit-fitted g e .good
+
+    pub commit-ready : (g : Geometry) (h : ℕ) → g ≡ geometryOf c → h ≡ headOf c → Ready g (s .plan) h ns bs
+    unfolding keyAt
+    commit-ready g h e q =
+        let v = commit-passed in
+        let p = x .planned z in
+        rw (e, q)
+        (record {
+          named = record {
+            few = few-numbers v;
+            entries = λ i l. subst (λ (k : ℕ). k < geometryOf c .blocks) (sym (p .entries i l)) (entry-below v i l);
+            blocks = λ i l. subst (λ (k : ℕ). k < geometryOf c .blocks) (sym (p .blocks i l)) (new-below v i l);
+          };
+          count = commit-few (geometryOf c) refl;
+          head = v .head;
+          sized = v .sized;
+        })
+
+    pub commit-made : (g : Geometry) (h a n r : ℕ) (d : List ℕ) (y : Answer) → g ≡ geometryOf c → h ≡ headOf c
+        → Did card (flat (plannedRuns g (s .plan) h ns bs)) a c d r → n ≡ length ns * (blockSize g / 8 + 4) + 1
+        → y ≡ cond (ltb a n) Cut (Done n) → Committed c ns bs a y d
+    unfolding commitWork storesOf
+    commit-made g h a n r d y e q m k w =
+        let g₀ = geometryOf c in
+        record {
+          answers =
+              made-answer (commitWork c ns bs) a (s .refusal) (x .refusal-is) z n y
+              (k ∙ ap (λ (v : Geometry). length ns * (blockSize v / 8 + 4) + 1) e ∙ sym (runs-count g₀ c ns bs)) w;
+          leaves =
+              made-after (commitWork c ns bs) a (s .refusal) (x .refusal-is) z
+              (did-same ((λ t. flat (plannedRuns (e t) (s .plan) (q t) ns bs)) ∙ ap flat (runs-same g₀ c ns bs (s .plan) (x .planned z))) m);
+        }

@@ -1,0 +1,42 @@
+-- `make_block` makes the stores of one block.
+use Rattle.commit.proofs.Steps.{from-fits, from-room, stepped}
+use borrow.Author.Needs.{needs}
+use Rattle.commit.proofs.make_block.Statement.{statement}
+use Rattle.commit.proofs.make_block.Tie as tie
+
+block-size-requires : tie.Need-block-size-requires
+block-size-requires c κs = search needs
+
+mul-from : tie.Need-mul-from
+mul-from c = record { fits = search (from-fits, needs) }
+
+cast-make-words : tie.Need-cast-make-words
+cast-make-words c = search needs
+
+make-words-requires : tie.Need-make-words-requires
+make-words-requires c κs = search (from-room, needs)
+
+make-entry-at-requires : tie.Need-make-entry-at-requires
+make-entry-at-requires c κs = search needs
+
+log-number-requires : tie.Need-log-number-requires
+log-number-requires c κs = (record { good = search needs; long = search needs }, search needs, search needs)
+
+same-length : tie.Need-same-length
+same-length c = search needs
+
+returns : tie.Need-returns
+returns c = search (stepped, needs)
+
+pub make-block-spec : {M : Type 1} → statement M
+make-block-spec =
+    tie.close
+    (tie.spec
+    block-size-requires
+    mul-from
+    cast-make-words
+    make-words-requires
+    make-entry-at-requires
+    log-number-requires
+    same-length
+    returns)

@@ -1,0 +1,128 @@
+-- What a commit that is not refused has passed, and that all its plan names lies on the card: new data blocks are found by the walk, and check 6
+-- leaves an unused entry for each free data block. Assumes nothing.
+use Prim.Native.Nat.{ℕ, _+_, _*_, _-_, _≤_, _<_}
+use mathlib.Core.List.{List}
+use mathlib.Core.Bool.{Bool, true, false, cond, not, _&&_, _||_}
+use mathlib.Core.Path.{_≡_, refl, sym, ap, subst, _∙_}
+use mathlib.Core.Logic.{_⊎_, inl, inr, ⊎-elim}
+use native.Mathlib.Nat.{mod-lt}
+use native.Mathlib.Omega.{arith}
+use lib.ListN.{length, getD}
+use lib.Dec.{eqb, ltb, leb}
+use borrow.Author.Tests.{eq-eqb, eqb-true, leb-true, ltb-true, not-false}
+use Rattle.protocol.specs.declared.Geometry.{Geometry}
+use Rattle.protocol.specs.Below.{allBelow, countBelow, walked}
+use Rattle.protocol.specs.Layout.{geometryOf, blockSize}
+use Rattle.protocol.specs.Entry.{entryAt}
+use Rattle.protocol.specs.Ring.{headOf, tailOf, usedAt, settledBlock, findEntry, cached}
+use Rattle.protocol.specs.Check.{refuse, _orElse_, ringFits, goodEntryAt, entriesFit, alike, apart, apartBefore, entriesApart, fitRefusal, damageRefusal, cardRefusal}
+use Rattle.protocol.specs.Search.{takenBy, isFree, unusedAt, searchStart, freeBlocks, unusedEntries}
+use Rattle.protocol.specs.Commit.{numberOf, uncachedAt, newBlock, entryFound, countFits, dataFits, numbersFit, numbersApart, roomFor, saveRefusal, commitRefusal}
+use Rattle.protocol.proofs.Below.{absurd-bool, either, below-or-above, and-left, and-right, or-right, or-left, all-at, around-below, count-le}
+use Rattle.protocol.proofs.Checks.{Limits, limits, orElse-none, refuse-none, Allowed, allowed}
+use Rattle.protocol.proofs.Searches.{Found, walk-finds, unused-enough}
+use Rattle.ring.specs.Fitted.{Fitted}
+use Rattle.ring.proofs.Laws.{fit-fitted}
+use Rattle.plan.proofs.Rows.{walk-few}
+use Rattle.plan.proofs.Keyed.{start-blocks}
+
+-- ---- what was passed
+
+-- a commit of the numbers ns with the bytes bs passes its checks on the card c
+pub record Passed (g : Geometry) (c ns bs : List ℕ) : Type 0 where
+  pub fitted : Fitted g c
+  pub head : headOf c < g .slots
+  pub fits : entriesFit g c ≡ true
+  pub distinct : entriesApart g c ≡ true
+  pub count : length ns ≤ g .slots - 1
+  pub sized : length bs ≡ length ns * blockSize g
+  pub room : length ns ≤ length (freeBlocks g c)
+
+pub passed : (c ns bs : List ℕ) → commitRefusal c ns bs ≡ 0 → Passed (geometryOf c) c ns bs
+unfolding commitRefusal cardRefusal damageRefusal ringFits saveRefusal countFits dataFits roomFor
+passed c ns bs z =
+    let g : Geometry = geometryOf c in
+    let (fit, more) = orElse-none (fitRefusal c) _ z in
+    let (whole, own) = orElse-none (cardRefusal g c) _ more in
+    let damage = orElse-none (damageRefusal g c) _ whole .0 in
+    let (ring, entries) = orElse-none (refuse 4 (ringFits g c)) _ damage in
+    let (five, six) = orElse-none (refuse 5 (entriesFit g c)) _ entries in
+    let (eight, own₂) = orElse-none (refuse 8 (countFits g ns)) _ own in
+    let (nine, own₃) = orElse-none (refuse 9 (dataFits g ns bs)) _ own₂ in
+    let own₄ = orElse-none (refuse 10 (numbersFit g ns)) _ own₃ .1 in
+    let last = orElse-none (refuse 11 (numbersApart ns)) _ own₄ .1 in
+    record {
+      fitted = fit-fitted c g 0 (sym fit) refl refl;
+      head = ltb-true _ _ (and-left (ltb (headOf c) (g .slots)) _ (refuse-none 4 (ringFits g c) (omega arith) ring));
+      fits = refuse-none 5 (entriesFit g c) (omega arith) five;
+      distinct = refuse-none 6 (entriesApart g c) (omega arith) six;
+      count = leb-true _ _ (and-right (not (eqb (length ns) 0)) _ (refuse-none 8 (countFits g ns) (omega arith) eight));
+      sized = eqb-true _ _ (refuse-none 9 (dataFits g ns bs) (omega arith) nine);
+      room = leb-true _ _ (refuse-none 14 (roomFor g c (length ns)) (omega arith) last);
+    }
+
+-- ---- what the searches find
+
+module _ {g : Geometry} {c ns bs : List ℕ} (v : Passed g c ns bs) where
+  start-below : searchStart g c < g .blocks
+  unfolding searchStart
+  start-below = mod-lt (headOf c) (start-blocks g c (v .fitted))
+
+  -- what a walk found is a place on its ring
+  found-below : (p : ℕ → Bool) (k : ℕ) → k < length (walked p (g .blocks) (searchStart g c) (g .blocks))
+      → getD (walked p (g .blocks) (searchStart g c) (g .blocks)) k 0 < g .blocks
+  found-below p k l =
+      let f = walk-finds p (g .blocks) (searchStart g c) (g .blocks) k l in
+      subst (λ (z : ℕ). z < g .blocks) (sym (f .at)) (around-below (g .blocks) (searchStart g c) (f .step) start-below (omega (arith, f .before)))
+
+  pub few-numbers : length ns ≤ 128
+  unfolding freeBlocks
+  few-numbers =
+      let m : Limits g = limits g (v .fitted .good) in
+      omega (arith, v .room, walk-few (isFree g c) (g .blocks) (searchStart g c) (g .blocks))
+
+  pub new-below : (i : ℕ) → i < length ns → newBlock g c i < g .blocks
+  unfolding newBlock freeBlocks
+  new-below i l = found-below (isFree g c) i (omega (arith, v .room))
+
+  -- two entries in use with one current block are one entry
+  currents-differ : (i j : ℕ) → i < g .blocks → j < i → usedAt g c i ≡ true → usedAt g c j ≡ true → entryAt g c i .current ≡ entryAt g c j .current → ⊥
+  unfolding entriesApart apartBefore apart alike
+  currents-differ i j li ji ui uj e =
+      let same : alike g c i j ≡ true =
+      or-right (eqb (entryAt g c i .number) (entryAt g c j .number)) _ (or-left (eqb (entryAt g c i .current) (entryAt g c j .current)) _ (eq-eqb _ _ e)) in
+      absurd-bool (all-at (apart g c i) i j (all-at (apartBefore g c) (g .blocks) i (v .distinct) li) ji) (rw (ui, uj, same))
+
+  currents-apart : (i j : ℕ) → i < g .blocks → j < g .blocks → usedAt g c i ≡ true → usedAt g c j ≡ true
+      → entryAt g c i .current ≡ entryAt g c j .current → i ≡ j
+  currents-apart i j li lj ui uj e =
+      ⊎-elim
+      (λ (l : i < j). absurd (currents-differ j i lj l uj ui (sym e)))
+      (λ (l : j ≤ i).
+      ⊎-elim (λ (m : j < i). absurd (currents-differ i j li m ui uj e)) (λ (m : i ≤ j). omega arith) (below-or-above j i))
+      (below-or-above i j)
+
+  current-below : (i : ℕ) → i < g .blocks → entryAt g c i .current < g .blocks
+  unfolding entriesFit goodEntryAt
+  current-below i l =
+      let m : Limits g = limits g (v .fitted .good) in
+      allowed (g .blocks) (g .disk) (entryAt g c i) (omega arith) (omega arith) (all-at (goodEntryAt g c) (g .blocks) i (v .fits) l) .current
+
+  -- "commit never lacks an entry"
+  enough-unused : length (freeBlocks g c) ≤ length (unusedEntries g c)
+  unfolding freeBlocks unusedEntries isFree takenBy unusedAt
+  enough-unused =
+      unused-enough (usedAt g c) (λ i. entryAt g c i .current) (g .blocks) (searchStart g c) currents-apart (λ i l u. current-below i l) start-below
+
+  pub entry-below : (i : ℕ) → i < length ns → entryFound g c ns i < g .blocks
+  unfolding entryFound uncachedAt cached unusedEntries
+  entry-below i l =
+      ⊎-elim
+      (λ t. rw t (ltb-true _ _ t))
+      (λ t. rw t unused-below)
+      (either (ltb (findEntry g c (numberOf ns i)) (g .blocks)))
+    where
+      unused-below : getD (unusedEntries g c) (countBelow (uncachedAt g c ns) i) 0 < g .blocks
+      unused-below =
+          found-below (unusedAt g c) (countBelow (uncachedAt g c ns) i)
+          (omega (arith, count-le (uncachedAt g c ns) i, v .room, enough-unused))

@@ -1,0 +1,7 @@
+-- Laws behind the functions' proofs.
+pub mod Request
+pub mod Rows
+pub mod Keyed
+pub mod Housing
+pub mod Order
+pub mod Bounds

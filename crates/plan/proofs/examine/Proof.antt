@@ -1,0 +1,41 @@
+-- `examine` answers the refusals of the card's contents and commit's own, or the plan: one law for each answer.
+use Rattle.plan.proofs.Order.{examined-damaged, examined-unsettled, examined-keyed, examined-saved}
+use borrow.Author.Needs.{needs}
+use Rattle.plan.proofs.examine.Statement.{statement}
+use Rattle.plan.proofs.examine.Tie as tie
+
+inspect-requires : tie.Need-inspect-requires
+inspect-requires c κs = search needs
+
+unplanned-requires : tie.Need-unplanned-requires
+unplanned-requires c κs = search needs
+
+returns : tie.Need-returns
+returns c = search (examined-damaged, needs)
+
+unplanned-requires-2 : tie.Need-unplanned-requires-2
+unplanned-requires-2 c κs = search needs
+
+returns-2 : tie.Need-returns-2
+returns-2 c = search (examined-unsettled, needs)
+
+save-requires : tie.Need-save-requires
+save-requires c κs =
+    let e = c .before .before .before .before in
+    let i = e .before .before in
+    examined-keyed _ _ _ _ _ (i .inspect .ensures) (e .if1 .left) (i .before .before .before .before .before .before .pre)
+
+returns-3 : tie.Need-returns-3
+returns-3 c = search (examined-saved, needs)
+
+pub examine-spec : {M : Type 1} → statement M
+examine-spec =
+    tie.close
+    (tie.spec
+    inspect-requires
+    unplanned-requires
+    returns
+    unplanned-requires-2
+    returns-2
+    save-requires
+    returns-3)

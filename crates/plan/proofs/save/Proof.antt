@@ -1,0 +1,42 @@
+-- `save` answers commit's own refusal or its plan: one law for each answer.
+use Rattle.plan.proofs.Order.{passed-numbers, saved-request, saved-full, saved-few, saved-planned}
+use borrow.Author.Needs.{needs}
+use Rattle.plan.proofs.save.Statement.{statement}
+use Rattle.plan.proofs.save.Tie as tie
+
+request-refusal-requires : tie.Need-request-refusal-requires
+request-refusal-requires c κs = search needs
+
+unplanned-requires : tie.Need-unplanned-requires
+unplanned-requires c κs = search needs
+
+returns : tie.Need-returns
+returns c = search (saved-request, needs)
+
+free-blocks-requires : tie.Need-free-blocks-requires
+free-blocks-requires c κs = search needs
+
+unplanned-requires-2 : tie.Need-unplanned-requires-2
+unplanned-requires-2 c κs = search needs
+
+returns-2 : tie.Need-returns-2
+returns-2 c = search (saved-full, needs)
+
+homes-of-requires : tie.Need-homes-of-requires
+homes-of-requires c κs = search (passed-numbers, saved-few, needs)
+
+returns-3 : tie.Need-returns-3
+returns-3 c = search (saved-planned, needs)
+
+pub save-spec : {M : Type 1} → statement M
+save-spec =
+    tie.close
+    (tie.spec
+    request-refusal-requires
+    unplanned-requires
+    returns
+    free-blocks-requires
+    unplanned-requires-2
+    returns-2
+    homes-of-requires
+    returns-3)

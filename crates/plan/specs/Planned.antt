@@ -1,0 +1,62 @@
+-- What a plan holds: for each block of the commit the place of its entry, its previous and its new data block.
+use Prim.Native.Nat.{ℕ, _+_, _<_}
+use mathlib.Core.List.{List}
+use mathlib.Core.Bool.{true, cond}
+use mathlib.Core.Path.{_≡_}
+use lib.ListN.{length, getD}
+use lib.Dec.{ltb}
+use Rattle.protocol.specs.declared.Geometry.{Geometry}
+use Rattle.protocol.specs.Below.{firstBelow}
+use Rattle.protocol.specs.Entry.{FRESH}
+use Rattle.protocol.specs.Layout.{geometryOf}
+use Rattle.protocol.specs.Check.{_orElse_, entriesFit, cardRefusal}
+use Rattle.protocol.specs.Commit.{newBlock, entryFound, oldBlock, saveRefusal, commitRefusal}
+use Rattle.ring.specs.Fitted.{Fitted}
+use Rattle.checks.specs.Keys.{keyed, keyAt, numberKey, currentKey, Lists}
+use Rattle.plan.specs.declared.Home.{Home}
+use Rattle.plan.specs.declared.Homes.{Homes}
+use Rattle.plan.specs.declared.Plan.{Plan}
+use Rattle.plan.specs.declared.Saving.{Saving}
+
+-- what a plan starts from: a card that passed checks 1, 2 and 5, and the keys of its entries
+pub record Keyed (g : Geometry) (c ids currents : List ℕ) : Type 0 where
+  pub fitted : Fitted g c
+  pub fits : entriesFit g c ≡ true
+  pub numbers : Lists (numberKey g c) ids (g .blocks)
+  pub blocks : Lists (currentKey g c) currents (g .blocks)
+
+-- the first of n keys that is b
+unfoldable pub keyPlace : List ℕ → ℕ → ℕ → ℕ
+keyPlace ids n b = firstBelow (keyed (keyAt ids) b) n
+
+-- the entry that has the key b with its current block, or where none has it the next unused one
+pub record Housed (ids currents unused : List ℕ) (n b missed : ℕ) (r : Home) : Type 0 where
+  pub entry : r .entry ≡ cond (ltb (keyPlace ids n b) n) (keyPlace ids n b) (getD unused missed 0)
+  pub previous : r .previous ≡ cond (ltb (keyPlace ids n b) n) (getD currents (keyPlace ids n b) 0) FRESH
+  pub misses : r .misses ≡ cond (ltb (keyPlace ids n b) n) missed (missed + 1)
+
+-- the entries of the commit's blocks, and their previous data blocks
+pub record AllHoused (g : Geometry) (c ns : List ℕ) (r : Homes) : Type 0 where
+  pub entries : Lists (entryFound g c ns) (r .entries) (length ns)
+  pub previous : Lists (oldBlock g c ns) (r .previous) (length ns)
+
+-- the plan of a commit of the numbers ns
+pub record Planned (g : Geometry) (c ns : List ℕ) (p : Plan) : Type 0 where
+  pub entries : Lists (entryFound g c ns) (p .entries) (length ns)
+  pub previous : Lists (oldBlock g c ns) (p .previous) (length ns)
+  pub blocks : Lists (newBlock g c) (p .blocks) (length ns)
+
+-- commit's own refusal, and where there is none the plan
+pub record Saved (g : Geometry) (c ns bs : List ℕ) (r : Saving) : Type 0 where
+  pub refusal-is : r .refusal ≡ saveRefusal g c ns bs
+  pub planned : r .refusal ≡ 0 → Planned g c ns (r .plan)
+
+-- the refusals of the card's contents before commit's own
+pub record Examined (g : Geometry) (c ns bs : List ℕ) (r : Saving) : Type 0 where
+  pub refusal-is : r .refusal ≡ cardRefusal g c orElse saveRefusal g c ns bs
+  pub planned : r .refusal ≡ 0 → Planned g c ns (r .plan)
+
+-- all of commit's refusals, and where there is none the plan
+pub record Prepared (c ns bs : List ℕ) (r : Saving) : Type 0 where
+  pub refusal-is : r .refusal ≡ commitRefusal c ns bs
+  pub planned : r .refusal ≡ 0 → Planned (geometryOf c) c ns (r .plan)

@@ -1,0 +1,346 @@
+// The plan of a commit, from the card at entry: its own refusals, and for each block its entry, its previous and its new data block.
+use protocol::FRESH;
+use protocol::Geometry;
+ghost use mathlib.Core.Path.{_≡_};
+ghost use mathlib.Core.Bool.{true, not};
+ghost use Prim.Native.Nat.{ℕ, _≤_, _<_};
+ghost use lib.ListN.{length};
+ghost use Rattle.protocol.specs.Below.{anyBelow, around};
+ghost use Rattle.protocol.specs.Layout.{goodGeometry};
+ghost use Rattle.protocol.specs.Search.{isFree, unusedAt, searchStart};
+ghost use Rattle.protocol.specs.Check.{entriesFit};
+ghost use Rattle.protocol.specs.Commit.{numbersFit, newNumber, numbersApart};
+ghost use Rattle.plan.specs.Request.{requestRefusal};
+ghost use Rattle.ring.specs.Fitted.{Fitted};
+ghost use Rattle.checks.specs.Keys.{NONE, keyed, keyAt, numberKey, currentKey, Lists};
+ghost use Rattle.plan.specs.Searched.{Searched};
+ghost use Rattle.plan.specs.Planned.{Keyed, Housed, AllHoused, Saved, Examined, Prepared};
+
+// The key of an unused entry and the mark of a free data block: no disk block and no data block has this number.
+const NOTHING: u32 = 65536;
+
+// Not 10: each number is below D.
+fn numbers_fit(g: Geometry, numbers: &[u64]) -> bool
+    ensures { λ r. ⌜ r ≡ numbersFit g (now (numbers .entry)) ⌝ }
+{
+    let mut i: usize = 0;
+    while i < numbers.len() {
+        if numbers[i] >= g.disk {
+            return false;
+        }
+        i += 1;
+    }
+    true
+}
+
+// Whether number i is none of those before it. It looks at all of them, so that the compiler compares several at a time.
+fn is_new(numbers: &[u64], i: usize) -> bool
+    requires { ⌜ i < length (now numbers) ⌝ }
+    ensures { λ r. ⌜ r ≡ newNumber (now (numbers .entry)) i ⌝ }
+{
+    let number = numbers[i];
+    let mut fresh = true;
+    let mut j: usize = 0;
+    while j < i {
+        fresh = fresh & (number != numbers[j]);
+        j += 1;
+    }
+    fresh
+}
+
+// Not 11: no number stands there twice.
+fn numbers_apart(numbers: &[u64]) -> bool
+    ensures { λ r. ⌜ r ≡ numbersApart (now (numbers .entry)) ⌝ }
+{
+    let mut i: usize = 0;
+    while i < numbers.len() {
+        if !is_new(numbers, i) {
+            return false;
+        }
+        i += 1;
+    }
+    true
+}
+
+// 8 to 11, which the numbers and the data decide alone. Nothing is multiplied before the count has passed.
+fn request_refusal(g: Geometry, numbers: &[u64], data: &[u8]) -> u8
+    requires { ⌜ goodGeometry g ≡ true ⌝ }
+    ensures { λ r. ⌜ r ≡ requestRefusal g (now (numbers .entry)) (now («data» .entry)) ⌝ }
+{
+    let n = numbers.len() as u64;
+    if n == 0 {
+        return 8;
+    }
+    if g.slots - 1 < n {
+        return 8;
+    }
+    if data.len() as u64 != n * codec::block_size(g) {
+        return 9;
+    }
+    if !numbers_fit(g, numbers) {
+        return 10;
+    }
+    if !numbers_apart(numbers) {
+        return 11;
+    }
+    0
+}
+
+fn wide(x: u32) -> usize
+    ensures { λ r. ⌜ r ≡ x ⌝ }
+{
+    x as usize
+}
+
+// A mark for each data block: NOTHING where it is none of the n keys.
+fn free_marks(keys: &[u32; 128], n: usize) -> [u32; 128]
+    requires { ⌜ n ≤ 128 ⌝ }
+    ensures { λ r. ⌜ ((p : ℕ) → p < 128 → keyed (keyAt r) NONE p ≡ not (anyBelow (keyed (keyAt (now (keys .entry))) p) n)) ⌝ }
+{
+    let mut marks = [NOTHING; 128];
+    let mut i: usize = 0;
+    while i < n {
+        let key = wide(keys[i]);
+        i += 1;
+        if key < 128 {
+            marks[key] = 0;
+        }
+    }
+    marks
+}
+
+// Places that a search found, in the order of the search.
+pub struct Places {
+    pub count: usize,
+    pub places: [u8; 128],
+}
+
+// The place j places forward from `at`, round at n.
+pub fn forward(n: usize, at: usize, j: usize) -> usize
+    requires { ⌜ (at < n) × (j ≤ n) × (n ≤ 256) ⌝ }
+    ensures { λ r. ⌜ (r ≡ around n at j) × (r < n) ⌝ }
+{
+    let ahead = at + j;
+    if ahead < n { ahead } else { ahead - n }
+}
+
+// Walks from `start` upward and round n places, and lists those that are marked NOTHING until it has as many as are wanted.
+fn walk(marks: &[u32; 128], n: usize, start: usize, want: usize) -> Places
+    requires { ⌜ (start < n) × (n ≤ 128) ⌝ }
+    ensures { λ r. ⌜ Searched (keyed (keyAt (now (marks .entry))) NONE) n start want r ⌝ }
+{
+    let mut places = [0u8; 128];
+    let mut count: usize = 0;
+    let mut at = start;
+    let mut j: usize = 0;
+    while j < n {
+        if want <= count {
+            return Places {
+                count: count,
+                places: places,
+            };
+        }
+        let here = at;
+        at = forward(n, here, 1);
+        j += 1;
+        if marks[here] == NOTHING {
+            places[count] = here as u8;
+            count += 1;
+        }
+    }
+    Places {
+        count: count,
+        places: places,
+    }
+}
+
+// Document 01's search starts at Head mod N.
+fn search_start(g: Geometry, card: &[u8]) -> usize
+    requires { ⌜ Fitted g (now card) ⌝ }
+    ensures { λ r. ⌜ (r ≡ searchStart g (now (card .entry))) × (r < g .blocks) ⌝ }
+{
+    (ring::head_of(card) % g.blocks) as usize
+}
+
+// The first `want` free data blocks, from the keys of the current blocks.
+pub fn free_blocks(g: Geometry, card: &[u8], currents: &[u32; 128], want: usize) -> Places
+    requires { ⌜ Fitted g (now card) × Lists (currentKey g (now card)) (now currents) (g .blocks) ⌝ }
+    ensures { λ r. ⌜ Searched (isFree g (now (card .entry))) (g .blocks) (searchStart g (now (card .entry))) want r ⌝ }
+{
+    let n = g.blocks as usize;
+    let marks = free_marks(currents, n);
+    walk(&marks, n, search_start(g, card), want)
+}
+
+// The first `want` unused entries, from the keys of the numbers.
+pub fn unused_entries(g: Geometry, card: &[u8], ids: &[u32; 128], want: usize) -> Places
+    requires { ⌜ Fitted g (now card) × (entriesFit g (now card) ≡ true) × Lists (numberKey g (now card)) (now ids) (g .blocks) ⌝ }
+    ensures { λ r. ⌜ Searched (unusedAt g (now (card .entry))) (g .blocks) (searchStart g (now (card .entry))) want r ⌝ }
+{
+    walk(ids, g.blocks as usize, search_start(g, card), want)
+}
+
+// Where one block of a commit belongs: its entry, its previous data block, and how many numbers were not cached up to it.
+pub struct Home {
+    pub entry: u8,
+    pub previous: u32,
+    pub misses: usize,
+}
+
+// The entry with the key b, or the next unused one.
+fn home_of(
+    ids: &[u32; 128],
+    currents: &[u32; 128],
+    unused: &[u8; 128],
+    n: usize,
+    b: u64,
+    misses: usize,
+) -> Home
+    requires { ⌜ (n ≤ 128) × (b < NONE) × (misses < 128) ⌝ }
+    ensures { λ r. ⌜ Housed (now (ids .entry)) (now (currents .entry)) (now (unused .entry)) n b misses r ⌝ }
+{
+    let at = checks::find_key(ids, n, b as u32);
+    if at < n {
+        Home {
+            entry: at as u8,
+            previous: currents[at],
+            misses: misses,
+        }
+    } else {
+        Home {
+            entry: unused[misses],
+            previous: FRESH,
+            misses: misses + 1,
+        }
+    }
+}
+
+// For each block of a commit its entry's place and its previous data block.
+pub struct Homes {
+    pub entries: [u8; 128],
+    pub previous: [u32; 128],
+}
+
+fn homes_of(
+    g: Geometry,
+    card: &[u8],
+    ids: &[u32; 128],
+    currents: &[u32; 128],
+    numbers: &[u64],
+) -> Homes
+    requires { ⌜ Keyed g (now card) (now ids) (now currents) × (numbersFit g (now numbers) ≡ true) × (length (now numbers) ≤ 128) ⌝ }
+    ensures { λ r. ⌜ AllHoused g (now (card .entry)) (now (numbers .entry)) r ⌝ }
+{
+    let found = unused_entries(g, card, ids, numbers.len());
+    let unused = found.places;
+    let mut entries = [0u8; 128];
+    let mut previous = [0u32; 128];
+    let mut misses: usize = 0;
+    let mut i: usize = 0;
+    while i < numbers.len() {
+        let h = home_of(
+            ids,
+            currents,
+            &unused,
+            g.blocks as usize,
+            numbers[i],
+            misses,
+        );
+        entries[i] = h.entry;
+        previous[i] = h.previous;
+        misses = h.misses;
+        i += 1;
+    }
+    Homes {
+        entries: entries,
+        previous: previous,
+    }
+}
+
+// The plan of a commit: for each block its entry's place, its previous and its new data block.
+pub struct Plan {
+    pub entries: [u8; 128],
+    pub previous: [u32; 128],
+    pub blocks: [u8; 128],
+}
+
+// What a commit asks of a card that is not damaged and settled: refused, or planned.
+pub struct Saving {
+    pub refusal: u8,
+    pub plan: Plan,
+}
+
+fn unplanned(refusal: u8) -> Saving
+    ensures { λ r. ⌜ r .refusal ≡ refusal ⌝ }
+{
+    Saving {
+        refusal: refusal,
+        plan: Plan {
+            entries: [0u8; 128],
+            previous: [0u32; 128],
+            blocks: [0u8; 128],
+        },
+    }
+}
+
+// 8 to 14, and where none of them is given the plan.
+pub fn save(
+    g: Geometry,
+    card: &[u8],
+    ids: &[u32; 128],
+    currents: &[u32; 128],
+    numbers: &[u64],
+    data: &[u8],
+) -> Saving
+    requires { ⌜ Keyed g (now card) (now ids) (now currents) ⌝ }
+    ensures { λ r. ⌜ Saved g (now (card .entry)) (now (numbers .entry)) (now («data» .entry)) r ⌝ }
+{
+    let refusal = request_refusal(g, numbers, data);
+    if refusal != 0 {
+        return unplanned(refusal);
+    }
+    let free = free_blocks(g, card, currents, numbers.len());
+    if free.count < numbers.len() {
+        return unplanned(14);
+    }
+    let h = homes_of(g, card, ids, currents, numbers);
+    let entries = h.entries;
+    let previous = h.previous;
+    let blocks = free.places;
+    Saving {
+        refusal: 0,
+        plan: Plan {
+            entries: entries,
+            previous: previous,
+            blocks: blocks,
+        },
+    }
+}
+
+// 4 to 14 of a card that fits, and where none of them is given the plan. Each entry is decoded once, for the checks and for the plan.
+fn examine(g: Geometry, card: &[u8], numbers: &[u64], data: &[u8]) -> Saving
+    requires { ⌜ Fitted g (now card) ⌝ }
+    ensures { λ r. ⌜ Examined g (now (card .entry)) (now (numbers .entry)) (now («data» .entry)) r ⌝ }
+{
+    let mut ids = [0u32; 128];
+    let mut currents = [0u32; 128];
+    let v = checks::inspect(g, card, &mut ids, &mut currents);
+    if v.refusal != 0 {
+        return unplanned(v.refusal);
+    }
+    if !v.settled {
+        return unplanned(7);
+    }
+    save(g, card, &ids, &currents, numbers, data)
+}
+
+// What a commit comes to on the card at entry: its refusal, and where there is none its plan.
+pub fn prepare(card: &[u8], numbers: &[u64], data: &[u8]) -> Saving
+    ensures { λ r. ⌜ Prepared (now (card .entry)) (now (numbers .entry)) (now («data» .entry)) r ⌝ }
+{
+    let misfit = ring::fit_refusal(card);
+    if misfit != 0 {
+        return unplanned(misfit);
+    }
+    examine(ring::geometry_of(card), card, numbers, data)
+}
