@@ -20,7 +20,7 @@ use Rattle.protocol.proofs.Checks.{Limits, limits, Allowed, allowed}
 use Rattle.checks.specs.Keys.{NONE, key, numberKey, currentKey, settledKey, keyed, lone, distinct, keyAt, Lists}
 
 -- two tests that hold together are one
-bool-same : (a b : Bool) → (a ≡ true → b ≡ true) → (b ≡ true → a ≡ true) → a ≡ b
+pub bool-same : (a b : Bool) → (a ≡ true → b ≡ true) → (b ≡ true → a ≡ true) → a ≡ b
 bool-same true b f g = sym (f refl)
 bool-same false true f g = g refl
 bool-same false false f g = refl

@@ -1,4 +1,5 @@
 pub mod Keys
+pub mod Words
 pub mod Marks
 pub mod Chain
 pub mod Settled

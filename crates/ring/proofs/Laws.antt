@@ -122,7 +122,7 @@ fit-fitted c g r e z q =
     let l : cardFits (geometryOf c) c ≡ true = refuse-none 2 (cardFits (geometryOf c) c) (omega arith) (both .1) in
     record {
       good = header-geometry c true g (sym h) refl q;
-      long = eqb-true (length c) (cardLength (geometryOf c)) l ∙ ap cardLength (sym q)
+      long = eqb-true (length c) (cardLength (geometryOf c)) l ∙ ap cardLength (sym q);
     }
 
 -- ---- check 4
