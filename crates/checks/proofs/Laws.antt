@@ -1,5 +1,5 @@
 -- The pass over the entries: after i of them, check 5 allows each, and their keys are listed. Assumes nothing.
-use Prim.Native.Nat.{ℕ, _+_, _/_, _%_, _^_, _≤_, _<_}
+use Prim.Native.Nat.{ℕ, _+_, _≤_, _<_}
 use mathlib.Core.List.{List}
 use mathlib.Core.Bool.{Bool, true, false, not, _&&_}
 use mathlib.Core.Logic.{⊎-elim}
@@ -20,13 +20,13 @@ use Rattle.protocol.specs.Entry.{unused, entryAt, inUse, hasLogRole, isUnused, 
 use Rattle.protocol.specs.Ring.{usedAt, roleFreeAt}
 use Rattle.protocol.specs.Check.{goodEntryAt, entriesFit}
 use Rattle.protocol.proofs.Below.{absurd-bool, last-or-before, all-more, all-fails, all-done}
-use Rattle.protocol.proofs.Checks.{Allowed, allowed, entry-words}
+use Rattle.protocol.proofs.Checks.{entry-quarters}
 use Rattle.ring.specs.Fitted.{Fitted}
 use Rattle.ring.proofs.Laws.{Room, room}
 use Rattle.checks.specs.Keys.{NONE, key, numberKey, currentKey, keyAt, Lists}
-use Rattle.checks.specs.Words.{wordsEntry}
+use Rattle.checks.specs.Quarters.{quartersEntry, Quarter}
 use Rattle.checks.specs.Passed.{Decoded}
-use Rattle.checks.proofs.Words.{words-unused, words-key, no-role}
+use Rattle.checks.proofs.Quarters.{zeroQuarters, quarters-unused, quarters-key, quarters-number, quarters-role}
 
 -- ---- a row of keys
 
@@ -78,63 +78,58 @@ and-true : (b : Bool) → b && true ≡ b
 and-true true = refl
 and-true false = refl
 
--- entry i by its two words
-module _ (g : Geometry) (c : List ℕ) (i w z : ℕ) (f : Fitted g c) (l : i < g .blocks) (bytes : Bytes c)
-    (w-is : w ≡ numberAt c (entryPlace g i + 0) 8) (z-is : z ≡ numberAt c (entryPlace g i + 8) 8) where
-  words-entry : wordsEntry w z ≡ entryAt g c i
-  unfolding wordsEntry entryAt entryPlace
-  words-entry =
+-- entry i by its four quarters
+module _ (g : Geometry) (c : List ℕ) (i x l p q : ℕ) (f : Fitted g c) (b : i < g .blocks) (bytes : Bytes c)
+    (x-is : Quarter g c i 0 x) (l-is : Quarter g c i 4 l) (p-is : Quarter g c i 8 p) (q-is : Quarter g c i 12 q) where
+  quarters-entry : quartersEntry x l p q ≡ entryAt g c i
+  unfolding quartersEntry entryAt entryPlace
+  quarters-entry =
       let k : Room g c = room g c f in
       let at : ℕ = entryPlace g i in
-      let w′ : w ≡ numberAt c at 8 = w-is ∙ ap (λ (x : ℕ). numberAt c x 8) (add-zero at) in
-      (λ t. wordsEntry (w′ t) (z-is t)) ∙ sym (entry-words c at bytes (omega arith))
+      let x′ : x ≡ numberAt c at 4 = x-is .value ∙ ap (λ (v : ℕ). numberAt c v 4) (add-zero at) in
+      (λ t. quartersEntry (x′ t) (l-is .value t) (p-is .value t) (q-is .value t)) ∙ sym (entry-quarters c at bytes (omega arith))
 
   small : i < 128
   small = let k : Room g c = room g c f in omega arith
 
-  pub listed-unused : (quiet : Bool) (ns cs : List ℕ) → Listed g c i quiet ns cs → eqb w 0 && eqb z 0 ≡ true
+  pub listed-unused : (quiet : Bool) (ns cs : List ℕ) → Listed g c i quiet ns cs → zeroQuarters x l p q ≡ true
       → Listed g c (i + 1) quiet (set ns i NONE) (set cs i NONE)
   unfolding goodEntryAt goodEntry isUnused roleFreeAt hasLogRole numberKey currentKey usedAt inUse key
   listed-unused quiet ns cs h e =
-      let q : entryAt g c i ≡ unused = sym words-entry ∙ words-unused w z e in
-      subst (λ (b : Bool). Listed g c (i + 1) b (set ns i NONE) (set cs i NONE)) (and-true quiet)
+      let z : entryAt g c i ≡ unused = sym quarters-entry ∙ quarters-unused x l p q e in
+      subst (λ (v : Bool). Listed g c (i + 1) v (set ns i NONE) (set cs i NONE)) (and-true quiet)
       (listed-step g c i quiet true ns cs NONE NONE small h
-      (ap (goodEntry (g .blocks) (g .disk)) q)
-      (sym (ap (λ (x : Entry). not (hasLogRole x)) q))
-      (sym (ap (λ (x : Entry). key (inUse x) (x .number)) q))
-      (sym (ap (λ (x : Entry). key (inUse x) (x .current)) q)))
+      (ap (goodEntry (g .blocks) (g .disk)) z)
+      (sym (ap (λ (e : Entry). not (hasLogRole e)) z))
+      (sym (ap (λ (e : Entry). key (inUse e) (e .number)) z))
+      (sym (ap (λ (e : Entry). key (inUse e) (e .current)) z)))
 
-  pub listed-bad : (ns cs : List ℕ) (ok : Bool) → ok ≡ goodEntry (g .blocks) (g .disk) (wordsEntry w z) → not ok ≡ true
+  pub listed-bad : (ns cs : List ℕ) (ok : Bool) → ok ≡ goodEntry (g .blocks) (g .disk) (quartersEntry x l p q) → not ok ≡ true
       → Decoded g c ns cs (record { fits = false; quiet = false })
   unfolding entriesFit goodEntryAt
-  listed-bad ns cs ok p o = record {
-    fits = sym (all-fails (goodEntryAt g c) (g .blocks) i l (ap (goodEntry (g .blocks) (g .disk)) (sym words-entry) ∙ sym p ∙ not-true ok o));
+  listed-bad ns cs ok r o = record {
+    fits =
+        sym (all-fails (goodEntryAt g c) (g .blocks) i b (ap (goodEntry (g .blocks) (g .disk)) (sym quarters-entry) ∙ sym r ∙ not-true ok o));
     quiet = λ h. absurd-bool h refl;
     numbers = λ h. absurd-bool h refl;
     currents = λ h. absurd-bool h refl;
   }
 
-  module _ (ok : Bool) (p : ok ≡ goodEntry (g .blocks) (g .disk) (wordsEntry w z)) (o : not ok ≡ false) where
-    good-is : goodEntry (g .blocks) (g .disk) (wordsEntry w z) ≡ true
-    good-is = sym p ∙ not-false ok o
-
-    pub number-small : w % 2 ^ 56 < NONE
-    unfolding wordsEntry
-    number-small =
-        let k : Room g c = room g c f in
-        let a : Allowed (g .blocks) (g .disk) (wordsEntry w z) = allowed (g .blocks) (g .disk) (wordsEntry w z) (omega arith) (omega arith) good-is in
-        let b : w % 2 ^ 56 < g .disk = a .number in
-        omega arith
-
-    pub listed-used : (quiet : Bool) (ns cs : List ℕ) → Listed g c i quiet ns cs → eqb w 0 && eqb z 0 ≡ false
-        → Listed g c (i + 1) (quiet && eqb (w / 2 ^ 56 % 2) 0) (set ns i (w % 2 ^ 56)) (set cs i (z % 2 ^ 32))
-    unfolding goodEntryAt roleFreeAt numberKey currentKey usedAt wordsEntry
-    listed-used quiet ns cs h e =
-        listed-step g c i quiet (eqb (w / 2 ^ 56 % 2) 0) ns cs (w % 2 ^ 56) (z % 2 ^ 32) small h
-        (ap (goodEntry (g .blocks) (g .disk)) (sym words-entry) ∙ good-is)
-        (no-role w z ∙ ap (λ (x : Entry). not (hasLogRole x)) words-entry)
-        (words-key (g .blocks) (g .disk) w z (w % 2 ^ 56) e good-is ∙ ap (λ (x : Entry). key (inUse x) (x .number)) words-entry)
-        (words-key (g .blocks) (g .disk) w z (z % 2 ^ 32) e good-is ∙ ap (λ (x : Entry). key (inUse x) (x .current)) words-entry)
+  pub listed-used : (quiet : Bool) (ns cs : List ℕ) (ok : Bool) → Listed g c i quiet ns cs → zeroQuarters x l p q ≡ false
+      → ok ≡ goodEntry (g .blocks) (g .disk) (quartersEntry x l p q) → not ok ≡ false
+      → Listed g c (i + 1) (quiet && not (eqb x 0x83000000)) (set ns i l) (set cs i q)
+  unfolding goodEntryAt roleFreeAt numberKey currentKey usedAt quartersEntry
+  listed-used quiet ns cs ok h z r o =
+      let k : Room g c = room g c f in
+      let d : g .disk ≤ 65536 = omega arith in
+      let good : goodEntry (g .blocks) (g .disk) (quartersEntry x l p q) ≡ true = sym r ∙ not-false ok o in
+      listed-step g c i quiet (not (eqb x 0x83000000)) ns cs l q small h
+      (ap (goodEntry (g .blocks) (g .disk)) (sym quarters-entry) ∙ good)
+      (quarters-role (g .blocks) (g .disk) x l p q d (p-is .below) z good ∙ ap (λ (e : Entry). not (hasLogRole e)) quarters-entry)
+      (quarters-number (g .blocks) (g .disk) x l p q d (p-is .below) z good
+      ∙ quarters-key (g .blocks) (g .disk) x l p q d (p-is .below) z good (quartersEntry x l p q .number)
+      ∙ ap (λ (e : Entry). key (inUse e) (e .number)) quarters-entry)
+      (quarters-key (g .blocks) (g .disk) x l p q d (p-is .below) z good q ∙ ap (λ (e : Entry). key (inUse e) (e .current)) quarters-entry)
 
 pub listed-end : (g : Geometry) (c : List ℕ) (i : ℕ) (quiet : Bool) (ns cs : List ℕ) → Listed g c i quiet ns cs → g .blocks ≤ i → i ≤ g .blocks
     → Decoded g c ns cs (record { fits = true; quiet = quiet })

@@ -1,5 +1,5 @@
 pub mod Keys
-pub mod Words
+pub mod Quarters
 pub mod Marks
 pub mod Chain
 pub mod Settled

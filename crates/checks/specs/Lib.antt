@@ -1,4 +1,4 @@
 pub mod Keys
 pub mod Chain
-pub mod Words
+pub mod Quarters
 pub mod Passed

@@ -379,7 +379,7 @@ number-one xs at h = ap be (part-one xs at h) ∙ zero-add (getD xs at 0)
 -- ---- a number in two parts
 
 module _ (xs : List ℕ) (at m n : ℕ) (bytes : Bytes xs) (fits : at + m + n ≤ length xs) where
-  number-split : numberAt xs at (m + n) ≡ numberAt xs at m * 256 ^ n + numberAt xs (at + m) n
+  pub number-split : numberAt xs at (m + n) ≡ numberAt xs at m * 256 ^ n + numberAt xs (at + m) n
   unfolding numberAt
   number-split =
       ap be (part-append xs at m n)

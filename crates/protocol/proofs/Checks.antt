@@ -1,5 +1,5 @@
 -- Laws of the checks' definitions: refusals in order, the limits of a good geometry and of an allowed entry as orders of
--- numbers, and an entry's bytes as two words. Assumes nothing.
+-- numbers, and an entry's bytes as four quarters. Assumes nothing.
 use Prim.Native.Nat.{ℕ, zero, suc, _+_, _*_, _/_, _%_, _^_, _≤_, _<_}
 use mathlib.Core.List.{List}
 use mathlib.Core.Bool.{Bool, true, false, _&&_, _||_}
@@ -12,7 +12,7 @@ use lib.Dec.{leb, ltb, eqb}
 use lib.Pow.{pow-mono}
 use borrow.Author.Tests.{leb-true, ltb-true, eqb-true}
 use Rattle.numbers.specs.Bytes.{numberAt, Bytes}
-use Rattle.numbers.proofs.Laws.{number-one, number-high, number-low}
+use Rattle.numbers.proofs.Laws.{number-one, number-split, number-high, number-low}
 use Rattle.protocol.specs.declared.Geometry.{Geometry}
 use Rattle.protocol.specs.declared.Entry.{Entry}
 use Rattle.protocol.specs.Layout.{between, goodK, goodSlots, goodBlocks, goodDisk, goodGeometry, blockSize}
@@ -124,16 +124,16 @@ unfolding goodEntry
 allowed n d e hn hd h =
     ⊎-elim (unused-allowed n d e hn hd) (λ q. used-allowed n d e (and-right (allowedFlags (e .flags)) _ q)) (or-true (isUnused e) _ h)
 
--- ---- an entry's sixteen bytes as two words
+-- ---- an entry's sixteen bytes as four quarters
 
-pub entry-words : (xs : List ℕ) (at : ℕ) → Bytes xs → at + 16 ≤ length xs → entryIn xs at
-    ≡ entryOf (numberAt xs at 8 / 2 ^ 56) (numberAt xs at 8 % 2 ^ 56) (numberAt xs (at + 8) 8 / 2 ^ 32) (numberAt xs (at + 8) 8 % 2 ^ 32)
+pub entry-quarters : (xs : List ℕ) (at : ℕ) → Bytes xs → at + 16 ≤ length xs → entryIn xs at
+    ≡ entryOf (numberAt xs at 4 / 2 ^ 24) (numberAt xs at 4 % 2 ^ 24 * 2 ^ 32 + numberAt xs (at + 4) 4) (numberAt xs (at + 8) 4)
+    (numberAt xs (at + 12) 4)
 unfolding entryIn
-entry-words xs at bytes h =
-    let q : at + 8 + 4 ≡ at + 12 = omega arith in
-    let f : getD xs at 0 ≡ numberAt xs at 8 / 2 ^ 56 = sym (number-high xs at 1 7 bytes (omega arith) ∙ number-one xs at (omega arith)) in
-    let b : numberAt xs (at + 1) 7 ≡ numberAt xs at 8 % 2 ^ 56 = sym (number-low xs at 1 7 bytes (omega arith)) in
-    let p : numberAt xs (at + 8) 4 ≡ numberAt xs (at + 8) 8 / 2 ^ 32 = sym (number-high xs (at + 8) 4 4 bytes (omega arith)) in
-    let c : numberAt xs (at + 12) 4 ≡ numberAt xs (at + 8) 8 % 2 ^ 32 =
-    ap (λ (k : ℕ). numberAt xs k 4) (sym q) ∙ sym (number-low xs (at + 8) 4 4 bytes (omega arith)) in
-    λ t. entryOf (f t) (b t) (p t) (c t)
+entry-quarters xs at bytes h =
+    let q : at + 1 + 3 ≡ at + 4 = omega arith in
+    let f : getD xs at 0 ≡ numberAt xs at 4 / 2 ^ 24 = sym (number-high xs at 1 3 bytes (omega arith) ∙ number-one xs at (omega arith)) in
+    let b : numberAt xs (at + 1) 7 ≡ numberAt xs at 4 % 2 ^ 24 * 2 ^ 32 + numberAt xs (at + 4) 4 =
+    number-split xs (at + 1) 3 4 bytes (omega arith)
+    ∙ (λ t. sym (number-low xs at 1 3 bytes (omega arith)) t * 2 ^ 32 + numberAt xs (q t) 4) in
+    λ t. entryOf (f t) (b t) (numberAt xs (at + 8) 4) (numberAt xs (at + 12) 4)

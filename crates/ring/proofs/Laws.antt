@@ -43,6 +43,9 @@ fitted-slots g c f = let k : Room g c = room g c f in omega arith
 pub fitted-blocks : (g : Geometry) (c : List ℕ) → Fitted g c → g .blocks ≤ 128
 fitted-blocks g c f = let k : Room g c = room g c f in omega arith
 
+pub fitted-disk : (g : Geometry) (c : List ℕ) → Fitted g c → g .disk ≤ 65536
+fitted-disk g c f = let k : Room g c = room g c f in omega arith
+
 -- ---- checks 1 to 3
 
 pub header-short : (c : List ℕ) → length c < 128 → false ≡ headerFits c

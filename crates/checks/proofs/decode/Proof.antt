@@ -1,7 +1,7 @@
 -- `decode` answers what the pass over the entries finds. The invariant: check 5 allows the entries passed, and their keys are listed.
 use Prim.Native.Nat.{_≤_, _-_}
-use Rattle.ring.proofs.Laws.{fitted-blocks}
-use Rattle.checks.proofs.Laws.{Listed, listed-start, number-small, listed-unused, listed-used, listed-bad, listed-end}
+use Rattle.ring.proofs.Laws.{fitted-blocks, fitted-disk}
+use Rattle.checks.proofs.Laws.{Listed, listed-start, listed-unused, listed-used, listed-bad, listed-end}
 use borrow.Author.Needs.{needs}
 use native.Mathlib.Omega.{arith}
 use Rattle.checks.proofs.decode.Statement.{statement}
@@ -16,11 +16,17 @@ abbrev μ-loop : tie.MeasureT-loop
 loop-holds : tie.Need-loop-holds Inv-loop μ-loop
 loop-holds c = (search (fitted-blocks, needs), search needs, search (listed-start, needs))
 
-word-of-requires : tie.Need-word-of-requires Inv-loop μ-loop
-word-of-requires c κs = search needs
+quarter-of-requires : tie.Need-quarter-of-requires Inv-loop μ-loop
+quarter-of-requires c κs = search needs
 
-word-of-requires-2 : tie.Need-word-of-requires-2 Inv-loop μ-loop
-word-of-requires-2 c κs = search needs
+quarter-of-requires-2 : tie.Need-quarter-of-requires-2 Inv-loop μ-loop
+quarter-of-requires-2 c κs = search needs
+
+quarter-of-requires-3 : tie.Need-quarter-of-requires-3 Inv-loop μ-loop
+quarter-of-requires-3 c κs = search needs
+
+quarter-of-requires-4 : tie.Need-quarter-of-requires-4 Inv-loop μ-loop
+quarter-of-requires-4 c κs = search needs
 
 add-i : tie.Need-add-i Inv-loop μ-loop
 add-i c = search needs
@@ -41,16 +47,16 @@ loop-less : tie.Need-loop-less Inv-loop μ-loop
 loop-less c = search needs
 
 loop-again : tie.Need-loop-again Inv-loop μ-loop
-loop-again c = let t2 = c .before in let t1 = t2 .before in let t = t1 .before in let h = t .before in (search needs, search needs, listed-unused _ _ _ _ _ (h .before .before .pre .0) (t .loop-test .taken) (λ j m. omega (arith, h .before .shared-slice-known .given j)) (t1 .word-of .ensures) (t2 .word-of2 .ensures) _ _ _ (h .loop .inv .2) (c .if1 .taken))
+loop-again c = let w = c .before in let t = w .before .before .before .before in let h = t .before in (search needs, search needs, listed-unused _ _ _ _ _ _ _ (h .before .before .pre .0) (t .loop-test .taken) (λ j m. omega (arith, h .before .shared-slice-known .given j)) (w .before .before .before .quarter-of .ensures) (w .before .before .quarter-of2 .ensures) (w .before .quarter-of3 .ensures) (w .quarter-of4 .ensures) _ _ _ (h .loop .inv .2) (c .if1 .taken))
 
-good-words-requires : tie.Need-good-words-requires Inv-loop μ-loop
-good-words-requires c κs = search needs
+good-quarters-requires : tie.Need-good-quarters-requires Inv-loop μ-loop
+good-quarters-requires c κs = (search (fitted-disk, needs), c .before .before .quarter-of3 .ensures .below)
 
 returns : tie.Need-returns Inv-loop μ-loop
-returns c = let t2 = c .before .before .before in let t1 = t2 .before in let t = t1 .before in let h = t .before in listed-bad _ _ _ _ _ (h .before .before .pre .0) (t .loop-test .taken) (λ j m. omega (arith, h .before .shared-slice-known .given j)) (t1 .word-of .ensures) (t2 .word-of2 .ensures) _ _ _ (c .before .good-words .ensures) (c .if2 .taken)
+returns c = let w = c .before .before .before in let t = w .before .before .before .before in let h = t .before in listed-bad _ _ _ _ _ _ _ (h .before .before .pre .0) (t .loop-test .taken) (λ j m. omega (arith, h .before .shared-slice-known .given j)) (w .before .before .before .quarter-of .ensures) (w .before .before .quarter-of2 .ensures) (w .before .quarter-of3 .ensures) (w .quarter-of4 .ensures) _ _ _ (c .before .good-quarters .ensures) (c .if2 .taken)
 
 cast-ids : tie.Need-cast-ids Inv-loop μ-loop
-cast-ids c = let t2 = c .before .before .before in let t1 = t2 .before in let t = t1 .before in let h = t .before in let b = number-small _ _ _ _ _ (h .before .before .pre .0) (t .loop-test .taken) (λ j m. omega (arith, h .before .shared-slice-known .given j)) (t1 .word-of .ensures) (t2 .word-of2 .ensures) _ (c .before .good-words .ensures) (c .if2 .left) in omega arith
+cast-ids c = search needs
 
 mul-ids-2 : tie.Need-mul-ids-2 Inv-loop μ-loop
 mul-ids-2 c = search needs
@@ -71,10 +77,10 @@ loop-less-2 : tie.Need-loop-less-2 Inv-loop μ-loop
 loop-less-2 c = search needs
 
 loop-again-2 : tie.Need-loop-again-2 Inv-loop μ-loop
-loop-again-2 c = let t2 = c .before .before .before in let t1 = t2 .before in let t = t1 .before in let h = t .before in (search needs, search needs, listed-used _ _ _ _ _ (h .before .before .pre .0) (t .loop-test .taken) (λ j m. omega (arith, h .before .shared-slice-known .given j)) (t1 .word-of .ensures) (t2 .word-of2 .ensures) _ (c .before .good-words .ensures) (c .if2 .left) _ _ _ (h .loop .inv .2) (c .before .before .if1 .left))
+loop-again-2 c = let w = c .before .before .before in let t = w .before .before .before .before in let h = t .before in (search needs, search needs, listed-used _ _ _ _ _ _ _ (h .before .before .pre .0) (t .loop-test .taken) (λ j m. omega (arith, h .before .shared-slice-known .given j)) (w .before .before .before .quarter-of .ensures) (w .before .before .quarter-of2 .ensures) (w .before .quarter-of3 .ensures) (w .quarter-of4 .ensures) _ _ _ _ (h .loop .inv .2) (c .before .before .if1 .left) (c .before .good-quarters .ensures) (c .if2 .left))
 
 returns-2 : tie.Need-returns-2 Inv-loop μ-loop
 returns-2 c = search (listed-end, needs)
 
 pub decode-spec : {M : Type 1} → statement M
-decode-spec = tie.close (tie.spec Inv-loop μ-loop loop-holds word-of-requires word-of-requires-2 add-i mul-ids element-write-ids mul-currents element-write-currents loop-less loop-again good-words-requires returns cast-ids mul-ids-2 element-write-ids-2 cast-currents mul-currents-2 element-write-currents-2 loop-less-2 loop-again-2 returns-2)
+decode-spec = tie.close (tie.spec Inv-loop μ-loop loop-holds quarter-of-requires quarter-of-requires-2 quarter-of-requires-3 quarter-of-requires-4 add-i mul-ids element-write-ids mul-currents element-write-currents loop-less loop-again good-quarters-requires returns cast-ids mul-ids-2 element-write-ids-2 cast-currents mul-currents-2 element-write-currents-2 loop-less-2 loop-again-2 returns-2)

@@ -1,11 +1,11 @@
--- `word_of` answers the word, whose eight bytes lie on the card.
+-- `quarter_of` answers the four bytes, which lie on the card.
 use denote.Ref.{now}
 use Rattle.ring.proofs.Laws.{room}
 use Rattle.protocol.specs.Layout.{entryPlace}
 use borrow.Author.Needs.{needs}
 use native.Mathlib.Omega.{arith}
-use Rattle.checks.proofs.word_of.Statement.{statement}
-use Rattle.checks.proofs.word_of.Tie as tie
+use Rattle.checks.proofs.quarter_of.Statement.{statement}
+use Rattle.checks.proofs.quarter_of.Tie as tie
 
 mul-at : tie.Need-mul-at
 mul-at c = let s = c .before .before in let k = room (s .args .g) (now (s .args .card)) (s .pre .0) in omega arith
@@ -27,7 +27,7 @@ get-requires c κs = let s = c .before .before in let k = room (s .args .g) (now
 
 returns : tie.Need-returns
 unfolding entryPlace
-returns c = search needs
+returns c = record { value = search needs; below = search needs }
 
-pub word-of-spec : {M : Type 1} → statement M
-word-of-spec = tie.close (tie.spec mul-at add-at mul-at-2 add-at-2 add-get get-requires returns)
+pub quarter-of-spec : {M : Type 1} → statement M
+quarter-of-spec = tie.close (tie.spec mul-at add-at mul-at-2 add-at-2 add-get get-requires returns)
