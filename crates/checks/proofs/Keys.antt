@@ -1,23 +1,22 @@
 -- Check 6 is a search for equal keys: entries are apart exactly where numbers, current blocks and settled blocks are each distinct, so
 -- the three are checked apart. On a settled card the settled blocks are the current ones. Assumes nothing.
-use Prim.Native.Nat.{ℕ, _+_, _≤_, _<_}
+use Prim.Native.Nat.{ℕ, _≤_, _<_}
 use mathlib.Core.List.{List}
-use mathlib.Core.Bool.{Bool, true, false, cond, not, _&&_, _||_}
-use mathlib.Core.Logic.{_⊎_, inl, inr, ⊎-elim}
+use mathlib.Core.Bool.{Bool, true, false, _&&_}
+use mathlib.Core.Logic.{_⊎_, inl, ⊎-elim}
 use mathlib.Core.Path.{_≡_, refl, sym, ap, _∙_, subst}
 use native.Mathlib.Omega.{arith}
-use lib.ListN.{length, getD, set}
 use lib.Dec.{eqb, ltb}
-use borrow.Author.Tests.{lt-ltb, le-ltb, le-leb, ltb-true, ltb-false, eq-eqb, ne-eqb, eqb-true, not-true, not-false}
+use borrow.Author.Tests.{lt-ltb, le-leb, ltb-true, eq-eqb, ne-eqb, eqb-true, not-true}
 use Rattle.protocol.specs.declared.Geometry.{Geometry}
-use Rattle.protocol.specs.Below.{allBelow, anyBelow}
+use Rattle.protocol.specs.Below.{anyBelow}
 use Rattle.protocol.specs.Layout.{goodGeometry}
 use Rattle.protocol.specs.Entry.{FRESH, entryAt, hasLogRole}
 use Rattle.protocol.specs.Ring.{headOf, tailOf, windowLength, windowOf, windowHas, inWindow, usedAt, undoableAt, settledBlock, roleFreeAt, isSettled}
 use Rattle.protocol.specs.Check.{goodEntryAt, entriesFit, alike, apart, apartBefore, entriesApart}
-use Rattle.protocol.proofs.Below.{absurd-bool, either, and-left, and-right, and-both, and-fails, or-left, or-right, or-false, all-at, all-of, any-found, any-none, any-at, any-witness}
+use Rattle.protocol.proofs.Below.{absurd-bool, either, and-left, and-right, and-both, and-fails, or-right, all-at, all-of, any-found, any-none}
 use Rattle.protocol.proofs.Checks.{Limits, limits, Allowed, allowed}
-use Rattle.checks.specs.Keys.{NONE, key, numberKey, currentKey, settledKey, keyed, lone, distinct, keyAt, Lists}
+use Rattle.checks.specs.Keys.{NONE, key, numberKey, currentKey, settledKey, keyed, lone, distinct}
 
 -- two tests that hold together are one
 pub bool-same : (a b : Bool) → (a ≡ true → b ≡ true) → (b ≡ true → a ≡ true) → a ≡ b

@@ -8,7 +8,7 @@ add-held : tie.Need-add-held
 add-held c = search needs
 
 returns : tie.Need-returns
-returns c = search (good-quarters, needs)
+returns c = let a = c .args in good-quarters (a .n) (a .d) (a .x) (a .l) (a .p) (a .q) (c .pre .0) (c .pre .1)
 
 pub good-quarters-spec : {M : Type 1} → statement M
 good-quarters-spec = tie.close (tie.spec add-held returns)
