@@ -1,18 +1,15 @@
 -- Laws of the definitions by indices below a count: what a turn of a loop adds, what a loop that ended has shown, and what holds at one index.
 -- Assumes nothing.
 use Prim.Native.Nat.{ℕ, zero, suc, _+_, _-_, _≤_, _<_}
-use mathlib.Core.List.{List, [], _∷_, _++_, append-nil}
 use mathlib.Core.Bool.{Bool, true, false, cond, _&&_, _||_}
-use mathlib.Core.Path.{_≡_, refl, sym, ap, subst, _∙_}
+use mathlib.Core.Path.{_≡_, refl, sym, subst}
 use mathlib.Core.Logic.{_⊎_, inl, inr, ⊎-elim}
 use native.Mathlib.Nat.{eq-or-lt-of-le, le-of-suc-le-suc, not-suc-le-zero}
 use native.Mathlib.Numerals.{add-one}
 use native.Mathlib.Omega.{arith}
-use lib.ListN.{length, getD, length-append, List·getD-append}
-use lib.Seq.{getD-append-add, getD-append-seam}
 use lib.Dec.{ltb, eqb}
 use borrow.Author.Tests.{ltb-true, ltb-false, lt-ltb, le-ltb, eqb-true, eqb-false}
-use Rattle.protocol.specs.Below.{allBelow, anyBelow, countBelow, firstBelow, eachBelow, keep, around, walked}
+use Rattle.protocol.specs.Below.{allBelow, anyBelow, countBelow, firstBelow, around}
 
 -- ---- tests
 
@@ -138,6 +135,11 @@ any-miss p i e = rw (add-one, e) (or-none (anyBelow p i))
 pub any-done : (p : ℕ → Bool) (n i : ℕ) → anyBelow p i ≡ false → n ≤ i → i ≤ n → anyBelow p n ≡ false
 any-done p n i h a b = let e : i ≡ n = omega arith in rw e at h
 
+pub any-cong : (p q : ℕ → Bool) (n : ℕ) → ((i : ℕ) → i < n → p i ≡ q i) → anyBelow p n ≡ anyBelow q n
+unfolding anyBelow
+any-cong p q zero f = refl
+any-cong p q (suc n) f = λ t. any-cong p q n (λ i l. f i (omega arith)) t || f n (omega arith) t
+
 -- ---- how many
 
 pub count-hit : (p : ℕ → Bool) (i : ℕ) → p i ≡ true → countBelow p (i + 1) ≡ countBelow p i + 1
@@ -239,3 +241,41 @@ first-missed p n i h l = go (firstBelow p n) h (first-is p n)
     go : (f : ℕ) → n ≤ f → First p n f → p i ≡ false
     go f k (found m x y) = absurd (omega arith)
     go f k (missing q y) = y i l
+
+-- ---- rings
+
+pub around-below : (n at j : ℕ) → at < n → j ≤ n → around n at j < n
+unfolding around
+around-below n at j h l =
+    ⊎-elim
+    (λ k. rw (lt-ltb (at + j) n k) k)
+    (λ k. rw (le-ltb (at + j) n k) (omega arith))
+    (below-or-above (at + j) n)
+
+-- two places of one walk round the ring differ
+pub around-apart : (n at i j : ℕ) → at < n → i < n → j < n → around n at i ≡ around n at j → i ≡ j
+unfolding around
+around-apart n at i j h li lj e = go (ltb (at + i) n) (ltb (at + j) n) refl refl e
+  where
+    go : (a b : Bool) → ltb (at + i) n ≡ a → ltb (at + j) n ≡ b → cond a (at + i) (at + i - n) ≡ cond b (at + j) (at + j - n) → i ≡ j
+    go true true p q r = omega arith
+    go true false p q r = omega (arith, ltb-true (at + i) n p, ltb-false (at + j) n q)
+    go false true p q r = omega (arith, ltb-false (at + i) n p, ltb-true (at + j) n q)
+    go false false p q r = omega (arith, ltb-false (at + i) n p, ltb-false (at + j) n q)
+
+-- one more place forward
+pub around-next : (n at j : ℕ) → at < n → j + 1 ≤ n → around n (around n at j) 1 ≡ around n at (j + 1)
+unfolding around
+around-next n at j h l = go (ltb (at + j) n) refl
+  where
+    go : (b : Bool) → ltb (at + j) n ≡ b
+        → cond (ltb (cond b (at + j) (at + j - n) + 1) n) (cond b (at + j) (at + j - n) + 1) (cond b (at + j) (at + j - n) + 1 - n)
+        ≡ cond (ltb (at + (j + 1)) n) (at + (j + 1)) (at + (j + 1) - n)
+    go true e =
+        let s : at + j + 1 ≡ at + (j + 1) = omega arith in
+        rw s
+    go false e =
+        let f : n ≤ at + j = ltb-false (at + j) n e in
+        let p : at + j - n + 1 < n = omega arith in
+        let q : n ≤ at + (j + 1) = omega arith in
+        rw (lt-ltb (at + j - n + 1) n p, le-ltb (at + (j + 1)) n q) (omega arith)

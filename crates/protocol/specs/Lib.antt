@@ -12,3 +12,6 @@ pub mod Load
 pub mod Recover
 pub mod Read
 pub mod Table
+pub mod History
+pub mod CutRule
+pub mod Example

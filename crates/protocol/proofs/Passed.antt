@@ -1,0 +1,97 @@
+-- What a call that is not refused has passed: a sum of refusals that is 0 has no refusal in it. Assumes nothing.
+use Prim.Native.Nat.{ℕ, zero, suc, _<_}
+use mathlib.Core.List.{List}
+use lib.ListN.{length}
+use mathlib.Core.Bool.{Bool, true, false, not}
+use mathlib.Core.Path.{_≡_, refl, sym, ap, _∙_}
+use native.Mathlib.Omega.{arith}
+use lib.Dec.{ltb}
+use borrow.Author.Tests.{ltb-true, not-true}
+use Rattle.protocol.specs.declared.Geometry.{Geometry}
+use Rattle.protocol.specs.Ring.{isSettled, cached}
+use Rattle.protocol.specs.Check.{refuse, _orElse_, fitRefusal, cardRefusal}
+use Rattle.protocol.specs.Commit.{countFits, dataFits, numbersFit, numbersApart, roomFor, saveRefusal, commitRefusal}
+use Rattle.protocol.specs.Load.{pairRefusal, blockRefusal, loadRefusal, evictRefusal}
+use Rattle.protocol.proofs.Holds.{geometry-is, card-refuses, pair-refuses}
+use Rattle.protocol.proofs.Shape.{Inv}
+
+pub first-zero : (r s : ℕ) → r orElse s ≡ 0 → r ≡ 0
+unfolding _orElse_
+first-zero zero s e = refl
+first-zero (suc r) s e = absurd (omega arith)
+
+pub second-zero : (r s : ℕ) → r orElse s ≡ 0 → s ≡ 0
+unfolding _orElse_
+second-zero zero s e = e
+second-zero (suc r) s e = absurd (omega arith)
+
+pub passed : (r : ℕ) (b : Bool) → refuse (suc r) b ≡ 0 → b ≡ true
+unfolding refuse
+passed r true e = refl
+passed r false e = absurd (omega arith)
+
+pub record EvictPassed (g : Geometry) (c : List ℕ) (b : ℕ) : Type 0 where
+  pub settled : isSettled g c ≡ true
+  pub inDisk : b < g .disk
+  pub isCached : cached g c b ≡ true
+
+pub record LoadPassed (g : Geometry) (c : List ℕ) (b : ℕ) : Type 0 where
+  pub settled : isSettled g c ≡ true
+  pub inDisk : b < g .disk
+  pub notCached : cached g c b ≡ false
+  pub room : roomFor g c 1 ≡ true
+
+pub record CommitPassed (g : Geometry) (c ns bs : List ℕ) : Type 0 where
+  pub settled : isSettled g c ≡ true
+  pub counted : countFits g ns ≡ true
+  pub sized : dataFits g ns bs ≡ true
+  pub inDisk : numbersFit g ns ≡ true
+  pub once : numbersApart ns ≡ true
+  pub room : roomFor g c (length ns) ≡ true
+
+module _ {g : Geometry} {row : ℕ → List ℕ} {c d : List ℕ} (v : Inv g row c d) where
+  pub evict-passed : (b : ℕ) → evictRefusal c d b ≡ 0 → EvictPassed g c b
+  unfolding evictRefusal blockRefusal
+  evict-passed b z =
+      let e = ap (λ (y : Geometry). pairRefusal c d orElse refuse 10 (ltb b (y .disk)) orElse refuse 13 (cached y c b)) (sym (geometry-is v)) ∙ z in
+      let own = second-zero (pairRefusal c d) _ e in
+      record {
+        settled = passed 6 _ (sym (pair-refuses v) ∙ first-zero (pairRefusal c d) _ e);
+        inDisk = ltb-true _ _ (passed 9 _ (first-zero _ (refuse 13 (cached g c b)) own));
+        isCached = passed 12 _ (second-zero (refuse 10 (ltb b (g .disk))) _ own);
+      }
+
+  pub load-passed : (b : ℕ) → loadRefusal c d b ≡ 0 → LoadPassed g c b
+  unfolding loadRefusal blockRefusal
+  load-passed b z =
+      let e =
+      ap
+      (λ (y : Geometry). pairRefusal c d orElse refuse 10 (ltb b (y .disk)) orElse refuse 12 (not (cached y c b)) orElse refuse 14 (roomFor y c 1))
+      (sym (geometry-is v))
+      ∙ z in
+      let own = second-zero (pairRefusal c d) _ e in
+      let more = second-zero (refuse 10 (ltb b (g .disk))) _ own in
+      record {
+        settled = passed 6 _ (sym (pair-refuses v) ∙ first-zero (pairRefusal c d) _ e);
+        inDisk = ltb-true _ _ (passed 9 _ (first-zero (refuse 10 (ltb b (g .disk))) _ own));
+        notCached = not-true _ (passed 11 _ (first-zero (refuse 12 (not (cached g c b))) _ more));
+        room = passed 13 _ (second-zero (refuse 12 (not (cached g c b))) _ more);
+      }
+
+  pub commit-passed : (ns bs : List ℕ) → commitRefusal c ns bs ≡ 0 → CommitPassed g c ns bs
+  unfolding commitRefusal saveRefusal
+  commit-passed ns bs z =
+      let e = ap (λ (y : Geometry). fitRefusal c orElse cardRefusal y c orElse saveRefusal y c ns bs) (sym (geometry-is v)) ∙ z in
+      let card = second-zero (fitRefusal c) _ e in
+      let own = second-zero (cardRefusal g c) _ card in
+      let own₂ = second-zero (refuse 8 (countFits g ns)) _ own in
+      let own₃ = second-zero (refuse 9 (dataFits g ns bs)) _ own₂ in
+      let own₄ = second-zero (refuse 10 (numbersFit g ns)) _ own₃ in
+      record {
+        settled = passed 6 _ (sym (card-refuses v) ∙ first-zero (cardRefusal g c) _ card);
+        counted = passed 7 _ (first-zero (refuse 8 (countFits g ns)) _ own);
+        sized = passed 8 _ (first-zero (refuse 9 (dataFits g ns bs)) _ own₂);
+        inDisk = passed 9 _ (first-zero (refuse 10 (numbersFit g ns)) _ own₃);
+        once = passed 10 _ (first-zero (refuse 11 (numbersApart ns)) _ own₄);
+        room = passed 13 _ (second-zero (refuse 11 (numbersApart ns)) _ own₄);
+      }

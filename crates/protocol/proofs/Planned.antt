@@ -1,0 +1,95 @@
+-- What the searches give on a settled card that the invariant holds of: free data blocks that no entry names, unused entries, as many of
+-- these as of those. Assumes nothing.
+use Prim.Native.Nat.{ℕ, _≤_, _<_}
+use mathlib.Core.List.{List}
+use mathlib.Core.Bool.{true, false}
+use mathlib.Core.Option.{none, some}
+use mathlib.Core.Path.{_≡_, sym, ap, subst, _∙_}
+use mathlib.Core.Logic.{⊎-elim}
+use native.Mathlib.Nat.{mod-lt}
+use native.Mathlib.Omega.{arith}
+use lib.ListN.{length, getD}
+use borrow.Author.Tests.{eq-eqb, not-true}
+use Rattle.protocol.specs.declared.Geometry.{Geometry}
+use Rattle.protocol.specs.Entry.{entryAt}
+use Rattle.protocol.specs.Ring.{headOf, usedAt, isSettled}
+use Rattle.protocol.specs.Search.{takenBy, isFree, unusedAt, searchStart, freeBlocks, unusedEntries}
+use Rattle.protocol.specs.Commit.{newBlock}
+use Rattle.protocol.proofs.Below.{either, absurd-bool, any-at, and-both, around-below}
+use Rattle.protocol.proofs.Checks.{Limits, limits}
+use Rattle.protocol.proofs.Holds.{idle-kind, live-kind, used-current, no-undoable}
+use Rattle.protocol.proofs.Invariant.{kindCurrent, kindPrevious}
+use Rattle.protocol.proofs.Searches.{Found, walk-finds, walk-apart, unused-enough}
+use Rattle.protocol.proofs.Shape.{kindAt, Inv}
+
+-- a kind with a current block is that of an in-use entry with that block
+pub current-used : (g : Geometry) (c : List ℕ) (i q : ℕ) → kindCurrent (kindAt g c i) ≡ some q → (usedAt g c i ≡ true) × (entryAt g c i .current ≡ q)
+current-used g c i q e =
+    ⊎-elim
+    (λ u. let h = used-current g c i u in (u, cc))
+    (λ u. let h = ap kindCurrent (idle-kind g c i u) in let z : _≡_ {A = ℕ} 0 1 = cc in absurd (omega arith))
+    (either (usedAt g c i))
+
+module _ {g : Geometry} {row : ℕ → List ℕ} {c d : List ℕ} (v : Inv g row c d) where
+  start-below : searchStart g c < g .blocks
+  unfolding searchStart
+  start-below =
+      let f : Limits g = limits g (v .shape .good) in
+      mod-lt (headOf c) (omega arith)
+
+  free-found : (k : ℕ) → k < length (freeBlocks g c) → Found (isFree g c) (g .blocks) (searchStart g c) (g .blocks) (newBlock g c k)
+  unfolding freeBlocks newBlock
+  free-found k l = walk-finds (isFree g c) (g .blocks) (searchStart g c) (g .blocks) k l
+
+  pub new-below : (k : ℕ) → k < length (freeBlocks g c) → newBlock g c k < g .blocks
+  new-below k l =
+      let f = free-found k l in
+      subst (λ (z : ℕ). z < g .blocks) (sym (f .at)) (around-below (g .blocks) (searchStart g c) (f .step) start-below (omega (arith, f .before)))
+
+  -- no in-use entry has it as its current block
+  pub new-free : (k : ℕ) → k < length (freeBlocks g c) → (i : ℕ) → i < g .blocks → kindCurrent (kindAt g c i) ≡ some (newBlock g c k) → ⊥
+  unfolding isFree takenBy
+  new-free k l i m e =
+      let f = free-found k l in
+      let (u, q) = current-used g c i (newBlock g c k) e in
+      absurd-bool (and-both u (eq-eqb _ _ q)) (any-at (takenBy g c (newBlock g c k)) (g .blocks) i (not-true _ (f .has)) m)
+
+  pub new-apart : (k k′ : ℕ) → k < length (freeBlocks g c) → k′ < length (freeBlocks g c) → newBlock g c k ≡ newBlock g c k′ → k ≡ k′
+  unfolding freeBlocks newBlock
+  new-apart k k′ l l′ e = walk-apart (isFree g c) (g .blocks) (searchStart g c) (g .blocks) k k′ start-below (omega arith) l l′ e
+
+  unused-found : (k : ℕ) → k < length (unusedEntries g c)
+      → Found (unusedAt g c) (g .blocks) (searchStart g c) (g .blocks) (getD (unusedEntries g c) k 0)
+  unfolding unusedEntries
+  unused-found k l = walk-finds (unusedAt g c) (g .blocks) (searchStart g c) (g .blocks) k l
+
+  pub unused-below : (k : ℕ) → k < length (unusedEntries g c) → getD (unusedEntries g c) k 0 < g .blocks
+  unused-below k l =
+      let f = unused-found k l in
+      subst (λ (z : ℕ). z < g .blocks) (sym (f .at)) (around-below (g .blocks) (searchStart g c) (f .step) start-below (omega (arith, f .before)))
+
+  pub unused-is : (k : ℕ) → k < length (unusedEntries g c) → usedAt g c (getD (unusedEntries g c) k 0) ≡ false
+  unfolding unusedAt
+  unused-is k l = not-true _ (unused-found k l .has)
+
+  pub unused-apart : (k k′ : ℕ) → k < length (unusedEntries g c) → k′ < length (unusedEntries g c)
+      → getD (unusedEntries g c) k 0 ≡ getD (unusedEntries g c) k′ 0 → k ≡ k′
+  unfolding unusedEntries
+  unused-apart k k′ l l′ e = walk-apart (unusedAt g c) (g .blocks) (searchStart g c) (g .blocks) k k′ start-below (omega arith) l l′ e
+
+  -- "commit never lacks an entry"
+  pub enough-unused : length (freeBlocks g c) ≤ length (unusedEntries g c)
+  unfolding freeBlocks unusedEntries isFree takenBy unusedAt
+  enough-unused =
+      unused-enough (usedAt g c) (λ i. entryAt g c i .current) (g .blocks) (searchStart g c)
+      (λ i j l m ui uj e. v .safe .currents i j (entryAt g c i .current) l m (used-current g c i ui) (used-current g c j uj ∙ ap some (sym e)))
+      (λ i l u. v .safe .currentUnder i (entryAt g c i .current) l (used-current g c i u))
+      start-below
+
+  -- on a settled card no entry has a block to be undone to
+  pub no-previous : isSettled g c ≡ true → (i : ℕ) → i < g .blocks → kindPrevious (kindAt g c i) ≡ none
+  no-previous s i l =
+      ⊎-elim
+      (λ u. ap kindPrevious (live-kind g c i u (no-undoable v s i l)))
+      (λ u. ap kindPrevious (idle-kind g c i u))
+      (either (usedAt g c i))

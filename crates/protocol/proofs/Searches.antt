@@ -1,0 +1,260 @@
+-- The searches round the ring: what they find has the property, is below the ring's length, and is found once; and by counting, a card that
+-- passes check 6 has an unused entry for each free data block. Assumes nothing.
+use Prim.Native.Nat.{ℕ, zero, suc, _+_, _-_, _≤_, _<_}
+use mathlib.Core.List.{List, [], _∷_, _++_}
+use mathlib.Core.Bool.{Bool, true, false, cond, not, _&&_, _||_}
+use mathlib.Core.Path.{_≡_, refl, sym, ap, _∙_}
+use mathlib.Core.Logic.{_⊎_, inl, inr, ⊎-elim}
+use native.Mathlib.Nat.{add-zero, add-suc}
+use native.Mathlib.Omega.{arith}
+use lib.ListN.{length, getD, length-append, List·getD-append}
+use lib.Seq.{getD-append-add}
+use lib.Dec.{eqb}
+use borrow.Author.Tests.{eqb-true, eq-eqb, ne-eqb, lt-ltb, le-ltb}
+use Rattle.protocol.specs.Below.{anyBelow, countBelow, eachBelow, keep, around, walked}
+use Rattle.protocol.proofs.Below.{either, absurd-bool, below-or-above, last-or-before, around-apart, any-found, any-none, and-left, and-right, and-both}
+
+-- ---- what a walk finds
+
+at-end : (xs : List ℕ) (x k : ℕ) → length xs ≤ k → k < length xs + 1 → getD (xs ++ (x ∷ [])) k 0 ≡ x
+at-end xs x k a b =
+    let e : k ≡ length xs + 0 = omega arith in
+    ap (λ (z : ℕ). getD (xs ++ (x ∷ [])) z 0) e ∙ getD-append-add xs (x ∷ []) 0 0
+
+-- the k-th that was found stands at some step of the walk, and has p
+pub record Found (p : ℕ → Bool) (n start j x : ℕ) : Type 0 where
+  pub step : ℕ
+  pub before : step < j
+  pub at : x ≡ around n start step
+  pub has : p x ≡ true
+
+module _ (p : ℕ → Bool) (n start : ℕ) where
+  -- a walk of one step more: the same, or one more at the end
+  data Longer (j : ℕ) : Type 0 where
+    more : p (around n start j) ≡ true → walked p n start (suc j) ≡ walked p n start j ++ (around n start j ∷ []) → Longer j
+    same : p (around n start j) ≡ false → walked p n start (suc j) ≡ walked p n start j ++ [] → Longer j
+
+  longer : (j : ℕ) → Longer j
+  unfolding walked eachBelow keep
+  longer j = ⊎-elim (λ e. more e (rw e)) (λ e. same e (rw e)) (either (p (around n start j)))
+
+  pub walk-finds : (j k : ℕ) → k < length (walked p n start j) → Found p n start j (getD (walked p n start j) k 0)
+  unfolding walked eachBelow
+  walk-finds zero k l = absurd (omega arith)
+  walk-finds (suc j) k l = go (longer j) (λ m. walk-finds j k m)
+    where
+      old : (ys : List ℕ) → walked p n start (suc j) ≡ walked p n start j ++ ys → k < length (walked p n start j)
+          → Found p n start j (getD (walked p n start j) k 0) → Found p n start (suc j) (getD (walked p n start (suc j)) k 0)
+      old ys e m f =
+          let q : getD (walked p n start (suc j)) k 0 ≡ getD (walked p n start j) k 0 =
+          ap (λ (z : List ℕ). getD z k 0) e ∙ List·getD-append (walked p n start j) ys 0 k m in
+          record { step = f .step; before = omega (arith, f .before); at = q ∙ f .at; has = ap p q ∙ f .has }
+
+      go : Longer j → (k < length (walked p n start j) → Found p n start j (getD (walked p n start j) k 0))
+          → Found p n start (suc j) (getD (walked p n start (suc j)) k 0)
+      go (same h e) ih =
+          let m : k < length (walked p n start j) = omega (arith, ap length e, length-append (walked p n start j) []) in
+          old [] e m (ih m)
+      go (more h e) ih =
+          ⊎-elim
+          (λ m. old (around n start j ∷ []) e m (ih m))
+          (λ m.
+          let q : getD (walked p n start (suc j)) k 0 ≡ around n start j =
+          ap (λ (z : List ℕ). getD z k 0) e ∙ at-end (walked p n start j) (around n start j) k m
+          (omega (arith, ap length e, length-append (walked p n start j) (around n start j ∷ []))) in
+          record { step = j; before = omega arith; at = q; has = ap p q ∙ h })
+          (below-or-above k (length (walked p n start j)))
+
+  -- no two are the same
+  pub walk-apart : (j k k′ : ℕ) → start < n → j ≤ n → k < length (walked p n start j) → k′ < length (walked p n start j)
+      → getD (walked p n start j) k 0 ≡ getD (walked p n start j) k′ 0 → k ≡ k′
+  unfolding walked eachBelow
+  walk-apart zero k k′ s b l l′ e = absurd (omega arith)
+  walk-apart (suc j) k k′ s b l l′ e = go (longer j) (λ m m′. walk-apart j k k′ s (omega arith) m m′)
+    where
+      old : (ys : List ℕ) (i : ℕ) → walked p n start (suc j) ≡ walked p n start j ++ ys → i < length (walked p n start j)
+          → getD (walked p n start (suc j)) i 0 ≡ getD (walked p n start j) i 0
+      old ys i q m = ap (λ (z : List ℕ). getD z i 0) q ∙ List·getD-append (walked p n start j) ys 0 i m
+
+      -- one of the earlier steps is not the last one
+      never : (i : ℕ) → i < length (walked p n start j) → getD (walked p n start j) i 0 ≡ around n start j → ⊥
+      never i m q =
+          let f = walk-finds j i m in
+          let z : f .step ≡ j = around-apart n start (f .step) j s (omega (arith, f .before)) (omega arith) (sym (f .at) ∙ q) in
+          omega (arith, f .before)
+
+      go : Longer j
+          → (k < length (walked p n start j) → k′ < length (walked p n start j) → getD (walked p n start j) k 0 ≡ getD (walked p n start j) k′ 0 → k ≡ k′)
+          → k ≡ k′
+      go (same h q) ih =
+          let n0 = length-append (walked p n start j) [] in
+          let n1 = ap length q in
+          let m : k < length (walked p n start j) = omega arith in
+          let m′ : k′ < length (walked p n start j) = omega arith in
+          ih m m′ (sym (old [] k q m) ∙ e ∙ old [] k′ q m′)
+      go (more h q) ih = sides (below-or-above k (length (walked p n start j))) (below-or-above k′ (length (walked p n start j)))
+        where
+          x : ℕ
+          x = around n start j
+
+          long : length (walked p n start (suc j)) ≡ length (walked p n start j) + 1
+          long = ap length q ∙ length-append (walked p n start j) (x ∷ [])
+
+          last : (i : ℕ) → length (walked p n start j) ≤ i → i < length (walked p n start (suc j)) → getD (walked p n start (suc j)) i 0 ≡ x
+          last i m b = ap (λ (z : List ℕ). getD z i 0) q ∙ at-end (walked p n start j) x i m (omega (arith, long))
+
+          sides : (k < length (walked p n start j)) ⊎ (length (walked p n start j) ≤ k)
+              → (k′ < length (walked p n start j)) ⊎ (length (walked p n start j) ≤ k′) → k ≡ k′
+          sides (inl m) (inl m′) = ih m m′ (sym (old (x ∷ []) k q m) ∙ e ∙ old (x ∷ []) k′ q m′)
+          sides (inl m) (inr m′) = absurd (never k m (sym (old (x ∷ []) k q m) ∙ e ∙ last k′ m′ l′))
+          sides (inr m) (inl m′) = absurd (never k′ m′ (sym (old (x ∷ []) k′ q m′) ∙ sym e ∙ last k m l))
+          sides (inr m) (inr m′) = omega (arith, long)
+
+  length-walk : (j : ℕ) → length (walked p n start j) ≡ countBelow (λ i. p (around n start i)) j
+  unfolding walked eachBelow countBelow
+  length-walk zero = refl
+  length-walk (suc j) = go (longer j) (length-walk j)
+    where
+      go : Longer j → length (walked p n start j) ≡ countBelow (λ i. p (around n start i)) j
+          → length (walked p n start (suc j))
+          ≡ cond (p (around n start j)) (suc (countBelow (λ i. p (around n start i)) j)) (countBelow (λ i. p (around n start i)) j)
+      go (more h e) ih =
+          let m : length (walked p n start (suc j)) ≡ suc (countBelow (λ i. p (around n start i)) j) =
+          omega (arith, ap length e, length-append (walked p n start j) (around n start j ∷ [])) in
+          m ∙ sym (ap (λ (b : Bool). cond b (suc (countBelow (λ i. p (around n start i)) j)) (countBelow (λ i. p (around n start i)) j)) h)
+      go (same h e) ih =
+          let m : length (walked p n start (suc j)) ≡ countBelow (λ i. p (around n start i)) j =
+          omega (arith, ap length e, length-append (walked p n start j) []) in
+          m ∙ sym (ap (λ (b : Bool). cond b (suc (countBelow (λ i. p (around n start i)) j)) (countBelow (λ i. p (around n start i)) j)) h)
+
+-- ---- counting
+
+pub count-cong : (p q : ℕ → Bool) (n : ℕ) → ((i : ℕ) → i < n → p i ≡ q i) → countBelow p n ≡ countBelow q n
+unfolding countBelow
+count-cong p q zero f = refl
+count-cong p q (suc n) f =
+    let ih = count-cong p q n (λ i l. f i (omega arith)) in
+    λ t. cond (f n (omega arith) t) (suc (ih t)) (ih t)
+
+count-split : (p : ℕ → Bool) (a b : ℕ) → countBelow p (a + b) ≡ countBelow p a + countBelow (λ j. p (a + j)) b
+unfolding countBelow
+count-split p a zero = rw add-zero (omega arith)
+count-split p a (suc b) = rw add-suc (go (p (a + b)) (count-split p a b))
+  where
+    go : (t : Bool) → countBelow p (a + b) ≡ countBelow p a + countBelow (λ j. p (a + j)) b
+        → cond t (suc (countBelow p (a + b))) (countBelow p (a + b))
+        ≡ countBelow p a + cond t (suc (countBelow (λ j. p (a + j)) b)) (countBelow (λ j. p (a + j)) b)
+    go true h = omega arith
+    go false h = omega arith
+
+-- a walk all round meets each place once
+count-round : (p : ℕ → Bool) (n s : ℕ) → s < n → countBelow (λ i. p (around n s i)) n ≡ countBelow p n
+unfolding around
+count-round p n s l =
+    let m : n ≡ n - s + s = omega arith in
+    let m′ : s + (n - s) ≡ n = omega arith in
+    let up : countBelow (λ i. p (around n s i)) (n - s) ≡ countBelow (λ j. p (s + j)) (n - s) =
+    count-cong _ _ (n - s) (λ i h. ap p (forth i h)) in
+    let down : countBelow (λ j. p (around n s (n - s + j))) s ≡ countBelow p s = count-cong _ _ s (λ i h. ap p (back i h)) in
+    ap (countBelow (λ i. p (around n s i))) m
+    ∙ count-split (λ i. p (around n s i)) (n - s) s
+    ∙ (λ t. up t + down t)
+    ∙ omega (arith, count-split p s (n - s))
+    ∙ ap (countBelow p) m′
+  where
+    forth : (i : ℕ) → i < n - s → around n s i ≡ s + i
+    forth i h = let k : s + i < n = omega arith in rw (lt-ltb (s + i) n k)
+
+    back : (i : ℕ) → i < s → around n s (n - s + i) ≡ i
+    back i h = let k : n ≤ s + (n - s + i) = omega arith in rw (le-ltb (s + (n - s + i)) n k) (omega arith)
+
+-- one more has it
+count-grows : (p q : ℕ → Bool) (n k : ℕ) → k < n → p k ≡ false → q k ≡ true → ((i : ℕ) → i < n → (i ≡ k → ⊥) → q i ≡ p i)
+    → countBelow q n ≡ countBelow p n + 1
+unfolding countBelow
+count-grows p q zero k l a b f = absurd (omega arith)
+count-grows p q (suc n) k l a b f =
+    ⊎-elim
+    (λ e.
+    let same : countBelow q n ≡ countBelow p n = count-cong q p n (λ i m. f i (omega arith) (λ h. omega arith)) in
+    let pn : p n ≡ false = ap p (sym e) ∙ a in
+    let qn : q n ≡ true = ap q (sym e) ∙ b in
+    rw (pn, qn) (omega arith))
+    (λ m. step (p n) (q n) (f n (omega arith) (λ h. omega arith)) (count-grows p q n k m a b (λ i h g. f i (omega arith) g)))
+    (last-or-before k n l)
+  where
+    step : (x y : Bool) → y ≡ x → countBelow q n ≡ countBelow p n + 1
+        → cond y (suc (countBelow q n)) (countBelow q n) ≡ cond x (suc (countBelow p n)) (countBelow p n) + 1
+    step true true e h = omega arith
+    step true false e h = absurd-bool refl (sym e)
+    step false true e h = absurd-bool refl e
+    step false false e h = omega arith
+
+count-not : (p : ℕ → Bool) (n : ℕ) → countBelow p n + countBelow (λ i. not (p i)) n ≡ n
+unfolding countBelow
+count-not p zero = refl
+count-not p (suc n) = go (p n) (count-not p n)
+  where
+    go : (b : Bool) → countBelow p n + countBelow (λ i. not (p i)) n ≡ n
+        → cond b (suc (countBelow p n)) (countBelow p n) + cond (not b) (suc (countBelow (λ i. not (p i)) n)) (countBelow (λ i. not (p i)) n) ≡ suc n
+    go true h = omega arith
+    go false h = omega arith
+
+-- the block x is that of a used entry below m
+holds : (ℕ → Bool) → (ℕ → ℕ) → ℕ → ℕ → Bool
+holds used at m x = anyBelow (λ i. used i && eqb (at i) x) m
+
+-- used entries with blocks of their own hold as many blocks as they are
+held-count : (used : ℕ → Bool) (at : ℕ → ℕ) (n m : ℕ)
+    → ((i j : ℕ) → i < n → j < n → used i ≡ true → used j ≡ true → at i ≡ at j → i ≡ j)
+    → ((i : ℕ) → i < n → used i ≡ true → at i < n) → m ≤ n
+    → countBelow used m ≤ countBelow (holds used at m) n
+unfolding countBelow holds anyBelow
+held-count used at n zero inj low l = omega arith
+held-count used at n (suc m) inj low l = go (either (used m)) (held-count used at n m inj low (omega arith))
+  where
+    or-none : (b : Bool) → b || false ≡ b
+    or-none true = refl
+    or-none false = refl
+
+    go : (used m ≡ true) ⊎ (used m ≡ false) → countBelow used m ≤ countBelow (holds used at m) n
+        → cond (used m) (suc (countBelow used m)) (countBelow used m) ≤ countBelow (holds used at (suc m)) n
+    go (inl u) ih =
+        let grow : countBelow (holds used at (suc m)) n ≡ countBelow (holds used at m) n + 1 =
+        count-grows (holds used at m) (holds used at (suc m)) n (at m) (low m (omega arith) u) fresh now others in
+        rw u (omega arith)
+      where
+        fresh : holds used at m (at m) ≡ false
+        fresh = any-none (λ i. used i && eqb (at i) (at m)) m (λ i h. ⊎-elim
+            (λ e.
+            let same : i ≡ m =
+            inj i m (omega arith) (omega arith) (and-left (used i) (eqb (at i) (at m)) e) u (eqb-true _ _ (and-right (used i) (eqb (at i) (at m)) e)) in
+            absurd (omega arith))
+            (λ e. e)
+            (either (used i && eqb (at i) (at m))))
+
+        now : holds used at (suc m) (at m) ≡ true
+        now = any-found (λ i. used i && eqb (at i) (at m)) (suc m) m (omega arith) (and-both u (eq-eqb (at m) (at m) refl))
+
+        others : (x : ℕ) → x < n → (x ≡ at m → ⊥) → holds used at (suc m) x ≡ holds used at m x
+        others x h k =
+            ap (λ (b : Bool). holds used at m x || (used m && b)) (ne-eqb (at m) x (λ e. k (sym e)))
+            ∙ ap (λ (b : Bool). holds used at m x || (b && false)) u
+            ∙ or-none (holds used at m x)
+    go (inr u) ih =
+        let same : countBelow (holds used at (suc m)) n ≡ countBelow (holds used at m) n =
+        count-cong _ _ n (λ x h. ap (λ (b : Bool). holds used at m x || (b && eqb (at m) x)) u ∙ or-none (holds used at m x)) in
+        rw u (omega arith)
+
+-- as many unused entries as free blocks, or more; in the order of a walk too
+pub unused-enough : (used : ℕ → Bool) (at : ℕ → ℕ) (n s : ℕ)
+    → ((i j : ℕ) → i < n → j < n → used i ≡ true → used j ≡ true → at i ≡ at j → i ≡ j)
+    → ((i : ℕ) → i < n → used i ≡ true → at i < n) → s < n
+    → length (walked (λ x. not (anyBelow (λ i. used i && eqb (at i) x) n)) n s n) ≤ length (walked (λ i. not (used i)) n s n)
+unfolding holds
+unused-enough used at n s inj low l =
+    let free : ℕ → Bool = λ x. not (holds used at n x) in
+    let idle : ℕ → Bool = λ i. not (used i) in
+    let f : length (walked free n s n) ≡ countBelow free n = length-walk free n s n ∙ count-round free n s l in
+    let u : length (walked idle n s n) ≡ countBelow idle n = length-walk idle n s n ∙ count-round idle n s l in
+    omega (arith, f, u, count-not (holds used at n) n, count-not used n, held-count used at n n inj low (omega arith))

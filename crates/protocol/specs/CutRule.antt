@@ -1,0 +1,73 @@
+-- Document 01, "The cut rule" (demand 3), and the plain row of demand 2: what is claimed of every list of calls.
+use Prim.Native.Nat.{ℕ, _<_}
+use mathlib.Core.List.{List, [], _∷_, _++_}
+use mathlib.Core.Bool.{true}
+use mathlib.Core.Path.{_≡_}
+use lib.ListN.{length}
+use lib.Dec.{eqb, ltb}
+use Rattle.protocol.specs.declared.Answer.{Answer}
+use Rattle.protocol.specs.declared.Answer.the-variants.{Done, Cut}
+use Rattle.protocol.specs.declared.Outcome.the-variants.{Done as FormatDone}
+use Rattle.protocol.specs.declared.Geometry.{Geometry}
+use Rattle.protocol.specs.Layout.{blockSize, diskBlock, diskLength}
+use Rattle.protocol.specs.Ring.{isSettled, contents}
+use Rattle.protocol.specs.Check.{refuse, _orElse_}
+use Rattle.protocol.specs.Format.{outcomeOf, formatRefusal}
+use Rattle.protocol.specs.Recover.{recoverRefusal}
+use Rattle.protocol.specs.Read.{readRefusal, outputAfter, lookRefusal, lookedAt}
+use Rattle.protocol.specs.History.{Request, recover, Media, answerTo, run, answers, fresh, Row, rowAfter}
+
+-- the media that a list of calls leaves, from a fresh card c over the disk d
+unfoldable pub left : Geometry → List ℕ → List ℕ → List Request → Media
+left g c d rs = run rs (fresh g c d)
+
+-- "The row is D blocks, at first those of the disk. It is then fed each call's other arguments and its answer"
+unfoldable pub rowLeft : Geometry → List ℕ → List ℕ → List Request → Row
+rowLeft g c d rs = rowAfter g rs (answers rs (fresh g c d)) (diskBlock g d)
+
+-- a recovery under the allowance a
+abbrev pub recovering : ℕ → Request
+recovering a = record { call = recover; allowance = a }
+
+-- what the cut rule says of one list of calls
+pub record Sound (g : Geometry) (c d : List ℕ) (rs : List Request) : Type 0 where
+  -- "recover isn't refused with any of 1 to 6"
+  pub recovers : recoverRefusal (left g c d rs .onCard) ≡ 0
+  -- "if the last call is a recover that answered done, the card is settled"
+  pub settles : (before : List Request) (a n : ℕ) → rs ≡ before ++ (recovering a ∷ []) → answerTo (recovering a) (left g c d before) ≡ Done n
+      → isSettled g (left g c d rs .onCard) ≡ true
+  -- "whenever the card is settled, the contents of each disk block b are, byte for byte, block b of the row"
+  pub holds : isSettled g (left g c d rs .onCard) ≡ true → (b : ℕ) → b < g .disk
+      → contents g (left g c d rs .onCard) (left g c d rs .onDisk) b ≡ rowLeft g c d rs b
+  -- "Read and look hand out exactly these bytes"
+  pub reads : isSettled g (left g c d rs .onCard) ≡ true → (out : List ℕ) (b : ℕ) → length out ≡ blockSize g → b < g .disk
+      → outputAfter (left g c d rs .onCard) (left g c d rs .onDisk) out b ≡ rowLeft g c d rs b
+  pub looks : isSettled g (left g c d rs .onCard) ≡ true → (b : ℕ) → b < g .disk
+      → lookedAt (left g c d rs .onCard) (left g c d rs .onDisk) b ≡ rowLeft g c d rs b
+  -- "refused only as their own checks say": 7 on a card that is not settled, 9 and 10
+  pub readRefuses : (out : List ℕ) (b : ℕ) → readRefusal (left g c d rs .onCard) (left g c d rs .onDisk) out b
+      ≡ refuse 7 (isSettled g (left g c d rs .onCard)) orElse refuse 9 (eqb (length out) (blockSize g)) orElse refuse 10 (ltb b (g .disk))
+  pub lookRefuses : (b : ℕ) → lookRefusal (left g c d rs .onCard) (left g c d rs .onDisk) b
+      ≡ refuse 7 (isSettled g (left g c d rs .onCard)) orElse refuse 10 (ltb b (g .disk))
+
+-- demand 3: "The list starts from a card that format answered with done, whatever its data blocks hold, and any disk of D·B bytes";
+-- "After every such list, an empty one too"
+abbrev pub CutRule : Type 0
+CutRule = (g : Geometry) (c d : List ℕ) (rs : List Request)
+    → outcomeOf (formatRefusal g c) ≡ FormatDone
+    → length d ≡ diskLength g
+    → Sound g c d rs
+
+-- no call of the list is cut
+abbrev pub Uncut : List Answer → Type 0
+Uncut [] = Unit
+Uncut (a ∷ ans) = (a ≡ Cut → ⊥) × Uncut ans
+
+-- demand 2: without cuts the card is settled after every call and reads as one plain row, in which a commit replaces its blocks at once
+abbrev pub PlainRow : Type 0
+PlainRow = (g : Geometry) (c d : List ℕ) (rs : List Request)
+    → outcomeOf (formatRefusal g c) ≡ FormatDone
+    → length d ≡ diskLength g
+    → Uncut (answers rs (fresh g c d))
+    → (isSettled g (left g c d rs .onCard) ≡ true)
+    × ((b : ℕ) → b < g .disk → contents g (left g c d rs .onCard) (left g c d rs .onDisk) b ≡ rowLeft g c d rs b)

@@ -1,0 +1,90 @@
+-- Document 01, "The cut rule": lists of calls, what they leave on card and disk, what they answer, and the row.
+use Prim.Native.Nat.{ℕ}
+use mathlib.Core.List.{List, [], _∷_}
+use mathlib.Core.Bool.{cond}
+use lib.ListN.{length}
+use lib.Dec.{eqb, ltb}
+use Rattle.protocol.specs.declared.Answer.{Answer}
+use Rattle.protocol.specs.declared.Answer.the-variants.{Done, Cut, Refused}
+use Rattle.protocol.specs.declared.Geometry.{Geometry}
+use Rattle.protocol.specs.Below.{firstBelow}
+use Rattle.protocol.specs.Store.{card, disk, Work, answerOf, afterOn}
+use Rattle.protocol.specs.Format.{afterFormat}
+use Rattle.protocol.specs.Commit.{numberOf, dataOf, commitWork}
+use Rattle.protocol.specs.Load.{loadWork, evictWork}
+use Rattle.protocol.specs.Recover.{recoverWork}
+
+-- "In it stand commit, load, evict and recover": a storing call with all its arguments but the allowance
+pub data Call : Type 0 where
+  commit : List ℕ → List ℕ → Call
+  load : ℕ → Call
+  evict : ℕ → Call
+  recover : Call
+
+-- a call and "The allowance says where power fails"
+pub record Request : Type 0 where
+  pub call : Call
+  pub allowance : ℕ
+
+-- the card and the disk
+pub record Media : Type 0 where
+  pub onCard : List ℕ
+  pub onDisk : List ℕ
+
+-- the call's refusal and runs of stores, from the media that it meets
+unfoldable pub workOf : Call → Media → Work
+workOf (commit ns bs) m = commitWork (m .onCard) ns bs
+workOf (load b) m = loadWork (m .onCard) (m .onDisk) b
+workOf (evict b) m = evictWork (m .onCard) (m .onDisk) b
+workOf recover m = recoverWork (m .onCard)
+
+unfoldable pub answerTo : Request → Media → Answer
+answerTo r m = answerOf (r .allowance) (workOf (r .call) m)
+
+unfoldable pub after : Request → Media → Media
+after r m =
+    record {
+      onCard = afterOn card (r .allowance) (workOf (r .call) m) (m .onCard);
+      onDisk = afterOn disk (r .allowance) (workOf (r .call) m) (m .onDisk);
+    }
+
+-- "Each gets the card and disk as the call before left them"
+unfoldable pub run : List Request → Media → Media
+run [] m = m
+run (r ∷ rs) m = run rs (after r m)
+
+-- what the calls answer, in order
+unfoldable pub answers : List Request → Media → List Answer
+answers [] m = []
+answers (r ∷ rs) m = answerTo r m ∷ answers rs (after r m)
+
+-- "a card that format answered with done, whatever its data blocks hold, and any disk"
+unfoldable pub fresh : Geometry → List ℕ → List ℕ → Media
+fresh g c d = record { onCard = afterFormat g c; onDisk = d }
+
+-- document 01's *row*: what stands for each disk block
+abbrev pub Row : Type 0
+Row = ℕ → List ℕ
+
+-- the place of b among the numbers, or their count where it is none of them
+unfoldable pub placeAmong : List ℕ → ℕ → ℕ
+placeAmong ns b = firstBelow (λ i. eqb (numberOf ns i) b) (length ns)
+
+-- "puts the bytes given for each of its numbers in place of that block, and leaves the others"
+unfoldable pub replaced : Geometry → List ℕ → List ℕ → Row → Row
+replaced g ns bs row b = cond (ltb (placeAmong ns b) (length ns)) (dataOf g bs (placeAmong ns b)) (row b)
+
+-- "a commit that answers done" replaces its blocks; "A cut or refused commit leaves the row as it is; so does every load, evict and recover"
+unfoldable pub rowStep : Geometry → Call → Answer → Row → Row
+rowStep g (commit ns bs) (Done m) row = replaced g ns bs row
+rowStep g (commit ns bs) Cut row = row
+rowStep g (commit ns bs) (Refused r) row = row
+rowStep g (load b) a row = row
+rowStep g (evict b) a row = row
+rowStep g recover a row = row
+
+-- the row after the calls, from their arguments and answers alone
+unfoldable pub rowAfter : Geometry → List Request → List Answer → Row → Row
+rowAfter g [] ans row = row
+rowAfter g (r ∷ rs) [] row = row
+rowAfter g (r ∷ rs) (a ∷ ans) row = rowAfter g rs ans (rowStep g (r .call) a row)
