@@ -1,5 +1,5 @@
 -- The pass over the entries: after i of them, check 5 allows each, and their keys are listed. Assumes nothing.
-use Prim.Native.Nat.{ℕ, _+_, _≤_, _<_}
+use Prim.Native.Nat.{ℕ, _+_, _^_, _≤_, _<_}
 use mathlib.Core.List.{List}
 use mathlib.Core.Bool.{Bool, true, false, not, _&&_}
 use mathlib.Core.Logic.{⊎-elim}
@@ -78,24 +78,33 @@ and-true : (b : Bool) → b && true ≡ b
 and-true true = refl
 and-true false = refl
 
--- entry i by its four quarters
-module _ (g : Geometry) (c : List ℕ) (i x l p q : ℕ) (f : Fitted g c) (b : i < g .blocks) (bytes : Bytes c)
-    (x-is : Quarter g c i 0 x) (l-is : Quarter g c i 4 l) (p-is : Quarter g c i 8 p) (q-is : Quarter g c i 12 q) where
+-- entry i of a card that fits, read as four quarters
+pub record Split (g : Geometry) (c : List ℕ) (i x l p q : ℕ) : Type 0 where
+  pub fitted : Fitted g c
+  pub below : i < g .blocks
+  pub bytes : Bytes c
+  pub first : Quarter g c i 0 x
+  pub second : Quarter g c i 4 l
+  pub third : Quarter g c i 8 p
+  pub fourth : Quarter g c i 12 q
+
+module _ {g : Geometry} {c : List ℕ} {i x l p q : ℕ} (s : Split g c i x l p q) where
   quarters-entry : quartersEntry x l p q ≡ entryAt g c i
   unfolding quartersEntry entryAt entryPlace
   quarters-entry =
-      let k : Room g c = room g c f in
+      let k : Room g c = room g c (s .fitted) in
+      let b : i < g .blocks = s .below in
       let at : ℕ = entryPlace g i in
-      let x′ : x ≡ numberAt c at 4 = x-is .value ∙ ap (λ (v : ℕ). numberAt c v 4) (add-zero at) in
-      (λ t. quartersEntry (x′ t) (l-is .value t) (p-is .value t) (q-is .value t)) ∙ sym (entry-quarters c at bytes (omega arith))
+      let x′ : x ≡ numberAt c at 4 = s .first .value ∙ ap (λ (v : ℕ). numberAt c v 4) (add-zero at) in
+      (λ t. quartersEntry (x′ t) (s .second .value t) (s .third .value t) (s .fourth .value t)) ∙ sym (entry-quarters c at (s .bytes) (omega arith))
 
   small : i < 128
-  small = let k : Room g c = room g c f in omega arith
+  small = let k : Room g c = room g c (s .fitted) in let b : i < g .blocks = s .below in omega arith
 
-  pub listed-unused : (quiet : Bool) (ns cs : List ℕ) → Listed g c i quiet ns cs → zeroQuarters x l p q ≡ true
+  pub listed-unused : {quiet : Bool} {ns cs : List ℕ} → Listed g c i quiet ns cs → zeroQuarters x l p q ≡ true
       → Listed g c (i + 1) quiet (set ns i NONE) (set cs i NONE)
   unfolding goodEntryAt goodEntry isUnused roleFreeAt hasLogRole numberKey currentKey usedAt inUse key
-  listed-unused quiet ns cs h e =
+  listed-unused {quiet} {ns} {cs} h e =
       let z : entryAt g c i ≡ unused = sym quarters-entry ∙ quarters-unused x l p q e in
       subst (λ (v : Bool). Listed g c (i + 1) v (set ns i NONE) (set cs i NONE)) (and-true quiet)
       (listed-step g c i quiet true ns cs NONE NONE small h
@@ -104,32 +113,33 @@ module _ (g : Geometry) (c : List ℕ) (i x l p q : ℕ) (f : Fitted g c) (b : i
       (sym (ap (λ (e : Entry). key (inUse e) (e .number)) z))
       (sym (ap (λ (e : Entry). key (inUse e) (e .current)) z)))
 
-  pub listed-bad : (ns cs : List ℕ) (ok : Bool) → ok ≡ goodEntry (g .blocks) (g .disk) (quartersEntry x l p q) → not ok ≡ true
+  pub listed-bad : (ns cs : List ℕ) {ok : Bool} → ok ≡ goodEntry (g .blocks) (g .disk) (quartersEntry x l p q) → not ok ≡ true
       → Decoded g c ns cs (record { fits = false; quiet = false })
   unfolding entriesFit goodEntryAt
-  listed-bad ns cs ok r o = record {
+  listed-bad ns cs {ok} r o = record {
     fits =
-        sym (all-fails (goodEntryAt g c) (g .blocks) i b (ap (goodEntry (g .blocks) (g .disk)) (sym quarters-entry) ∙ sym r ∙ not-true ok o));
+        sym (all-fails (goodEntryAt g c) (g .blocks) i (s .below) (ap (goodEntry (g .blocks) (g .disk)) (sym quarters-entry) ∙ sym r ∙ not-true ok o));
     quiet = λ h. absurd-bool h refl;
     numbers = λ h. absurd-bool h refl;
     currents = λ h. absurd-bool h refl;
   }
 
-  pub listed-used : (quiet : Bool) (ns cs : List ℕ) (ok : Bool) → Listed g c i quiet ns cs → zeroQuarters x l p q ≡ false
+  pub listed-used : {quiet : Bool} {ns cs : List ℕ} {ok : Bool} → Listed g c i quiet ns cs → zeroQuarters x l p q ≡ false
       → ok ≡ goodEntry (g .blocks) (g .disk) (quartersEntry x l p q) → not ok ≡ false
       → Listed g c (i + 1) (quiet && not (eqb x 0x83000000)) (set ns i l) (set cs i q)
   unfolding goodEntryAt roleFreeAt numberKey currentKey usedAt quartersEntry
-  listed-used quiet ns cs ok h z r o =
-      let k : Room g c = room g c f in
+  listed-used {quiet} {ns} {cs} {ok} h z r o =
+      let k : Room g c = room g c (s .fitted) in
+      let b : p < 2 ^ 32 = s .third .below in
       let d : g .disk ≤ 65536 = omega arith in
       let good : goodEntry (g .blocks) (g .disk) (quartersEntry x l p q) ≡ true = sym r ∙ not-false ok o in
       listed-step g c i quiet (not (eqb x 0x83000000)) ns cs l q small h
       (ap (goodEntry (g .blocks) (g .disk)) (sym quarters-entry) ∙ good)
-      (quarters-role (g .blocks) (g .disk) x l p q d (p-is .below) z good ∙ ap (λ (e : Entry). not (hasLogRole e)) quarters-entry)
-      (quarters-number (g .blocks) (g .disk) x l p q d (p-is .below) z good
-      ∙ quarters-key (g .blocks) (g .disk) x l p q d (p-is .below) z good (quartersEntry x l p q .number)
+      (quarters-role (g .blocks) (g .disk) x l p q d b z good ∙ ap (λ (e : Entry). not (hasLogRole e)) quarters-entry)
+      (quarters-number (g .blocks) (g .disk) x l p q d b z good
+      ∙ quarters-key (g .blocks) (g .disk) x l p q d b z good (quartersEntry x l p q .number)
       ∙ ap (λ (e : Entry). key (inUse e) (e .number)) quarters-entry)
-      (quarters-key (g .blocks) (g .disk) x l p q d (p-is .below) z good q ∙ ap (λ (e : Entry). key (inUse e) (e .current)) quarters-entry)
+      (quarters-key (g .blocks) (g .disk) x l p q d b z good q ∙ ap (λ (e : Entry). key (inUse e) (e .current)) quarters-entry)
 
 pub listed-end : (g : Geometry) (c : List ℕ) (i : ℕ) (quiet : Bool) (ns cs : List ℕ) → Listed g c i quiet ns cs → g .blocks ≤ i → i ≤ g .blocks
     → Decoded g c ns cs (record { fits = true; quiet = quiet })

@@ -1,7 +1,8 @@
 -- `decode` answers what the pass over the entries finds. The invariant: check 5 allows the entries passed, and their keys are listed.
 use Prim.Native.Nat.{_≤_, _-_}
+use denote.Ref.{now}
 use Rattle.ring.proofs.Laws.{fitted-blocks, fitted-disk}
-use Rattle.checks.proofs.Laws.{Listed, listed-start, listed-unused, listed-used, listed-bad, listed-end}
+use Rattle.checks.proofs.Laws.{Listed, listed-start, Split, listed-unused, listed-used, listed-bad, listed-end}
 use borrow.Author.Needs.{needs}
 use native.Mathlib.Omega.{arith}
 use Rattle.checks.proofs.decode.Statement.{statement}
@@ -12,6 +13,25 @@ Inv-loop g card ids₀ currents₀ n quiet₀ i₀ ids currents quiet i = (n ≤
 
 abbrev μ-loop : tie.MeasureT-loop
 μ-loop g card ids₀ currents₀ n quiet₀ i₀ ids currents quiet i = n - i
+
+-- the four reads of a turn are the entry's quarters
+split-of : (c : tie.After-quarter-of4 Inv-loop μ-loop)
+    → let r = c .before .before .before in
+    let h = r .before .before in
+    Split (h .before .before .args .g) (now (h .before .before .args .card)) (h .loop .i) (r .quarter-of .result)
+    (c .before .before .quarter-of2 .result) (c .before .quarter-of3 .result) (c .quarter-of4 .result)
+split-of c =
+    let r = c .before .before .before in
+    let h = r .before .before in
+    record {
+      fitted = h .before .before .pre .0;
+      below = r .before .loop-test .taken;
+      bytes = λ j m. omega (arith, h .before .shared-slice-known .given j);
+      first = r .quarter-of .ensures;
+      second = c .before .before .quarter-of2 .ensures;
+      third = c .before .quarter-of3 .ensures;
+      fourth = c .quarter-of4 .ensures;
+    }
 
 loop-holds : tie.Need-loop-holds Inv-loop μ-loop
 loop-holds c = (search (fitted-blocks, needs), search needs, search (listed-start, needs))
@@ -47,13 +67,13 @@ loop-less : tie.Need-loop-less Inv-loop μ-loop
 loop-less c = search needs
 
 loop-again : tie.Need-loop-again Inv-loop μ-loop
-loop-again c = let w = c .before in let t = w .before .before .before .before in let h = t .before in (search needs, search needs, listed-unused _ _ _ _ _ _ _ (h .before .before .pre .0) (t .loop-test .taken) (λ j m. omega (arith, h .before .shared-slice-known .given j)) (w .before .before .before .quarter-of .ensures) (w .before .before .quarter-of2 .ensures) (w .before .quarter-of3 .ensures) (w .quarter-of4 .ensures) _ _ _ (h .loop .inv .2) (c .if1 .taken))
+loop-again c = (search needs, search needs, listed-unused (split-of (c .before)) (c .before .before .before .before .before .before .loop .inv .2) (c .if1 .taken))
 
 good-quarters-requires : tie.Need-good-quarters-requires Inv-loop μ-loop
 good-quarters-requires c κs = (search (fitted-disk, needs), c .before .before .quarter-of3 .ensures .below)
 
 returns : tie.Need-returns Inv-loop μ-loop
-returns c = let w = c .before .before .before in let t = w .before .before .before .before in let h = t .before in listed-bad _ _ _ _ _ _ _ (h .before .before .pre .0) (t .loop-test .taken) (λ j m. omega (arith, h .before .shared-slice-known .given j)) (w .before .before .before .quarter-of .ensures) (w .before .before .quarter-of2 .ensures) (w .before .quarter-of3 .ensures) (w .quarter-of4 .ensures) _ _ _ (c .before .good-quarters .ensures) (c .if2 .taken)
+returns c = listed-bad (split-of (c .before .before .before)) _ _ (c .before .good-quarters .ensures) (c .if2 .taken)
 
 cast-ids : tie.Need-cast-ids Inv-loop μ-loop
 cast-ids c = search needs
@@ -77,10 +97,19 @@ loop-less-2 : tie.Need-loop-less-2 Inv-loop μ-loop
 loop-less-2 c = search needs
 
 loop-again-2 : tie.Need-loop-again-2 Inv-loop μ-loop
-loop-again-2 c = let w = c .before .before .before in let t = w .before .before .before .before in let h = t .before in (search needs, search needs, listed-used _ _ _ _ _ _ _ (h .before .before .pre .0) (t .loop-test .taken) (λ j m. omega (arith, h .before .shared-slice-known .given j)) (w .before .before .before .quarter-of .ensures) (w .before .before .quarter-of2 .ensures) (w .before .quarter-of3 .ensures) (w .quarter-of4 .ensures) _ _ _ _ (h .loop .inv .2) (c .before .before .if1 .left) (c .before .good-quarters .ensures) (c .if2 .left))
+loop-again-2 c =
+    let w = c .before .before .before in
+    let h = w .before .before .before .before .before in (
+      search needs,
+      search needs,
+      listed-used (split-of w) (h .loop .inv .2) (c .before .before .if1 .left) (c .before .good-quarters .ensures) (c .if2 .left),
+    )
 
 returns-2 : tie.Need-returns-2 Inv-loop μ-loop
 returns-2 c = search (listed-end, needs)
 
 pub decode-spec : {M : Type 1} → statement M
-decode-spec = tie.close (tie.spec Inv-loop μ-loop loop-holds quarter-of-requires quarter-of-requires-2 quarter-of-requires-3 quarter-of-requires-4 add-i mul-ids element-write-ids mul-currents element-write-currents loop-less loop-again good-quarters-requires returns cast-ids mul-ids-2 element-write-ids-2 cast-currents mul-currents-2 element-write-currents-2 loop-less-2 loop-again-2 returns-2)
+decode-spec =
+    tie.close (tie.spec Inv-loop μ-loop loop-holds quarter-of-requires quarter-of-requires-2 quarter-of-requires-3 quarter-of-requires-4
+    add-i mul-ids element-write-ids mul-currents element-write-currents loop-less loop-again good-quarters-requires returns cast-ids
+    mul-ids-2 element-write-ids-2 cast-currents mul-currents-2 element-write-currents-2 loop-less-2 loop-again-2 returns-2)
