@@ -1,9 +1,9 @@
 -- What is found among the keys of a card's entries is what document 01's searches find on the card: the tests agree at each place, so the walks
 -- are the same. Assumes nothing.
-use Prim.Native.Nat.{ℕ, zero, suc, _+_, _%_, _≤_, _<_}
+use Prim.Native.Nat.{ℕ, zero, suc, _%_, _≤_, _<_}
 use mathlib.Core.List.{List, _++_}
 use mathlib.Core.Bool.{Bool, true, false, not, _&&_}
-use mathlib.Core.Path.{_≡_, refl, sym, ap, _∙_}
+use mathlib.Core.Path.{_≡_, refl, ap, _∙_}
 use native.Mathlib.Nat.{mod-lt}
 use native.Mathlib.Omega.{arith}
 use lib.ListN.{length, getD}
@@ -16,7 +16,8 @@ use Rattle.protocol.specs.Ring.{headOf, usedAt}
 use Rattle.protocol.specs.Check.{goodEntryAt, entriesFit}
 use Rattle.protocol.specs.Search.{takenBy, isFree, unusedAt, searchStart}
 use Rattle.protocol.proofs.Below.{all-at, any-cong, around-below}
-use Rattle.protocol.proofs.Checks.{Limits, limits, Allowed, allowed}
+use Rattle.protocol.proofs.Checks.{Limits, limits}
+use Rattle.protocol.proofs.Allowed.{Bounded, bounded}
 use Rattle.ring.specs.Fitted.{Fitted}
 use Rattle.checks.specs.Keys.{NONE, key, keyed, keyAt, numberKey, currentKey, Lists}
 use Rattle.plan.specs.declared.Places.{Places}
@@ -90,7 +91,7 @@ module _ (g : Geometry) (c : List ℕ) (f : Fitted g c) where
         rw (← s .0)
         (searched-same _ _ (g .blocks) start want r (s .1)
         (λ i d.
-        let a : Allowed (g .blocks) (g .disk) (entryAt g c i) =
-        allowed (g .blocks) (g .disk) (entryAt g c i) (omega arith) (omega arith) (all-at (goodEntryAt g c) (g .blocks) i fit d) in
+        let a : Bounded (g .blocks) (g .disk) (entryAt g c i) =
+        bounded (g .blocks) (g .disk) (entryAt g c i) (omega arith) (omega arith) (all-at (goodEntryAt g c) (g .blocks) i fit d) in
         ap (λ (k : ℕ). eqb k NONE) (h i d) ∙ key-none (usedAt g c i) (entryAt g c i .number) (omega arith))
         x)
