@@ -34,7 +34,7 @@ use Rattle.plan.specs.Planned.{Keyed}
 use Rattle.plan.proofs.Bounds.{Passed, new-below, entry-below}
 use Rattle.transfer.specs.declared.Room.{Room}
 use Rattle.transfer.specs.declared.Place.{Place}
-use Rattle.transfer.specs.Examined.{sharedRefusal, Examined, Chosen, Roomed, Placed}
+use Rattle.transfer.specs.Examined.{sharedRefusal, Examined, Chosen, Roomed, Located}
 use Rattle.transfer.proofs.Shared.{Shared, shared, own-after}
 
 -- ---- keys
@@ -106,9 +106,9 @@ module _ (c d : List ℕ) (b : ℕ) (ids cs : List ℕ) (s : ℕ) (x : Examined 
         entry = λ z. absurd (h (sym q ∙ z));
       }
 
-  pub placed-refused : (s ≡ 0 → ⊥) → Placed c d b (record { refusal = s; at = 0 })
+  pub located-refused : (s ≡ 0 → ⊥) → Located c d b (record { refusal = s; at = 0 })
   unfolding evictRefusal
-  placed-refused h =
+  located-refused h =
       record {
         refusal-is = orElse-first s (sharedRefusal c d b) _ (x .refusal-is) h ∙ sym (own-after c d b _);
         at = λ z. absurd (h z);
@@ -155,12 +155,12 @@ module _ (c d : List ℕ) (b : ℕ) (ids cs : List ℕ) (s : ℕ) (x : Examined 
             let same : k ≡ cached (geometryOf c) c b = sym h ∙ (λ j. ltb (finds j) (q j .blocks)) in
             orElse-next t (sharedRefusal c d b) _ (sym z ∙ x .refusal-is) (p ∙ ap (refuse 13) same) ∙ sym (own-after c d b _)
 
-        pub placed-found : at < g .blocks → Placed c d b (record { refusal = 0; at = at })
-        placed-found l =
+        pub located-found : at < g .blocks → Located c d b (record { refusal = 0; at = at })
+        located-found l =
             record { refusal-is = past-shared 0 true (lt-ltb at (g .blocks) l) (refuse-passed 13 true refl); at = λ k. finds }
 
-        pub placed-missing : g .blocks ≤ at → Placed c d b (record { refusal = 13; at = 0 })
-        placed-missing l =
+        pub located-missing : g .blocks ≤ at → Located c d b (record { refusal = 13; at = 0 })
+        located-missing l =
             record {
               refusal-is = past-shared 13 false (le-ltb at (g .blocks) l) (refuse-failed 13 false refl);
               at = λ k. absurd (omega arith);
@@ -258,7 +258,7 @@ module _ (c d : List ℕ) (b : ℕ) (r : Room) (x : Roomed c d b r) (z : r .refu
         subst (λ (i : ℕ). i < geometryOf c .blocks) (sym (x .entry z)) (ready .entry),
       )
 
-module _ (c d : List ℕ) (b : ℕ) (r : Place) (x : Placed c d b r) (z : r .refusal ≡ 0) where
+module _ (c d : List ℕ) (b : ℕ) (r : Place) (x : Located c d b r) (z : r .refusal ≡ 0) where
   held : Held (geometryOf c) c d b
   held = evict-held c d b (sym (x .refusal-is) ∙ z)
 

@@ -37,6 +37,6 @@ pub record Roomed (c d : List ℕ) (b : ℕ) (r : Room) : Type 0 where
   pub entry : r .refusal ≡ 0 → r .entry ≡ getD (unusedEntries (geometryOf c) c) 0 0
 
 -- all of evict's refusals, and where none is given the place of the entry for b
-pub record Placed (c d : List ℕ) (b : ℕ) (r : Place) : Type 0 where
+pub record Located (c d : List ℕ) (b : ℕ) (r : Place) : Type 0 where
   pub refusal-is : r .refusal ≡ evictRefusal c d b
   pub at : r .refusal ≡ 0 → r .at ≡ findEntry (geometryOf c) c b

@@ -14,7 +14,7 @@ ghost use Rattle.protocol.specs.Store.{Medium, flat, words, answerOf, afterOn};
 ghost use Rattle.protocol.specs.Load.{loadWork, evictRuns, evictWork};
 ghost use Rattle.ring.specs.Fitted.{Fitted};
 ghost use Rattle.plan.specs.Planned.{Keyed};
-ghost use Rattle.transfer.specs.Examined.{Examined, Chosen, Roomed, Placed};
+ghost use Rattle.transfer.specs.Examined.{Examined, Chosen, Roomed, Located};
 ghost use Rattle.transfer.specs.Moved.{loadedRuns, Moved};
 
 // 1 to 7 and 10, and the keys of the card's entries, so that no search decodes them again.
@@ -140,7 +140,7 @@ pub struct Place {
 
 // All of evict's refusals, 13 the last of them, and where none is given the place of the entry for b.
 fn find_cached(card: &[u8], disk: &[u8], b: u64) -> Place
-    ensures { λ r. ⌜ Placed (now (card .entry)) (now (disk .entry)) b r ⌝ }
+    ensures { λ r. ⌜ Located (now (card .entry)) (now (disk .entry)) b r ⌝ }
 {
     let mut ids = [0u32; 128];
     let mut currents = [0u32; 128];

@@ -1,6 +1,6 @@
 -- `find_cached` answers all of evict's refusals, or the entry's place: the key found among the listed ones is the entry for b.
 use borrow.Author.Needs.{needs}
-use Rattle.transfer.proofs.Found.{examined-long, examined-number, examined-few, placed-refused, placed-found, placed-missing}
+use Rattle.transfer.proofs.Found.{examined-long, examined-number, examined-few, located-refused, located-found, located-missing}
 use Rattle.transfer.proofs.find_cached.Statement.{statement}
 use Rattle.transfer.proofs.find_cached.Tie as tie
 
@@ -8,7 +8,7 @@ examine-requires : tie.Need-examine-requires
 examine-requires c κs = search needs
 
 returns : tie.Need-returns
-returns c = search (placed-refused, needs)
+returns c = search (located-refused, needs)
 
 geometry-of-requires : tie.Need-geometry-of-requires
 geometry-of-requires c κs = search (examined-long, needs)
@@ -20,10 +20,10 @@ find-key-requires : tie.Need-find-key-requires
 find-key-requires c κs = search (examined-few, needs)
 
 returns-2 : tie.Need-returns-2
-returns-2 c = search (placed-found, needs)
+returns-2 c = search (located-found, needs)
 
 returns-3 : tie.Need-returns-3
-returns-3 c = search (placed-missing, needs)
+returns-3 c = search (located-missing, needs)
 
 pub find-cached-spec : {M : Type 1} → statement M
 find-cached-spec =
