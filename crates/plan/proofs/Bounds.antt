@@ -1,26 +1,26 @@
 -- What a commit that is not refused has passed, and that all its plan names lies on the card: new data blocks are found by the walk, and check 6
 -- leaves an unused entry for each free data block. Assumes nothing.
-use Prim.Native.Nat.{ℕ, _+_, _*_, _-_, _≤_, _<_}
+use Prim.Native.Nat.{ℕ, _*_, _-_, _≤_, _<_}
 use mathlib.Core.List.{List}
-use mathlib.Core.Bool.{Bool, true, false, cond, not, _&&_, _||_}
-use mathlib.Core.Path.{_≡_, refl, sym, ap, subst, _∙_}
-use mathlib.Core.Logic.{_⊎_, inl, inr, ⊎-elim}
+use mathlib.Core.Bool.{Bool, true, not}
+use mathlib.Core.Path.{_≡_, refl, sym, subst}
+use mathlib.Core.Logic.{⊎-elim}
 use native.Mathlib.Nat.{mod-lt}
 use native.Mathlib.Omega.{arith}
 use lib.ListN.{length, getD}
-use lib.Dec.{eqb, ltb, leb}
-use borrow.Author.Tests.{eq-eqb, eqb-true, leb-true, ltb-true, not-false}
+use lib.Dec.{eqb, ltb}
+use borrow.Author.Tests.{eq-eqb, eqb-true, leb-true, ltb-true}
 use Rattle.protocol.specs.declared.Geometry.{Geometry}
-use Rattle.protocol.specs.Below.{allBelow, countBelow, walked}
+use Rattle.protocol.specs.Below.{countBelow, walked}
 use Rattle.protocol.specs.Layout.{geometryOf, blockSize}
 use Rattle.protocol.specs.Entry.{entryAt}
-use Rattle.protocol.specs.Ring.{headOf, tailOf, usedAt, settledBlock, findEntry, cached}
-use Rattle.protocol.specs.Check.{refuse, _orElse_, ringFits, goodEntryAt, entriesFit, alike, apart, apartBefore, entriesApart, fitRefusal, damageRefusal, cardRefusal}
+use Rattle.protocol.specs.Ring.{headOf, usedAt, findEntry, cached}
+use Rattle.protocol.specs.Check.{refuse, ringFits, goodEntryAt, entriesFit, alike, apart, apartBefore, entriesApart, fitRefusal, damageRefusal, cardRefusal}
 use Rattle.protocol.specs.Search.{takenBy, isFree, unusedAt, searchStart, freeBlocks, unusedEntries}
 use Rattle.protocol.specs.Commit.{numberOf, uncachedAt, newBlock, entryFound, countFits, dataFits, numbersFit, numbersApart, roomFor, saveRefusal, commitRefusal}
 use Rattle.protocol.proofs.Below.{absurd-bool, either, below-or-above, and-left, and-right, or-right, or-left, all-at, around-below, count-le}
-use Rattle.protocol.proofs.Checks.{Limits, limits, orElse-none, refuse-none, Allowed, allowed}
-use Rattle.protocol.proofs.Searches.{Found, walk-finds, unused-enough}
+use Rattle.protocol.proofs.Checks.{Limits, limits, orElse-none, refuse-none, allowed}
+use Rattle.protocol.proofs.Searches.{walk-finds, unused-enough}
 use Rattle.ring.specs.Fitted.{Fitted}
 use Rattle.ring.proofs.Laws.{fit-fitted}
 use Rattle.plan.proofs.Rows.{walk-few}

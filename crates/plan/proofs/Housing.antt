@@ -1,12 +1,12 @@
 -- The entries of a commit's blocks: what is found among the keys is what the plan's definitions name, one number after the other. Assumes nothing.
 use Prim.Native.Nat.{ℕ, _+_, _≤_, _<_}
 use mathlib.Core.List.{List}
-use mathlib.Core.Bool.{Bool, true, false, cond, not, _&&_}
+use mathlib.Core.Bool.{Bool, true, false, cond, not}
 use mathlib.Core.Path.{_≡_, refl, sym, ap, _∙_}
 use mathlib.Core.Logic.{_⊎_, inl, inr, ⊎-elim}
 use native.Mathlib.Omega.{arith}
 use lib.ListN.{length, getD, set, replicate, length-set, length-replicate}
-use lib.Dec.{eqb, ltb}
+use lib.Dec.{ltb}
 use borrow.Author.Tests.{lt-ltb, le-ltb, ltb-true}
 use Rattle.protocol.specs.declared.Geometry.{Geometry}
 use Rattle.protocol.specs.Below.{firstBelow, countBelow}
@@ -20,7 +20,6 @@ use Rattle.checks.specs.Keys.{NONE, key, keyed, keyAt, currentKey, Lists}
 use Rattle.checks.proofs.Laws.{lists-none, lists-more, lists-all}
 use Rattle.checks.proofs.Find.{find-listed}
 use Rattle.plan.specs.declared.Home.{Home}
-use Rattle.plan.specs.declared.Homes.{Homes}
 use Rattle.plan.specs.declared.Places.{Places}
 use Rattle.plan.specs.Searched.{Searched}
 use Rattle.plan.specs.Planned.{Keyed, keyPlace, Housed, AllHoused}

@@ -11,7 +11,7 @@ use Rattle.protocol.specs.declared.Geometry.{Geometry}
 use Rattle.protocol.specs.Layout.{geometryOf}
 use Rattle.protocol.specs.Check.{refuse, _orElse_, ringFits, entriesFit, fitRefusal, damageRefusal, cardRefusal}
 use Rattle.protocol.specs.Search.{isFree, searchStart, freeBlocks}
-use Rattle.protocol.specs.Commit.{newBlock, countFits, dataFits, numbersFit, numbersApart, roomFor, saveRefusal, commitRefusal}
+use Rattle.protocol.specs.Commit.{newBlock, countFits, dataFits, numbersFit, roomFor, saveRefusal, commitRefusal}
 use Rattle.protocol.proofs.Checks.{Limits, limits, refuse-passed, refuse-failed, orElse-first, orElse-next, orElse-none, refuse-none}
 use Rattle.ring.specs.Fitted.{Fitted}
 use Rattle.checks.specs.declared.Verdict.{Verdict}
