@@ -1,7 +1,7 @@
 -- The loops over a commit's blocks: what each turn needs of the plan, and the stores of one turn more. Assumes nothing.
 use Prim.Native.Nat.{ℕ, _+_, _*_, _≤_, _<_}
 use mathlib.Core.List.{List, [], _∷_}
-use mathlib.Core.Path.{_≡_, refl, sym, ap, subst, _∙_}
+use mathlib.Core.Path.{_≡_, sym, ap, subst, _∙_}
 use native.Mathlib.Omega.{arith}
 use lib.ListN.{length, getD}
 use Rattle.protocol.specs.declared.Entry.{Entry}
@@ -9,7 +9,7 @@ use Rattle.protocol.specs.declared.Geometry.{Geometry}
 use Rattle.protocol.specs.Below.{eachBelow}
 use Rattle.protocol.specs.Layout.{blockSize}
 use Rattle.protocol.specs.Entry.{entryOf, switched}
-use Rattle.protocol.specs.Store.{Medium, card, Store, flat, single, entryStore}
+use Rattle.protocol.specs.Store.{card, Store, flat, single, entryStore}
 use Rattle.protocol.specs.Commit.{numberOf}
 use Rattle.protocol.proofs.Region.{block-ends}
 use Rattle.plan.specs.declared.Plan.{Plan}

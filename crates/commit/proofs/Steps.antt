@@ -1,8 +1,8 @@
 -- The stores of one block, one after the other: each function's stores are those of the ones that it calls, put together under one allowance.
 -- Assumes nothing.
 use Prim.Native.Nat.{ℕ, _+_, _*_, _^_, _≤_, _<_}
-use mathlib.Core.List.{List, [], _∷_, _++_}
-use mathlib.Core.Path.{_≡_, refl, sym, ap, _∙_}
+use mathlib.Core.List.{List, [], _∷_}
+use mathlib.Core.Path.{_≡_, ap}
 use native.Mathlib.Omega.{arith}
 use lib.ListN.{length}
 use Rattle.numbers.specs.Bytes.{part}
@@ -10,19 +10,15 @@ use Rattle.protocol.specs.declared.Entry.{Entry}
 use Rattle.protocol.specs.declared.Geometry.{Geometry}
 use Rattle.protocol.specs.Below.{around}
 use Rattle.protocol.specs.Layout.{blockSize, slotPlace}
-use Rattle.protocol.specs.Store.{Medium, card, Store, flat, single, words, entryStore, wordStore, slotStore, headStore}
+use Rattle.protocol.specs.Store.{card, flat, single, words, entryStore, wordStore, slotStore, headStore}
 use Rattle.protocol.specs.Commit.{dataOf}
 use Rattle.ring.specs.Fitted.{Fitted}
 use Rattle.ring.proofs.Laws.{Room, room}
 use Rattle.stores.specs.Did.{Did}
-use Rattle.stores.proofs.Laws.{did-length, did-then, did-same}
+use Rattle.stores.proofs.Laws.{did-then, did-same}
 use Rattle.commit.specs.Making.{stepRuns}
 
 -- ---- places on the card
-
--- a card that fits still does after stores
-pub fitted-did : {g : Geometry} {m : Medium} {ss : List Store} {a : ℕ} {xs ys : List ℕ} {r : ℕ} → Fitted g xs → Did m ss a xs ys r → Fitted g ys
-fitted-did f x = record { good = f .good; long = did-length x ∙ f .long }
 
 module _ (g : Geometry) (c : List ℕ) (f : Fitted g c) where
   pub slot-times : (x : ℕ) → x < g .slots → 8 * x < 2 ^ 64

@@ -1,6 +1,6 @@
 -- A whole commit: the plan's runs are those of the definition, they are so many stores, and what the checks have passed is all that making them
 -- needs. Assumes nothing.
-use Prim.Native.Nat.{ℕ, zero, suc, _+_, _*_, _-_, _/_, _^_, _≤_, _<_}
+use Prim.Native.Nat.{ℕ, zero, suc, _+_, _*_, _/_, _^_, _≤_, _<_}
 use mathlib.Core.List.{List, [], _∷_, _++_}
 use mathlib.Core.Path.{_≡_, refl, sym, ap, subst, _∙_}
 use native.Mathlib.Nat.{mul-le-mul, suc-mul, zero-mul, mul-add}
@@ -11,14 +11,13 @@ use mathlib.Core.Bool.{true, cond}
 use lib.Dec.{ltb}
 use Rattle.protocol.specs.declared.Answer.{Answer}
 use Rattle.protocol.specs.declared.Answer.the-variants.{Done, Cut, Refused}
-use Rattle.protocol.specs.declared.Entry.{Entry}
 use Rattle.protocol.specs.declared.Geometry.{Geometry}
 use Rattle.protocol.specs.Below.{eachBelow, around}
 use Rattle.protocol.specs.Layout.{goodGeometry, geometryOf, blockSize}
 use Rattle.protocol.specs.Entry.{entryOf, switched}
 use Rattle.protocol.specs.Ring.{headOf}
-use Rattle.protocol.specs.Store.{Medium, card, Store, Run, Work, flat, single, units, words, entryStore, wordStore, tailStore, storesOf}
-use Rattle.protocol.specs.Commit.{numberOf, newBlock, entryFound, oldBlock, logEntry, dataOf, headAfter, blockRuns, switchRuns, commitRuns, commitRefusal, commitWork}
+use Rattle.protocol.specs.Store.{card, Run, flat, single, units, words, entryStore, wordStore, tailStore, storesOf}
+use Rattle.protocol.specs.Commit.{numberOf, entryFound, logEntry, dataOf, headAfter, blockRuns, switchRuns, commitRuns, commitWork}
 use Rattle.protocol.proofs.Checks.{Limits, limits}
 use Rattle.protocol.proofs.Stores.{flat-append, length-units}
 use Rattle.ring.specs.Fitted.{Fitted}
@@ -30,7 +29,7 @@ use Rattle.plan.specs.Planned.{Planned, Prepared}
 use Rattle.plan.proofs.Bounds.{Passed, passed, few-numbers, new-below, entry-below}
 use Rattle.stores.specs.Did.{Did}
 use Rattle.stores.proofs.Laws.{did-then, did-same, length-each, refused-answer, refused-after, made-answer, made-after}
-use Rattle.commit.specs.Making.{stepRuns, plannedEntry, plannedBlock, plannedSwitch, plannedRuns, Named, Ready}
+use Rattle.commit.specs.Making.{stepRuns, plannedEntry, plannedBlock, plannedSwitch, plannedRuns, Ready}
 use Rattle.commit.specs.Committed.{Committed}
 
 -- ---- the plan's runs are the definition's

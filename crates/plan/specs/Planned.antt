@@ -1,5 +1,5 @@
 -- What a plan holds: for each block of the commit the place of its entry, its previous and its new data block.
-use Prim.Native.Nat.{ℕ, _+_, _<_}
+use Prim.Native.Nat.{ℕ, _+_}
 use mathlib.Core.List.{List}
 use mathlib.Core.Bool.{true, cond}
 use mathlib.Core.Path.{_≡_}

@@ -1,7 +1,6 @@
 -- `is_new` answers whether a number is none of those before it. The invariant: `fresh` says so of the first j.
-use Prim.Native.Nat.{_≤_, _<_, _-_}
+use Prim.Native.Nat.{_≤_, _-_}
 use mathlib.Core.Path.{_≡_}
-use lib.ListN.{length, getD}
 use Rattle.protocol.specs.Below.{allBelow}
 use Rattle.protocol.specs.Commit.{numbersDiffer}
 use Rattle.plan.proofs.Request.{differ-turn, differ-end}

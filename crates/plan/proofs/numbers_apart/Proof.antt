@@ -3,7 +3,6 @@ use Prim.Native.Nat.{_≤_, _-_}
 use mathlib.Core.Bool.{true}
 use mathlib.Core.Path.{_≡_, sym}
 use lib.ListN.{length}
-use borrow.Author.Tests.{not-true, not-false}
 use Rattle.protocol.specs.Below.{allBelow}
 use Rattle.protocol.specs.Commit.{newNumber, numbersApart}
 use Rattle.protocol.proofs.Below.{all-more, all-fails, all-done}
