@@ -19,7 +19,8 @@ use Rattle.protocol.specs.Check.{refuse, ringFits, goodEntryAt, entriesFit, ali
 use Rattle.protocol.specs.Search.{takenBy, isFree, unusedAt, searchStart, freeBlocks, unusedEntries}
 use Rattle.protocol.specs.Commit.{numberOf, uncachedAt, newBlock, entryFound, countFits, dataFits, numbersFit, numbersApart, roomFor, saveRefusal, commitRefusal}
 use Rattle.protocol.proofs.Below.{absurd-bool, either, below-or-above, and-left, and-right, or-right, or-left, all-at, around-below, count-le}
-use Rattle.protocol.proofs.Checks.{Limits, limits, orElse-none, refuse-none, allowed}
+use Rattle.protocol.proofs.Checks.{Limits, limits, orElse-none, refuse-none}
+use Rattle.protocol.proofs.Allowed.{bounded}
 use Rattle.protocol.proofs.Searches.{walk-finds, unused-enough}
 use Rattle.ring.specs.Fitted.{Fitted}
 use Rattle.ring.proofs.Laws.{fit-fitted}
