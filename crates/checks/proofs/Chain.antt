@@ -2,7 +2,7 @@
 -- Assumes nothing.
 use Prim.Native.Nat.{ℕ, zero, suc, _+_, _-_, _%_, _≤_, _<_}
 use mathlib.Core.List.{List}
-use mathlib.Core.Bool.{Bool, true, false, cond, not, _&&_, _||_}
+use mathlib.Core.Bool.{Bool, true, false}
 use mathlib.Core.Logic.{⊎-elim}
 use mathlib.Core.Path.{_≡_, refl, sym, ap, _∙_, subst}
 use native.Mathlib.Nat.{mod-lt, not-suc-le-zero}
@@ -10,11 +10,11 @@ use native.Mathlib.Numerals.{add-one}
 use native.Mathlib.Omega.{arith}
 use lib.ListN.{length, getD, set, replicate, length-set, length-replicate, getD-replicate}
 use lib.Seq.{getD-set-same, getD-set-other}
-use lib.Dec.{eqb, ltb}
+use lib.Dec.{ltb}
 use borrow.Author.Tests.{lt-ltb, le-ltb, eq-eqb, ne-eqb, eqb-true, ltb-true}
 use Rattle.protocol.specs.Below.{allBelow, anyBelow}
-use Rattle.protocol.proofs.Below.{absurd-bool, either, and-left, and-right, and-both, and-fails, or-none, same-or-other, last-or-before, all-more, all-fails, all-done, any-found, any-hit, any-miss}
-use Rattle.checks.specs.Keys.{NONE, keyed, lone, distinct, keyAt}
+use Rattle.protocol.proofs.Below.{absurd-bool, either, and-left, and-right, or-none, same-or-other, last-or-before, all-more, all-fails, all-done, any-found, any-miss}
+use Rattle.checks.specs.Keys.{NONE, keyed, lone, distinct}
 use Rattle.checks.specs.Chain.{lastBelow, CHAINS, inChain, Linked, Chained}
 
 -- ---- the last index

@@ -1,26 +1,26 @@
 -- Check 6 is a search for equal keys: entries are apart exactly where numbers, current blocks and settled blocks are each distinct, so
 -- the three are checked apart. On a settled card the settled blocks are the current ones. Assumes nothing.
-use Prim.Native.Nat.{ℕ, _+_, _≤_, _<_}
+use Prim.Native.Nat.{ℕ, _≤_, _<_}
 use mathlib.Core.List.{List}
-use mathlib.Core.Bool.{Bool, true, false, cond, not, _&&_, _||_}
-use mathlib.Core.Logic.{_⊎_, inl, inr, ⊎-elim}
+use mathlib.Core.Bool.{Bool, true, false, _&&_}
+use mathlib.Core.Logic.{_⊎_, inl, ⊎-elim}
 use mathlib.Core.Path.{_≡_, refl, sym, ap, _∙_, subst}
 use native.Mathlib.Omega.{arith}
-use lib.ListN.{length, getD, set}
 use lib.Dec.{eqb, ltb}
-use borrow.Author.Tests.{lt-ltb, le-ltb, le-leb, ltb-true, ltb-false, eq-eqb, ne-eqb, eqb-true, not-true, not-false}
+use borrow.Author.Tests.{lt-ltb, le-leb, ltb-true, eq-eqb, ne-eqb, eqb-true, not-true}
 use Rattle.protocol.specs.declared.Geometry.{Geometry}
-use Rattle.protocol.specs.Below.{allBelow, anyBelow}
+use Rattle.protocol.specs.Below.{anyBelow}
 use Rattle.protocol.specs.Layout.{goodGeometry}
 use Rattle.protocol.specs.Entry.{FRESH, entryAt, hasLogRole}
 use Rattle.protocol.specs.Ring.{headOf, tailOf, windowLength, windowOf, windowHas, inWindow, usedAt, undoableAt, settledBlock, roleFreeAt, isSettled}
 use Rattle.protocol.specs.Check.{goodEntryAt, entriesFit, alike, apart, apartBefore, entriesApart}
-use Rattle.protocol.proofs.Below.{absurd-bool, either, and-left, and-right, and-both, and-fails, or-left, or-right, or-false, all-at, all-of, any-found, any-none, any-at, any-witness}
-use Rattle.protocol.proofs.Checks.{Limits, limits, Allowed, allowed}
-use Rattle.checks.specs.Keys.{NONE, key, numberKey, currentKey, settledKey, keyed, lone, distinct, keyAt, Lists}
+use Rattle.protocol.proofs.Below.{absurd-bool, either, and-left, and-right, and-both, and-fails, or-right, all-at, all-of, any-found, any-none}
+use Rattle.protocol.proofs.Allowed.{UsedEntry, used-entry}
+use Rattle.protocol.proofs.Checks.{Limits, limits}
+use Rattle.checks.specs.Keys.{NONE, key, numberKey, currentKey, settledKey, keyed, lone, distinct}
 
 -- two tests that hold together are one
-bool-same : (a b : Bool) → (a ≡ true → b ≡ true) → (b ≡ true → a ≡ true) → a ≡ b
+pub bool-same : (a b : Bool) → (a ≡ true → b ≡ true) → (b ≡ true → a ≡ true) → a ≡ b
 bool-same true b f g = sym (f refl)
 bool-same false true f g = g refl
 bool-same false false f g = refl
@@ -108,17 +108,14 @@ module _ (g : Geometry) (c : List ℕ) where
       distinct-at (keysOf p) l (g .blocks) i j d ji iN (rw ki b) (kj ∙ sym e ∙ sym ki)
 
   module _ (good : goodGeometry g ≡ true) (fit : entriesFit g c ≡ true) where
-    entry-allowed : (i : ℕ) → i < g .blocks → Allowed (g .blocks) (g .disk) (entryAt g c i)
-    unfolding entriesFit goodEntryAt
-    entry-allowed i iN =
-        let l : Limits g = limits g good in
-        allowed (g .blocks) (g .disk) (entryAt g c i) (omega arith) (omega arith) (all-at (goodEntryAt g c) (g .blocks) i fit iN)
+    entry-used : (i : ℕ) → i < g .blocks → usedAt g c i ≡ true → UsedEntry (g .blocks) (g .disk) (entryAt g c i)
+    unfolding entriesFit goodEntryAt usedAt
+    entry-used i iN u = used-entry (g .blocks) (g .disk) (entryAt g c i) (all-at (goodEntryAt g c) (g .blocks) i fit iN) u
 
-    settled-limit : (i : ℕ) → i < g .blocks → (settledBlock g c i < g .blocks) ⊎ (settledBlock g c i ≡ FRESH)
+    settled-limit : (i : ℕ) → UsedEntry (g .blocks) (g .disk) (entryAt g c i)
+        → (settledBlock g c i < g .blocks) ⊎ (settledBlock g c i ≡ FRESH)
     unfolding settledBlock
-    settled-limit i iN =
-        let a : Allowed (g .blocks) (g .disk) (entryAt g c i) = entry-allowed i iN in
-        ⊎-elim (λ u. rw u (a .previous)) (λ u. rw u (inl (a .current))) (either (undoableAt g c i))
+    settled-limit i a = ⊎-elim (λ u. rw u (a .previousBelow)) (λ u. rw u (inl (a .currentBelow))) (either (undoableAt g c i))
 
     -- two entries in use whose three keys are distinct are not alike
     pair-unlike : (i j : ℕ) → distinct (numberKey g c) NONE (g .blocks) ≡ true → distinct (currentKey g c) 128 (g .blocks) ≡ true
@@ -127,7 +124,7 @@ module _ (g : Geometry) (c : List ℕ) where
     unfolding alike numberKey currentKey settledKey
     pair-unlike i j dn dc ds ui uj ji iN =
         let l : Limits g = limits g good in
-        let a : Allowed (g .blocks) (g .disk) (entryAt g c i) = entry-allowed i iN in
+        let a : UsedEntry (g .blocks) (g .disk) (entryAt g c i) = entry-used i iN ui in
         let n : eqb (entryAt g c i .number) (entryAt g c j .number) ≡ false =
         ne-eqb _ _ (keys-differ (λ k. entryAt g c k .number) NONE i j dn ui uj ji iN (omega arith)) in
         let q : eqb (entryAt g c i .current) (entryAt g c j .current) ≡ false =
@@ -139,7 +136,7 @@ module _ (g : Geometry) (c : List ℕ) where
         ne-eqb _ _ (keys-differ (settledBlock g c) 128 i j ds ui uj ji iN (omega arith)) in
         rw s)
         (λ b. and-fails (eqb (settledBlock g c i) (settledBlock g c j)) _ (rw (eq-eqb (settledBlock g c i) FRESH b)))
-        (settled-limit i iN))
+        (settled-limit i a))
 
     apart-of-keys : distinct (numberKey g c) NONE (g .blocks) ≡ true → distinct (currentKey g c) 128 (g .blocks) ≡ true
         → distinct (settledKey g c) 128 (g .blocks) ≡ true → entriesApart g c ≡ true

@@ -1,51 +1,32 @@
 -- The pass over the entries: after i of them, check 5 allows each, and their keys are listed. Assumes nothing.
-use Prim.Native.Nat.{ℕ, _+_, _≤_, _<_}
+use Prim.Native.Nat.{ℕ, _+_, _^_, _≤_, _<_}
 use mathlib.Core.List.{List}
 use mathlib.Core.Bool.{Bool, true, false, not, _&&_}
 use mathlib.Core.Logic.{⊎-elim}
 use mathlib.Core.Path.{_≡_, refl, sym, ap, _∙_, subst}
-use native.Mathlib.Nat.{not-suc-le-zero}
+use native.Mathlib.Nat.{not-suc-le-zero, add-zero}
 use native.Mathlib.Numerals.{add-one}
 use native.Mathlib.Omega.{arith}
 use lib.ListN.{length, getD, set, length-set}
 use lib.Seq.{getD-set-same, getD-set-other}
+use lib.Dec.{eqb}
 use borrow.Author.Tests.{not-true, not-false}
+use Rattle.numbers.specs.Bytes.{numberAt, Bytes}
 use Rattle.protocol.specs.declared.Geometry.{Geometry}
 use Rattle.protocol.specs.declared.Entry.{Entry}
 use Rattle.protocol.specs.Below.{allBelow}
-use Rattle.protocol.specs.Layout.{goodGeometry}
-use Rattle.protocol.specs.Entry.{entryAt, inUse, hasLogRole, goodEntry}
+use Rattle.protocol.specs.Layout.{entryPlace}
+use Rattle.protocol.specs.Entry.{unused, entryAt, inUse, hasLogRole, isUnused, goodEntry}
 use Rattle.protocol.specs.Ring.{usedAt, roleFreeAt}
 use Rattle.protocol.specs.Check.{goodEntryAt, entriesFit}
 use Rattle.protocol.proofs.Below.{absurd-bool, last-or-before, all-more, all-fails, all-done}
-use Rattle.protocol.proofs.Checks.{Limits, limits, Allowed, allowed}
+use Rattle.protocol.proofs.Checks.{entry-quarters}
 use Rattle.ring.specs.Fitted.{Fitted}
-use Rattle.checks.specs.declared.Seen.{Seen}
+use Rattle.ring.proofs.Laws.{Room, room}
 use Rattle.checks.specs.Keys.{NONE, key, numberKey, currentKey, keyAt, Lists}
+use Rattle.checks.specs.Quarters.{quartersEntry, Quarter}
 use Rattle.checks.specs.Passed.{Decoded}
-
--- ---- one entry
-
-pub key-used : (u v : Bool) (x : ℕ) → u ≡ v → u ≡ true → x ≡ key v x
-unfolding key
-key-used u v x e h = rw (sym e ∙ h)
-
-pub key-unused : (u v : Bool) (x : ℕ) → u ≡ v → u ≡ false → NONE ≡ key v x
-unfolding key
-key-unused u v x e h = rw (sym e ∙ h)
-
-entry-limits : (g : Geometry) (e : Entry) (ok : Bool) → goodGeometry g ≡ true → ok ≡ goodEntry (g .blocks) (g .disk) e → not ok ≡ false
-    → (e .number < NONE) × (e .current < NONE)
-entry-limits g e ok good q h =
-    let l : Limits g = limits g good in
-    let a : Allowed (g .blocks) (g .disk) e = allowed (g .blocks) (g .disk) e (omega arith) (omega arith) (sym q ∙ not-false ok h) in
-    omega arith
-
-pub number-small : (g : Geometry) (c : List ℕ) (e : Entry) (ok : Bool) → Fitted g c → ok ≡ goodEntry (g .blocks) (g .disk) e → not ok ≡ false → e .number < NONE
-number-small g c e ok f q h = entry-limits g e ok (f .good) q h .0
-
-pub current-small : (g : Geometry) (c : List ℕ) (e : Entry) (ok : Bool) → Fitted g c → ok ≡ goodEntry (g .blocks) (g .disk) e → not ok ≡ false → e .current < NONE
-current-small g c e ok f q h = entry-limits g e ok (f .good) q h .1
+use Rattle.checks.proofs.Quarters.{zeroQuarters, quarters-unused, quarters-key, quarters-number, quarters-role}
 
 -- ---- a row of keys
 
@@ -81,30 +62,84 @@ listed-start g c ns cs a b = record {
   long = (a, b);
 }
 
-pub listed-turn : (g : Geometry) (c : List ℕ) (i : ℕ) (quiet : Bool) (ns cs : List ℕ) (e : Entry) (ok role : Bool) (kn kc : ℕ) → Fitted g c
-    → i < g .blocks → Listed g c i quiet ns cs → e ≡ entryAt g c i → ok ≡ goodEntry (g .blocks) (g .disk) e → not ok ≡ false
-    → kn ≡ key (inUse e) (e .number) → kc ≡ key (inUse e) (e .current) → role ≡ hasLogRole e
-    → Listed g c (i + 1) (quiet && not role) (set ns i kn) (set cs i kc)
-unfolding allBelow goodEntryAt roleFreeAt numberKey currentKey usedAt
-listed-turn g c i quiet ns cs e ok role kn kc f l h q p o kn-is kc-is r =
-    let k : Limits g = limits g (f .good) in
-    record {
-      good = all-more (goodEntryAt g c) i (h .good) (ap (goodEntry (g .blocks) (g .disk)) (sym q) ∙ sym p ∙ not-false ok o);
-      silent = (λ t. h .silent t && not ((r ∙ ap hasLogRole q) t)) ∙ ap (allBelow (roleFreeAt g c)) (sym (add-one i));
-      numbers = lists-more (numberKey g c) ns i kn (omega arith) (h .numbers) (kn-is ∙ ap (λ (x : Entry). key (inUse x) (x .number)) q);
-      currents = lists-more (currentKey g c) cs i kc (omega arith) (h .currents) (kc-is ∙ ap (λ (x : Entry). key (inUse x) (x .current)) q);
-      long = (length-set ns i kn ∙ h .long .0, length-set cs i kc ∙ h .long .1);
-    }
-
-pub listed-bad : (g : Geometry) (c : List ℕ) (i : ℕ) (ns cs : List ℕ) (e : Entry) (ok : Bool) → i < g .blocks → e ≡ entryAt g c i
-    → ok ≡ goodEntry (g .blocks) (g .disk) e → not ok ≡ true → Decoded g c ns cs (record { fits = false; quiet = false })
-unfolding entriesFit goodEntryAt
-listed-bad g c i ns cs e ok l q p o = record {
-  fits = sym (all-fails (goodEntryAt g c) (g .blocks) i l (ap (goodEntry (g .blocks) (g .disk)) (sym q) ∙ sym p ∙ not-true ok o));
-  quiet = λ h. absurd-bool h refl;
-  numbers = λ h. absurd-bool h refl;
-  currents = λ h. absurd-bool h refl;
+listed-step : (g : Geometry) (c : List ℕ) (i : ℕ) (quiet r : Bool) (ns cs : List ℕ) (kn kc : ℕ) → i < 128 → Listed g c i quiet ns cs
+    → goodEntryAt g c i ≡ true → r ≡ roleFreeAt g c i → kn ≡ numberKey g c i → kc ≡ currentKey g c i
+    → Listed g c (i + 1) (quiet && r) (set ns i kn) (set cs i kc)
+unfolding allBelow
+listed-step g c i quiet r ns cs kn kc l h good free kn-is kc-is = record {
+  good = all-more (goodEntryAt g c) i (h .good) good;
+  silent = (λ t. h .silent t && free t) ∙ ap (allBelow (roleFreeAt g c)) (sym (add-one i));
+  numbers = lists-more (numberKey g c) ns i kn (omega arith) (h .numbers) kn-is;
+  currents = lists-more (currentKey g c) cs i kc (omega arith) (h .currents) kc-is;
+  long = (length-set ns i kn ∙ h .long .0, length-set cs i kc ∙ h .long .1);
 }
+
+and-true : (b : Bool) → b && true ≡ b
+and-true true = refl
+and-true false = refl
+
+-- entry i of a card that fits, read as four quarters
+pub record Split (g : Geometry) (c : List ℕ) (i x l p q : ℕ) : Type 0 where
+  pub fitted : Fitted g c
+  pub below : i < g .blocks
+  pub bytes : Bytes c
+  pub first : Quarter g c i 0 x
+  pub second : Quarter g c i 4 l
+  pub third : Quarter g c i 8 p
+  pub fourth : Quarter g c i 12 q
+
+module _ {g : Geometry} {c : List ℕ} {i x l p q : ℕ} (s : Split g c i x l p q) where
+  quarters-entry : quartersEntry x l p q ≡ entryAt g c i
+  unfolding quartersEntry entryAt entryPlace
+  quarters-entry =
+      let k : Room g c = room g c (s .fitted) in
+      let b : i < g .blocks = s .below in
+      let at : ℕ = entryPlace g i in
+      let x′ : x ≡ numberAt c at 4 = s .first .value ∙ ap (λ (v : ℕ). numberAt c v 4) (add-zero at) in
+      (λ t. quartersEntry (x′ t) (s .second .value t) (s .third .value t) (s .fourth .value t)) ∙ sym (entry-quarters c at (s .bytes) (omega arith))
+
+  small : i < 128
+  small = let k : Room g c = room g c (s .fitted) in let b : i < g .blocks = s .below in omega arith
+
+  pub listed-unused : {quiet : Bool} {ns cs : List ℕ} → Listed g c i quiet ns cs → zeroQuarters x l p q ≡ true
+      → Listed g c (i + 1) quiet (set ns i NONE) (set cs i NONE)
+  unfolding goodEntryAt goodEntry isUnused roleFreeAt hasLogRole numberKey currentKey usedAt inUse key
+  listed-unused {quiet} {ns} {cs} h e =
+      let z : entryAt g c i ≡ unused = sym quarters-entry ∙ quarters-unused x l p q e in
+      subst (λ (v : Bool). Listed g c (i + 1) v (set ns i NONE) (set cs i NONE)) (and-true quiet)
+      (listed-step g c i quiet true ns cs NONE NONE small h
+      (ap (goodEntry (g .blocks) (g .disk)) z)
+      (sym (ap (λ (e : Entry). not (hasLogRole e)) z))
+      (sym (ap (λ (e : Entry). key (inUse e) (e .number)) z))
+      (sym (ap (λ (e : Entry). key (inUse e) (e .current)) z)))
+
+  pub listed-bad : (ns cs : List ℕ) {ok : Bool} → ok ≡ goodEntry (g .blocks) (g .disk) (quartersEntry x l p q) → not ok ≡ true
+      → Decoded g c ns cs (record { fits = false; quiet = false })
+  unfolding entriesFit goodEntryAt
+  listed-bad ns cs {ok} r o = record {
+    fits =
+        sym (all-fails (goodEntryAt g c) (g .blocks) i (s .below) (ap (goodEntry (g .blocks) (g .disk)) (sym quarters-entry) ∙ sym r ∙ not-true ok o));
+    quiet = λ h. absurd-bool h refl;
+    numbers = λ h. absurd-bool h refl;
+    currents = λ h. absurd-bool h refl;
+  }
+
+  pub listed-used : {quiet : Bool} {ns cs : List ℕ} {ok : Bool} → Listed g c i quiet ns cs → zeroQuarters x l p q ≡ false
+      → ok ≡ goodEntry (g .blocks) (g .disk) (quartersEntry x l p q) → not ok ≡ false
+      → Listed g c (i + 1) (quiet && not (eqb x 0x83000000)) (set ns i l) (set cs i q)
+  unfolding goodEntryAt roleFreeAt numberKey currentKey usedAt quartersEntry
+  listed-used {quiet} {ns} {cs} {ok} h z r o =
+      let k : Room g c = room g c (s .fitted) in
+      let b : p < 2 ^ 32 = s .third .below in
+      let d : g .disk ≤ 65536 = omega arith in
+      let good : goodEntry (g .blocks) (g .disk) (quartersEntry x l p q) ≡ true = sym r ∙ not-false ok o in
+      listed-step g c i quiet (not (eqb x 0x83000000)) ns cs l q small h
+      (ap (goodEntry (g .blocks) (g .disk)) (sym quarters-entry) ∙ good)
+      (quarters-role (g .blocks) (g .disk) x l p q d b z good ∙ ap (λ (e : Entry). not (hasLogRole e)) quarters-entry)
+      (quarters-number (g .blocks) (g .disk) x l p q d b z good
+      ∙ quarters-key (g .blocks) (g .disk) x l p q d b z good (quartersEntry x l p q .number)
+      ∙ ap (λ (e : Entry). key (inUse e) (e .number)) quarters-entry)
+      (quarters-key (g .blocks) (g .disk) x l p q d b z good q ∙ ap (λ (e : Entry). key (inUse e) (e .current)) quarters-entry)
 
 pub listed-end : (g : Geometry) (c : List ℕ) (i : ℕ) (quiet : Bool) (ns cs : List ℕ) → Listed g c i quiet ns cs → g .blocks ≤ i → i ≤ g .blocks
     → Decoded g c ns cs (record { fits = true; quiet = quiet })

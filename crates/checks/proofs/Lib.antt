@@ -1,4 +1,5 @@
 pub mod Keys
+pub mod Quarters
 pub mod Marks
 pub mod Chain
 pub mod Settled

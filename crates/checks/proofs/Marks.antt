@@ -1,18 +1,16 @@
 -- The turns of a search for equal keys by marks: after i keys, block v is marked exactly where one of them is v. Assumes nothing.
-use Prim.Native.Nat.{ℕ, zero, suc, _+_, _≤_, _<_}
+use Prim.Native.Nat.{ℕ, _+_, _≤_, _<_}
 use mathlib.Core.List.{List}
-use mathlib.Core.Bool.{Bool, true, false, cond, not, _&&_}
+use mathlib.Core.Bool.{Bool, true, false, cond}
 use mathlib.Core.Logic.{⊎-elim}
 use mathlib.Core.Path.{_≡_, refl, sym, ap, _∙_, subst}
-use native.Mathlib.Numerals.{add-one}
 use native.Mathlib.Omega.{arith}
 use lib.ListN.{length, getD, set, replicate, length-set, length-replicate, getD-replicate}
 use lib.Seq.{getD-set-same, getD-set-other}
-use lib.Dec.{eqb, ltb}
 use borrow.Author.Tests.{lt-ltb, le-ltb, eq-eqb, ne-eqb}
 use Rattle.protocol.specs.Below.{allBelow, anyBelow}
 use Rattle.protocol.proofs.Below.{same-or-other, all-more, all-fails, all-done, any-hit, any-miss}
-use Rattle.checks.specs.Keys.{keyed, lone, distinct, keyAt}
+use Rattle.checks.specs.Keys.{keyed, lone, distinct}
 
 -- 1 where the test holds
 abbrev pub bit : Bool → ℕ

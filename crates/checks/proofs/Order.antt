@@ -1,14 +1,14 @@
 -- Checks 4 to 7 in their order. Assumes nothing.
-use Prim.Native.Nat.{ℕ, _+_, _≤_, _<_}
+use Prim.Native.Nat.{ℕ, _<_}
 use mathlib.Core.List.{List}
 use mathlib.Core.Bool.{Bool, true, false, not, _&&_}
-use mathlib.Core.Path.{_≡_, refl, sym, ap, _∙_}
+use mathlib.Core.Path.{_≡_, sym, _∙_}
 use native.Mathlib.Omega.{arith}
 use lib.Dec.{eqb, ltb}
 use borrow.Author.Tests.{ltb-true, not-true, not-false}
 use Rattle.protocol.specs.declared.Geometry.{Geometry}
 use Rattle.protocol.specs.Below.{allBelow}
-use Rattle.protocol.specs.Ring.{headOf, tailOf, windowOf, roleFreeAt, isSettled}
+use Rattle.protocol.specs.Ring.{headOf, tailOf, windowOf, isSettled}
 use Rattle.protocol.specs.Check.{refuse, _orElse_, windowNumberFits, ringFits, entriesFit, entriesApart, damageRefusal, cardRefusal}
 use Rattle.protocol.proofs.Below.{and-left, and-right}
 use Rattle.protocol.proofs.Checks.{refuse-passed, refuse-failed, orElse-first, orElse-next}

@@ -1,17 +1,15 @@
 -- Undoable entries and the keys of settled blocks, and check 6 put together from distinct keys. Assumes nothing.
-use Prim.Native.Nat.{ℕ, _+_, _≤_, _<_}
+use Prim.Native.Nat.{ℕ}
 use mathlib.Core.List.{List}
 use mathlib.Core.Bool.{Bool, true, false, cond, not, _&&_}
-use mathlib.Core.Path.{_≡_, refl, sym, ap, _∙_}
-use native.Mathlib.Omega.{arith}
+use mathlib.Core.Path.{_≡_, sym, ap, _∙_}
 use borrow.Author.Tests.{not-true, not-false}
 use Rattle.protocol.specs.declared.Geometry.{Geometry}
 use Rattle.protocol.specs.declared.Entry.{Entry}
 use Rattle.protocol.specs.Entry.{entryAt, inUse, hasLogRole}
 use Rattle.protocol.specs.Ring.{inWindow, usedAt, undoableAt, settledBlock, isSettled}
-use Rattle.protocol.specs.Check.{entriesFit, entriesApart}
+use Rattle.protocol.specs.Check.{entriesApart}
 use Rattle.protocol.proofs.Below.{and-fails}
-use Rattle.ring.specs.Fitted.{Fitted}
 use Rattle.checks.specs.Keys.{NONE, key, numberKey, currentKey, settledKey, undoableEntry, distinct, keyAt, Lists}
 use Rattle.checks.specs.Passed.{Comparable}
 use Rattle.checks.proofs.Keys.{distinct-same, apart-keys, settled-keys}

@@ -1,3 +1,4 @@
 pub mod Keys
 pub mod Chain
+pub mod Quarters
 pub mod Passed

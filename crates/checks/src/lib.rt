@@ -7,12 +7,13 @@ ghost use mathlib.Core.Bool.{false};
 ghost use Prim.Native.Nat.{_≤_, _<_};
 ghost use lib.ListN.{length};
 ghost use Rattle.protocol.specs.Below.{anyBelow, firstBelow};
-ghost use Rattle.protocol.specs.Entry.{entryAt, inUse};
+ghost use Rattle.protocol.specs.Entry.{entryAt, goodEntry};
 ghost use Rattle.protocol.specs.Ring.{findEntry};
 ghost use Rattle.protocol.specs.Check.{entriesApart, damageRefusal, cardRefusal};
 ghost use Rattle.ring.specs.Fitted.{Fitted, Placed, WindowOf};
-ghost use Rattle.checks.specs.Keys.{NONE, key, settledKey, undoableEntry, keyed, distinct, keyAt};
+ghost use Rattle.checks.specs.Keys.{NONE, settledKey, undoableEntry, keyed, distinct, keyAt};
 ghost use Rattle.checks.specs.Chain.{Chained};
+ghost use Rattle.checks.specs.Quarters.{quartersEntry, Quarter};
 ghost use Rattle.checks.specs.Passed.{Decoded, Comparable, Inspected};
 
 // Entry i of the card.
@@ -24,12 +25,25 @@ pub fn entry_of(g: Geometry, card: &[u8], i: usize) -> Entry
     codec::entry_at(card, at as usize)
 }
 
-// The key of an entry: x, or where it is unused a number that no block has.
-fn key_of(e: Entry, x: u64) -> u32
-    requires { ⌜ x < NONE ⌝ }
-    ensures { λ r. ⌜ r ≡ key (inUse e) x ⌝ }
+// The four bytes of entry i that start at its byte `from`.
+fn quarter_of(g: Geometry, card: &[u8], i: usize, from: usize) -> u64
+    requires { ⌜ Fitted g (now card) × (i < g .blocks) × (from ≤ 12) ⌝ }
+    ensures { λ r. ⌜ Quarter g (now (card .entry)) i from r ⌝ }
 {
-    if codec::in_use(e) { x as u32 } else { 65536 }
+    let at = 128 + 8 * g.slots + 16 * i as u64;
+    numbers::get(card, at as usize + from, 4)
+}
+
+// What check 5 allows, of an entry in its quarters. Each is compared whole, so that the compiler makes one read of it; FRESH passes as
+// the number before 0.
+fn good_quarters(n: u64, d: u64, x: u64, l: u64, p: u64, q: u64) -> bool
+    requires { ⌜ (d ≤ 65536) × (p < 4294967296) ⌝ }
+    ensures { λ r. ⌜ r ≡ goodEntry n d (quartersEntry x l p q) ⌝ }
+{
+    let unused = (x == 0) & ((l == 0) & ((p == 0) & (q == 0)));
+    let allowed = (x == 0x8000_0000) | ((x == 0x8200_0000) | (x == 0x8300_0000));
+    let held = (p + 1) % 0x1_0000_0000 <= n;
+    unused | (allowed & ((l < d) & ((q < n) & held)))
 }
 
 // What one pass over the entries finds: whether check 5 allows them all, and whether none has R.
@@ -38,7 +52,7 @@ pub struct Seen {
     pub quiet: bool,
 }
 
-// One pass over the entries, each decoded once: not 5, and the keys of their numbers and current blocks for check 6.
+// One pass over the entries, each read once: not 5, and the keys of their numbers and current blocks for check 6.
 fn decode(g: Geometry, card: &[u8], ids: &mut [u32; 128], currents: &mut [u32; 128]) -> Seen
     requires { ⌜ Fitted g (now card) × (length (now ids) ≡ 128) × (length (now currents) ≡ 128) ⌝ }
     ensures { λ r. ⌜ Decoded g (now (card .entry)) (now (ids .exit)) (now (currents .exit)) r ⌝ }
@@ -47,17 +61,26 @@ fn decode(g: Geometry, card: &[u8], ids: &mut [u32; 128], currents: &mut [u32; 1
     let mut quiet = true;
     let mut i: usize = 0;
     while i < n {
-        let e = entry_of(g, card, i);
-        if !codec::good_entry(g.blocks, g.disk, e) {
-            return Seen {
-                fits: false,
-                quiet: false,
-            };
-        }
-        ids[i] = key_of(e, e.number);
-        currents[i] = key_of(e, e.current as u64);
-        quiet = quiet & !codec::has_log_role(e);
+        let at = i;
+        let x = quarter_of(g, card, at, 0);
+        let l = quarter_of(g, card, at, 4);
+        let p = quarter_of(g, card, at, 8);
+        let q = quarter_of(g, card, at, 12);
         i += 1;
+        if (x == 0) & ((l == 0) & ((p == 0) & (q == 0))) {
+            ids[at] = 65536;
+            currents[at] = 65536;
+        } else {
+            if !good_quarters(g.blocks, g.disk, x, l, p, q) {
+                return Seen {
+                    fits: false,
+                    quiet: false,
+                };
+            }
+            ids[at] = l as u32;
+            currents[at] = q as u32;
+            quiet = quiet & (x != 0x8300_0000);
+        }
     }
     Seen {
         fits: true,

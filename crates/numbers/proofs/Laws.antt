@@ -33,6 +33,15 @@ be-cons : (b : ℕ) (bs : List ℕ) → be (b ∷ bs) ≡ b * 256 ^ length bs + 
 unfolding beFrom be
 be-cons b bs = ap (λ (n : ℕ). beFrom n bs) (zero-add b) ∙ beFrom-apart b bs
 
+beFrom-append : (acc : ℕ) (hs ls : List ℕ) → beFrom acc (hs ++ ls) ≡ beFrom (beFrom acc hs) ls
+unfolding beFrom
+beFrom-append acc [] ls = refl
+beFrom-append acc (h ∷ hs) ls = beFrom-append (acc * 256 + h) hs ls
+
+be-append : (hs ls : List ℕ) → be (hs ++ ls) ≡ be hs * 256 ^ length ls + be ls
+unfolding be
+be-append hs ls = beFrom-append 0 hs ls ∙ beFrom-apart (beFrom 0 hs) ls
+
 pub length-bytes : (w v : ℕ) → length (bytesBE w v) ≡ w
 unfolding bytesBE
 length-bytes zero v = refl
@@ -362,3 +371,31 @@ pub number-below : (xs : List ℕ) (at w : ℕ) → Bytes xs → at + w ≤ leng
 unfolding numberAt
 number-below xs at w h k =
     subst (λ (n : ℕ). be (part xs at w) < 256 ^ n) (length-part xs at w k) (be-below (part xs at w) (bytes-part xs at w h))
+
+pub number-one : (xs : List ℕ) (at : ℕ) → at < length xs → numberAt xs at 1 ≡ getD xs at 0
+unfolding numberAt be beFrom
+number-one xs at h = ap be (part-one xs at h) ∙ zero-add (getD xs at 0)
+
+-- ---- a number in two parts
+
+module _ (xs : List ℕ) (at m n : ℕ) (bytes : Bytes xs) (fits : at + m + n ≤ length xs) where
+  pub number-split : numberAt xs at (m + n) ≡ numberAt xs at m * 256 ^ n + numberAt xs (at + m) n
+  unfolding numberAt
+  number-split =
+      ap be (part-append xs at m n)
+      ∙ be-append (part xs at m) (part xs (at + m) n)
+      ∙ ap (λ (k : ℕ). be (part xs at m) * 256 ^ k + be (part xs (at + m) n)) (length-part xs (at + m) n fits)
+
+  -- the high part and the low part, by a division
+  pub number-high : numberAt xs at (m + n) / 256 ^ n ≡ numberAt xs at m
+  number-high =
+      ap (λ (v : ℕ). v / 256 ^ n) number-split
+      ∙ mul-add-div-right (pow-positive n) (numberAt xs at m) (numberAt xs (at + m) n)
+      ∙ ap (λ (v : ℕ). numberAt xs at m + v) (div-eq-of-lt (number-below xs (at + m) n bytes fits))
+      ∙ add-zero (numberAt xs at m)
+
+  pub number-low : numberAt xs at (m + n) % 256 ^ n ≡ numberAt xs (at + m) n
+  number-low =
+      ap (λ (v : ℕ). v % 256 ^ n) number-split
+      ∙ mul-add-mod-self-right (numberAt xs at m) (256 ^ n) (numberAt xs (at + m) n)
+      ∙ mod-eq-of-lt (number-below xs (at + m) n bytes fits)

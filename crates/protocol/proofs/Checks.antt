@@ -1,20 +1,22 @@
--- Laws of the checks' definitions: refusals in order, and the limits of a good geometry and of an allowed entry as orders of
--- numbers. Assumes nothing.
-use Prim.Native.Nat.{ℕ, zero, suc, _*_, _^_, _≤_, _<_}
-use mathlib.Core.Bool.{Bool, true, false, _&&_, _||_}
-use mathlib.Core.Logic.{_⊎_, inl, inr, ⊎-elim}
+-- Laws of the checks' definitions: refusals in order, the limits of a good geometry as orders of numbers, and an entry's bytes as
+-- four quarters. Assumes nothing.
+use Prim.Native.Nat.{ℕ, zero, suc, _+_, _*_, _/_, _%_, _^_, _≤_, _<_}
+use mathlib.Core.List.{List}
+use mathlib.Core.Bool.{Bool, true, false, _&&_}
 use mathlib.Core.Path.{_≡_, refl, sym, _∙_}
 use native.Mathlib.Nat.{mul-le-mul}
 use native.Mathlib.Omega.{arith}
-use lib.Dec.{leb, ltb, eqb}
+use lib.ListN.{length, getD}
+use lib.Dec.{leb}
 use lib.Pow.{pow-mono}
-use borrow.Author.Tests.{leb-true, ltb-true, eqb-true}
+use borrow.Author.Tests.{leb-true}
+use Rattle.numbers.specs.Bytes.{numberAt, Bytes}
+use Rattle.numbers.proofs.Laws.{number-one, number-split, number-high, number-low}
 use Rattle.protocol.specs.declared.Geometry.{Geometry}
-use Rattle.protocol.specs.declared.Entry.{Entry}
 use Rattle.protocol.specs.Layout.{between, goodK, goodSlots, goodBlocks, goodDisk, goodGeometry, blockSize}
-use Rattle.protocol.specs.Entry.{FRESH, allowedFlags, isUnused, goodEntry}
+use Rattle.protocol.specs.Entry.{entryOf, entryIn}
 use Rattle.protocol.specs.Check.{refuse, _orElse_}
-use Rattle.protocol.proofs.Below.{and-left, and-right, or-true}
+use Rattle.protocol.proofs.Below.{and-left, and-right}
 
 -- ---- refusals in order: r is the answer of what stands right of it
 
@@ -85,37 +87,16 @@ limits g h =
       disk-data = mul-le-mul (d .1) b;
     }
 
--- ---- an entry that check 5 allows
+-- ---- an entry's sixteen bytes as four quarters
 
--- its fields' limits; an unused entry's are zero
-pub record Allowed (n d : ℕ) (e : Entry) : Type 0 where
-  pub number : e .number < d
-  pub current : e .current < n
-  pub previous : (e .previous < n) ⊎ (e .previous ≡ FRESH)
-
-unused-allowed : (n d : ℕ) (e : Entry) → 0 < n → 0 < d → isUnused e ≡ true → Allowed n d e
-unfolding isUnused
-unused-allowed n d e hn hd h =
-    let rest = and-right (eqb (e .flags) 0) _ h in
-    let blocks = and-right (eqb (e .number) 0) _ rest in
-    let a : e .number ≡ 0 = eqb-true _ _ (and-left (eqb (e .number) 0) _ rest) in
-    let b : e .previous ≡ 0 = eqb-true _ _ (and-left (eqb (e .previous) 0) _ blocks) in
-    let c : e .current ≡ 0 = eqb-true _ _ (and-right (eqb (e .previous) 0) _ blocks) in
-    record { number = omega arith; current = omega arith; previous = inl (omega arith) }
-
-used-allowed : (n d : ℕ) (e : Entry)
-    → ltb (e .number) d && (ltb (e .current) n && (ltb (e .previous) n || eqb (e .previous) FRESH)) ≡ true → Allowed n d e
-used-allowed n d e h =
-    let blocks = and-right (ltb (e .number) d) _ h in
-    record {
-      number = ltb-true _ _ (and-left (ltb (e .number) d) _ h);
-      current = ltb-true _ _ (and-left (ltb (e .current) n) _ blocks);
-      previous =
-          ⊎-elim (λ q. inl (ltb-true (e .previous) n q)) (λ q. inr (eqb-true (e .previous) FRESH q))
-          (or-true (ltb (e .previous) n) _ (and-right (ltb (e .current) n) _ blocks));
-    }
-
-pub allowed : (n d : ℕ) (e : Entry) → 0 < n → 0 < d → goodEntry n d e ≡ true → Allowed n d e
-unfolding goodEntry
-allowed n d e hn hd h =
-    ⊎-elim (unused-allowed n d e hn hd) (λ q. used-allowed n d e (and-right (allowedFlags (e .flags)) _ q)) (or-true (isUnused e) _ h)
+pub entry-quarters : (xs : List ℕ) (at : ℕ) → Bytes xs → at + 16 ≤ length xs → entryIn xs at
+    ≡ entryOf (numberAt xs at 4 / 2 ^ 24) (numberAt xs at 4 % 2 ^ 24 * 2 ^ 32 + numberAt xs (at + 4) 4) (numberAt xs (at + 8) 4)
+    (numberAt xs (at + 12) 4)
+unfolding entryIn
+entry-quarters xs at bytes h =
+    let q : at + 1 + 3 ≡ at + 4 = omega arith in
+    let f : getD xs at 0 ≡ numberAt xs at 4 / 2 ^ 24 = sym (number-high xs at 1 3 bytes (omega arith) ∙ number-one xs at (omega arith)) in
+    let b : numberAt xs (at + 1) 7 ≡ numberAt xs at 4 % 2 ^ 24 * 2 ^ 32 + numberAt xs (at + 4) 4 =
+    number-split xs (at + 1) 3 4 bytes (omega arith)
+    ∙ (λ t. sym (number-low xs at 1 3 bytes (omega arith)) t * 2 ^ 32 + numberAt xs (q t) 4) in
+    λ t. entryOf (f t) (b t) (numberAt xs (at + 8) 4) (numberAt xs (at + 12) 4)

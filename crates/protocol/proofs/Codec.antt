@@ -2,25 +2,26 @@
 -- stood; what format leaves in each part of the card. By computing with the fields' fixed places; assumes nothing.
 use Prim.Native.Nat.{ℕ, zero, suc, _+_, _*_, _-_, _^_, _≤_, _<_}
 use mathlib.Core.List.{List, _++_}
-use mathlib.Core.Bool.{Bool, true, false, cond, _&&_, _||_}
-use mathlib.Core.Path.{_≡_, refl, sym, ap, _∙_}
+use mathlib.Core.Bool.{Bool, true, false, cond, _&&_}
+use mathlib.Core.Path.{_≡_, refl, sym, ap, subst, _∙_}
 use mathlib.Core.Logic.{⊎-elim}
 use native.Mathlib.Omega.{arith}
 use lib.ListN.{length, getD, replicate, length-append, length-replicate, getD-replicate}
 use lib.Seq.{getD-drop, ext-getD}
-use lib.Dec.{eqb, ltb}
-use borrow.Author.Tests.{eqb-true, ltb-true, eq-eqb}
+use lib.Dec.{eqb}
+use borrow.Author.Tests.{eqb-true, eq-eqb}
 use Rattle.numbers.specs.Bytes.{beFrom, be, bytesBE, part, numberAt, patch, Bytes}
 use Rattle.numbers.proofs.Laws.{be-bytes, bytes-be, bytes-part, length-part, getD-part, part-part, part-append, part-one, part-all, length-patch, patch-append, getD-patch-in, part-patch-same, part-patch-before, part-patch-after}
 use Rattle.protocol.specs.declared.Geometry.{Geometry}
 use Rattle.protocol.specs.declared.Entry.{Entry}
 use Rattle.protocol.specs.declared.Decoded.the-variants.{Fields, Refused}
 use Rattle.protocol.specs.Layout.{between, goodK, goodSlots, goodBlocks, goodDisk, goodGeometry, cardLength, headerBytes, geometryOf, zeroFrom, goodHeader}
-use Rattle.protocol.specs.Entry.{FRESH, entryOf, entryBytes, entryIn, allowedFlags, isUnused, goodEntry}
+use Rattle.protocol.specs.Entry.{FRESH, entryOf, unused, entryBytes, entryIn, goodEntry}
 use Rattle.protocol.specs.Check.{refuse, _orElse_}
 use Rattle.protocol.specs.Format.{formatted, entryRefusal, decoded, encoded}
+use Rattle.protocol.proofs.Allowed.{UsedEntry, good-cases}
 use Rattle.protocol.proofs.Checks.{Limits, limits}
-use Rattle.protocol.proofs.Below.{and-left, and-right, and-both, or-true, all-of}
+use Rattle.protocol.proofs.Below.{and-left, and-right, and-both, all-of}
 
 -- ---- an entry
 
@@ -30,33 +31,21 @@ pub record EntryFits (e : Entry) : Type 0 where
   pub previous : e .previous < 256 ^ 4
   pub current : e .current < 256 ^ 4
 
-unused-fits : (e : Entry) → isUnused e ≡ true → EntryFits e
-unfolding isUnused
-unused-fits e h =
-    let rest = and-right (eqb (e .flags) 0) _ h in
-    let blocks = and-right (eqb (e .number) 0) _ rest in
-    let a : e .number ≡ 0 = eqb-true _ _ (and-left (eqb (e .number) 0) _ rest) in
-    let b : e .previous ≡ 0 = eqb-true _ _ (and-left (eqb (e .previous) 0) _ blocks) in
-    let c : e .current ≡ 0 = eqb-true _ _ (and-right (eqb (e .previous) 0) _ blocks) in
-    record { number = omega arith; previous = omega arith; current = omega arith }
-
-used-fits : (n d : ℕ) (e : Entry) → n ≤ 128 → d ≤ 65536
-    → ltb (e .number) d && (ltb (e .current) n && (ltb (e .previous) n || eqb (e .previous) FRESH)) ≡ true → EntryFits e
-used-fits n d e hn hd h =
-    let blocks = and-right (ltb (e .number) d) _ h in
-    let a : e .number < d = ltb-true _ _ (and-left (ltb (e .number) d) _ h) in
-    let c : e .current < n = ltb-true _ _ (and-left (ltb (e .current) n) _ blocks) in
-    let b : e .previous < 256 ^ 4 =
-    ⊎-elim (λ q. omega (arith, ltb-true (e .previous) n q)) (λ q. omega (arith, eqb-true (e .previous) FRESH q))
-    (or-true (ltb (e .previous) n) _ (and-right (ltb (e .current) n) _ blocks)) in
-    record { number = omega arith; previous = b; current = omega arith }
+used-fits : (n d : ℕ) (e : Entry) → n ≤ 128 → d ≤ 65536 → UsedEntry n d e → EntryFits e
+used-fits n d e hn hd u = record {
+  number = omega arith;
+  previous = ⊎-elim (λ (q : e .previous < n). omega arith) (λ (q : e .previous ≡ FRESH). omega arith) (u .previousBelow);
+  current = omega arith;
+}
 
 pub good-fits : (n d : ℕ) (e : Entry) → goodBlocks n ≡ true → goodDisk d ≡ true → goodEntry n d e ≡ true → EntryFits e
-unfolding goodEntry between goodK goodSlots goodGeometry
+unfolding between goodK goodSlots goodGeometry
 good-fits n d e hn hd h =
     let l : Limits (record { k = 9; slots = 8; blocks = n; disk = d }) = limits _ (and-both hn hd) in
-    ⊎-elim (unused-fits e) (λ q. used-fits n d e (l .blocks .1) (l .disk .1) (and-right (allowedFlags (e .flags)) _ q))
-    (or-true (isUnused e) _ h)
+    ⊎-elim
+    (λ (q : e ≡ unused). subst EntryFits (sym q) (record { number = omega arith; previous = omega arith; current = omega arith }))
+    (used-fits n d e (l .blocks .1) (l .disk .1))
+    (good-cases n d e h)
 
 pub length-entry : (e : Entry) → length (entryBytes e) ≡ 16
 unfolding entryBytes bytesBE

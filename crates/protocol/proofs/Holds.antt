@@ -1,29 +1,28 @@
 -- What the invariant gives: the card passes checks 1 to 6, and on a settled card the contents of each block, and what read and look hand out,
 -- are the row's. Assumes nothing.
-use Prim.Native.Nat.{ℕ, zero, suc, _+_, _*_, _-_, _≤_, _<_}
+use Prim.Native.Nat.{ℕ, _≤_, _<_}
 use mathlib.Core.List.{List}
 use mathlib.Core.Bool.{Bool, true, false, cond, not, _&&_, _||_}
-use mathlib.Core.Option.{Option, none, some}
+use mathlib.Core.Option.{some}
 use mathlib.Core.Path.{_≡_, refl, sym, ap, subst, _∙_}
-use mathlib.Core.Logic.{_⊎_, inl, inr, ⊎-elim}
+use mathlib.Core.Logic.{⊎-elim}
 use native.Mathlib.Omega.{arith}
 use lib.ListN.{length}
 use lib.Dec.{eqb, ltb}
 use borrow.Author.Tests.{eqb-true, eq-eqb, lt-ltb, le-ltb, not-true}
-use Rattle.protocol.specs.declared.Entry.{Entry}
 use Rattle.protocol.specs.declared.Geometry.{Geometry}
 use Rattle.protocol.specs.Below.{anyBelow, firstBelow}
-use Rattle.protocol.specs.Layout.{goodHeader, geometryOf, cardLength, diskLength, blockAt, diskBlock, blockSize}
-use Rattle.protocol.specs.Entry.{FRESH, entryAt, inUse, hasLogRole, isModified, goodEntry, isUnused, allowedFlags}
-use Rattle.protocol.specs.Ring.{headOf, tailOf, windowLength, windowOf, windowHas, windowNumber, inWindow, usedAt, undoableAt, settledBlock, roleFreeAt, isSettled, entryFor, findEntry, cached, currentOf, contents}
+use Rattle.protocol.specs.Layout.{geometryOf, cardLength, blockAt, diskBlock, blockSize}
+use Rattle.protocol.specs.Entry.{FRESH, entryAt, inUse, hasLogRole, isModified}
+use Rattle.protocol.specs.Ring.{headOf, tailOf, windowLength, windowOf, windowHas, inWindow, usedAt, undoableAt, settledBlock, roleFreeAt, isSettled, entryFor, findEntry, cached, currentOf, contents}
 use Rattle.protocol.specs.Check.{refuse, _orElse_, headerFits, cardFits, diskFits, windowNumberFits, ringFits, goodEntryAt, entriesFit, alike, apart, apartBefore, entriesApart, fitRefusal, diskRefusal, damageRefusal, cardRefusal}
 use Rattle.protocol.specs.Load.{pairRefusal, blockRefusal}
 use Rattle.protocol.specs.Recover.{recoverRefusal}
 use Rattle.protocol.specs.Read.{outputRefusal, readRefusal, outputAfter, lookRefusal, lookedAt}
-use Rattle.protocol.proofs.Below.{either, absurd-bool, and-left, and-right, and-both, and-fails, or-true, or-false, or-left, or-right, all-of, all-at, First, found, missing, first-is, below-or-above}
+use Rattle.protocol.proofs.Below.{either, absurd-bool, and-left, and-right, and-both, and-fails, or-true, all-of, all-at, First, found, missing, first-is}
 use Rattle.protocol.proofs.Codec.{geometry-of-header, good-header}
 use Rattle.protocol.proofs.Invariant.{Kind, idle, live, pending, kindNumber, kindCurrent, kindPrevious, kindHome, View, Safe}
-use Rattle.protocol.proofs.Shape.{kindOf, kindAt, viewOf, Seen, seen-idle, seen-live, seen-pending, see, previousOf, previous-some, Shape, Inv, window-empty}
+use Rattle.protocol.proofs.Shape.{kindOf, kindAt, Seen, seen-idle, seen-live, seen-pending, see, previousOf, previous-some, Inv, window-empty}
 use Rattle.protocol.proofs.Steps.{undoable, undoable-at}
 
 -- ---- entries and their kinds

@@ -3,6 +3,10 @@ pub mod Allowed
 pub mod Below
 pub mod Checks
 pub mod Codec
+pub mod Committed
+pub mod Computing
+pub mod CutRule
+pub mod Example
 pub mod Holds
 pub mod Invariant
 pub mod Loaded

@@ -1,7 +1,7 @@
 -- Load and evict, cut anywhere, keep the invariant and the row; once all their stores are made the card is settled as before. Assumes nothing.
-use Prim.Native.Nat.{ℕ, zero, suc, _+_, _-_, _≤_, _<_}
+use Prim.Native.Nat.{ℕ, _<_}
 use mathlib.Core.List.{List, [], _∷_, _++_, append-nil}
-use mathlib.Core.Bool.{Bool, true, false, cond, not, _&&_, _||_}
+use mathlib.Core.Bool.{Bool, true, false, cond, _&&_, _||_}
 use mathlib.Core.Option.{Option, none, some}
 use mathlib.Core.Path.{_≡_, refl, sym, ap, subst, _∙_}
 use mathlib.Core.Logic.{_⊎_, inl, inr, ⊎-elim}
@@ -10,33 +10,32 @@ use lib.ListN.{length, take, getD}
 use lib.Seq.{take-length}
 use lib.Dec.{eqb}
 use borrow.Author.Tests.{leb-true, ltb-true, ltb-false, eqb-true, not-true}
-use Rattle.numbers.specs.Bytes.{part}
 use Rattle.numbers.proofs.Laws.{length-part}
 use Rattle.protocol.specs.declared.Entry.{Entry}
 use Rattle.protocol.specs.declared.Geometry.{Geometry}
-use Rattle.protocol.specs.Layout.{blockSize, blockAt, diskBlock, cardLength, diskLength, blockPlace, diskPlace}
+use Rattle.protocol.specs.Layout.{blockSize, blockAt, diskBlock, diskLength, blockPlace, diskPlace}
 use Rattle.protocol.specs.Entry.{FRESH, entryOf, unused, entryAt, inUse, isModified, hasLogRole, goodEntry}
-use Rattle.protocol.specs.Ring.{headOf, tailOf, inWindow, usedAt, undoableAt, roleFreeAt, isSettled, entryFor, findEntry, cached, currentOf}
-use Rattle.protocol.specs.Store.{card, disk, Store, Run, storedOn, madeOn, flat, single, words, sectors, entryStore}
+use Rattle.protocol.specs.Ring.{headOf, tailOf, inWindow, usedAt, roleFreeAt, isSettled, entryFor, findEntry, cached, currentOf}
+use Rattle.protocol.specs.Store.{card, disk, Store, storedOn, madeOn, flat, single, words, sectors, entryStore}
 use Rattle.protocol.specs.Search.{freeBlocks, unusedEntries}
 use Rattle.protocol.specs.Commit.{newBlock, roomFor}
 use Rattle.protocol.specs.Load.{cleanEntry, loadRuns, writeBack, evictRuns}
-use Rattle.protocol.proofs.Allowed.{UsedEntry, Flag, clean, used-good, unused-good, unused-used, unused-role, clean-used, clean-role, clean-modified}
-use Rattle.protocol.proofs.Below.{either, same-or-other, absurd-bool, and-left, and-right, all-at, First, found, missing, first-is, first-found, first-missed}
+use Rattle.protocol.proofs.Allowed.{clean, used-good, unused-good, unused-used, unused-role, clean-used, clean-role, clean-modified}
+use Rattle.protocol.proofs.Below.{same-or-other, absurd-bool, and-left, and-right, all-at, first-found, first-missed}
 use Rattle.protocol.proofs.Checks.{Limits, limits}
-use Rattle.protocol.proofs.Holds.{idle-kind, live-kind, used-number, number-used, used-current, empty-window, for-used, for-number, for-is, no-undoable}
-use Rattle.protocol.proofs.Invariant.{Kind, idle, live, pending, kindNumber, kindCurrent, kindPrevious, kindHome, View, Safe, Owes}
+use Rattle.protocol.proofs.Holds.{idle-kind, live-kind, number-used, empty-window, for-used, for-number, for-is, no-undoable}
+use Rattle.protocol.proofs.Invariant.{idle, live, kindNumber, kindCurrent, kindPrevious, kindHome, Owes}
 use Rattle.protocol.proofs.Made.{entry-changed, entry-stored, entry-elsewhere, words-changed, words-changed-all, words-elsewhere, words-stored, sectors-others, sectors-elsewhere, sectors-stored, in-disk}
 use Rattle.protocol.proofs.Passed.{EvictPassed, LoadPassed}
 use Rattle.protocol.proofs.Planned.{new-below, new-free, unused-below, unused-is, enough-unused, no-previous}
 use Rattle.protocol.proofs.Recovered.{fits-entry, idle-owes, settled-by}
 use Rattle.protocol.proofs.Region.{entry, block, in-card, place-block}
-use Rattle.protocol.proofs.Shape.{Changed, head-kept, tail-kept, entry-kept, block-kept, kindOf, kindAt, viewOf, Seen, seen-idle, seen-live, seen-pending, see, Shape, Inv}
-use Rattle.protocol.proofs.Steps.{undoable, entry-changes, run-in-block, run-in-home, block-kinds, window-calm, calm-block}
+use Rattle.protocol.proofs.Shape.{Changed, head-kept, tail-kept, entry-kept, kindOf, kindAt, viewOf, Seen, seen-idle, seen-live, seen-pending, see, Inv}
+use Rattle.protocol.proofs.Steps.{undoable, entry-changes, run-in-block, run-in-home, block-kinds}
 use Rattle.protocol.proofs.Stores.{Along, along-then, along-none, along-one, along-run, flat-append, flat-single, length-made}
 
 -- the invariant, of a settled card
-pub Rest : (g : Geometry) (row : ℕ → List ℕ) → List ℕ → List ℕ → Type 0
+abbrev pub Rest : (g : Geometry) (row : ℕ → List ℕ) → List ℕ → List ℕ → Type 0
 Rest g row c d = Inv g row c d × (isSettled g c ≡ true)
 
 -- ---- settled cards
@@ -161,7 +160,6 @@ module _ {g : Geometry} {row : ℕ → List ℕ} {c d : List ℕ} (v : Inv g row
               }
 
   cleared : (c′ d′ : List ℕ) → Written c′ d′ → Along (Inv g row) (Rest g row) (entryStore g i unused ∷ []) c′ d′
-  unfolding Rest
   cleared c′ d′ w = along-one (entryStore g i unused) c′ d′ (w .inv) after (after, settled-entry i settled′ ch (ap hasLogRole new ∙ unused-role))
     where
       ch : Changed g (entry i) c′ (storedOn card (entryStore g i unused) c′)
@@ -288,7 +286,7 @@ module _ {g : Geometry} {row : ℕ → List ℕ} {c d : List ℕ} (v : Inv g row
           }
 
   entered : (c′ d′ : List ℕ) → Copied c′ d′ → Along (Inv g row) (Rest g row) (entryStore g place-of new-entry ∷ []) c′ d′
-  unfolding Rest new-entry
+  unfolding new-entry
   entered c′ d′ w =
       along-one (entryStore g place-of new-entry) c′ d′ (w .inv) after
       (after, settled-entry place-of settled′ ch (ap hasLogRole new ∙ clean-role b FRESH q))

@@ -1,8 +1,7 @@
 -- What each store and each run of the operations leaves: which part of the card or of the disk changes, and what is read there afterwards.
 -- Assumes nothing.
-use Prim.Native.Nat.{ℕ, zero, suc, _+_, _*_, _-_, _/_, _^_, _≤_, _<_}
-use mathlib.Core.List.{List, [], _∷_}
-use mathlib.Core.Bool.{Bool, true, false, cond}
+use Prim.Native.Nat.{ℕ, _+_, _*_, _/_, _≤_, _<_}
+use mathlib.Core.List.{List}
 use mathlib.Core.Path.{_≡_, refl, sym, ap, subst, _∙_}
 use mathlib.Core.Logic.{_⊎_, inl, inr, ⊎-elim}
 use native.Mathlib.Omega.{arith}
@@ -13,13 +12,13 @@ use Rattle.numbers.proofs.Laws.{length-bytes, length-patch, number-patch-same}
 use Rattle.protocol.specs.declared.Entry.{Entry}
 use Rattle.protocol.specs.declared.Geometry.{Geometry}
 use Rattle.protocol.specs.Layout.{blockSize, blockAt, diskBlock, slotPlace, entryPlace, blockPlace, diskPlace, cardLength, diskLength}
-use Rattle.protocol.specs.Entry.{entryBytes, entryIn, entryAt}
+use Rattle.protocol.specs.Entry.{entryBytes, entryAt}
 use Rattle.protocol.specs.Ring.{headOf, tailOf, slotAt}
-use Rattle.protocol.specs.Store.{Medium, card, disk, Store, isOn, storedOn, madeOn, words, sectors, units, entryStore, wordStore, slotStore, headStore, tailStore}
+use Rattle.protocol.specs.Store.{card, disk, Store, isOn, storedOn, madeOn, words, sectors, units, entryStore, wordStore, slotStore, headStore, tailStore}
 use Rattle.protocol.proofs.Below.{below-or-above}
 use Rattle.protocol.proofs.Checks.{Limits}
 use Rattle.protocol.proofs.Codec.{EntryFits, entry-read-back, length-entry}
-use Rattle.protocol.proofs.Region.{Region, head, tail, slot, entry, block, place, size, Inside, Whole, whole, cell, cell-other, in-card, block-ends, regions-apart, place-slot, place-entry, place-block}
+use Rattle.protocol.proofs.Region.{Region, head, tail, slot, entry, block, place, size, Inside, whole, cell, cell-other, in-card, block-ends, regions-apart, place-slot, place-entry, place-block}
 use Rattle.protocol.proofs.Shape.{Changed}
 use Rattle.protocol.proofs.Stores.{Confined, confined-take, confined-part, confined-elsewhere, units-confined, units-stored, length-made}
 

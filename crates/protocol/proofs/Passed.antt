@@ -15,17 +15,17 @@ use Rattle.protocol.specs.Load.{pairRefusal, blockRefusal, loadRefusal, 
 use Rattle.protocol.proofs.Holds.{geometry-is, card-refuses, pair-refuses}
 use Rattle.protocol.proofs.Shape.{Inv}
 
-first-zero : (r s : ℕ) → r orElse s ≡ 0 → r ≡ 0
+pub first-zero : (r s : ℕ) → r orElse s ≡ 0 → r ≡ 0
 unfolding _orElse_
 first-zero zero s e = refl
 first-zero (suc r) s e = absurd (omega arith)
 
-second-zero : (r s : ℕ) → r orElse s ≡ 0 → s ≡ 0
+pub second-zero : (r s : ℕ) → r orElse s ≡ 0 → s ≡ 0
 unfolding _orElse_
 second-zero zero s e = e
 second-zero (suc r) s e = absurd (omega arith)
 
-passed : (r : ℕ) (b : Bool) → refuse (suc r) b ≡ 0 → b ≡ true
+pub passed : (r : ℕ) (b : Bool) → refuse (suc r) b ≡ 0 → b ≡ true
 unfolding refuse
 passed r true e = refl
 passed r false e = absurd (omega arith)

@@ -1,26 +1,24 @@
 -- What the searches give on a settled card that the invariant holds of: free data blocks that no entry names, unused entries, as many of
 -- these as of those. Assumes nothing.
-use Prim.Native.Nat.{ℕ, zero, suc, _+_, _-_, _%_, _≤_, _<_}
+use Prim.Native.Nat.{ℕ, _≤_, _<_}
 use mathlib.Core.List.{List}
-use mathlib.Core.Bool.{Bool, true, false, not, _&&_}
-use mathlib.Core.Option.{Option, none, some}
-use mathlib.Core.Path.{_≡_, refl, sym, ap, subst, _∙_}
-use mathlib.Core.Logic.{_⊎_, inl, inr, ⊎-elim}
+use mathlib.Core.Bool.{true, false}
+use mathlib.Core.Option.{none, some}
+use mathlib.Core.Path.{_≡_, sym, ap, subst, _∙_}
+use mathlib.Core.Logic.{⊎-elim}
 use native.Mathlib.Nat.{mod-lt}
 use native.Mathlib.Omega.{arith}
 use lib.ListN.{length, getD}
-use lib.Dec.{eqb}
 use borrow.Author.Tests.{eq-eqb, not-true}
 use Rattle.protocol.specs.declared.Geometry.{Geometry}
-use Rattle.protocol.specs.Below.{anyBelow, walked}
 use Rattle.protocol.specs.Entry.{entryAt}
-use Rattle.protocol.specs.Ring.{headOf, usedAt, undoableAt, isSettled}
+use Rattle.protocol.specs.Ring.{headOf, usedAt, isSettled}
 use Rattle.protocol.specs.Search.{takenBy, isFree, unusedAt, searchStart, freeBlocks, unusedEntries}
 use Rattle.protocol.specs.Commit.{newBlock}
 use Rattle.protocol.proofs.Below.{either, absurd-bool, any-at, and-both, around-below}
 use Rattle.protocol.proofs.Checks.{Limits, limits}
 use Rattle.protocol.proofs.Holds.{idle-kind, live-kind, used-current, no-undoable}
-use Rattle.protocol.proofs.Invariant.{Kind, idle, live, pending, kindNumber, kindCurrent, kindPrevious}
+use Rattle.protocol.proofs.Invariant.{kindCurrent, kindPrevious}
 use Rattle.protocol.proofs.Searches.{Found, walk-finds, walk-apart, unused-enough}
 use Rattle.protocol.proofs.Shape.{kindAt, Inv}
 

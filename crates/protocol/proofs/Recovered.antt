@@ -1,35 +1,35 @@
 -- Recovery, cut anywhere, keeps the invariant and the row; once all its stores are made the card is settled. Turn i has undone the entries
 -- below i; the ring and the entries from i on are as at the start. Assumes nothing.
-use Prim.Native.Nat.{ℕ, zero, suc, _+_, _*_, _-_, _≤_, _<_}
-use mathlib.Core.List.{List, [], _∷_, _++_}
+use Prim.Native.Nat.{ℕ, suc, _+_, _≤_, _<_}
+use mathlib.Core.List.{List, [], _∷_}
 use mathlib.Core.Bool.{Bool, true, false, cond, not, _&&_, _||_}
 use mathlib.Core.Option.{Option, none, some}
 use mathlib.Core.Path.{_≡_, refl, sym, ap, subst, _∙_}
 use mathlib.Core.Logic.{_⊎_, inl, inr, ⊎-elim}
 use native.Mathlib.Omega.{arith}
-use lib.ListN.{length, take}
+use lib.ListN.{length}
 use lib.Dec.{eqb}
-use borrow.Author.Tests.{eqb-true, eqb-false, eq-eqb, ne-eqb}
+use borrow.Author.Tests.{eqb-true, eqb-false, eq-eqb}
 use Rattle.numbers.specs.Bytes.{be, part, patch, numberAt}
 use Rattle.numbers.proofs.Laws.{be-bytes, length-bytes, part-all, patch-part}
 use Rattle.protocol.specs.declared.Entry.{Entry}
 use Rattle.protocol.specs.declared.Geometry.{Geometry}
-use Rattle.protocol.specs.Below.{eachBelow, allBelow}
-use Rattle.protocol.specs.Layout.{goodGeometry, goodK, goodSlots, goodBlocks, goodDisk, entryPlace, blockAt, diskBlock, cardLength}
+use Rattle.protocol.specs.Below.{eachBelow}
+use Rattle.protocol.specs.Layout.{goodGeometry, goodK, goodSlots, goodBlocks, goodDisk, entryPlace, blockAt}
 use Rattle.protocol.specs.Entry.{FRESH, entryOf, unused, entryBytes, entryIn, entryAt, inUse, isModified, hasLogRole, goodEntry, undone}
 use Rattle.protocol.specs.Ring.{headOf, tailOf, inWindow, usedAt, undoableAt, roleFreeAt, isSettled}
-use Rattle.protocol.specs.Store.{card, disk, Store, Run, storedOn, madeOn, flat, single, entryStore, wordStore, tailStore}
+use Rattle.protocol.specs.Store.{card, disk, Store, storedOn, flat, single, entryStore, wordStore, tailStore}
 use Rattle.protocol.specs.Recover.{sameBytes, ifChanging, undoRuns, recoverRuns}
-use Rattle.protocol.proofs.Allowed.{UsedEntry, Flag, modified, used-good, unused-good, used-entry, not-used-blank, kept-used, kept-role, kept-modified, unused-used, unused-role}
-use Rattle.protocol.proofs.Below.{either, same-or-other, absurd-bool, and-left, and-right, and-both, or-false, or-true, all-of, last-or-before, below-or-above}
+use Rattle.protocol.proofs.Allowed.{UsedEntry, modified, used-good, unused-good, used-entry, not-used-blank, kept-used, kept-role, kept-modified, unused-used, unused-role}
+use Rattle.protocol.proofs.Below.{either, absurd-bool, and-left, and-right, and-both, or-false, all-of, last-or-before}
 use Rattle.protocol.proofs.Checks.{Limits, limits}
 use Rattle.protocol.proofs.Codec.{EntryFits, good-fits, length-entry, entry-of-part, entry-read-back}
-use Rattle.protocol.proofs.Holds.{pending-kind, live-kind, used-number, number-used, empty-window}
+use Rattle.protocol.proofs.Holds.{pending-kind, live-kind, number-used}
 use Rattle.protocol.proofs.Invariant.{Kind, idle, live, pending, kindNumber, kindCurrent, kindPrevious, kindHome, View, Safe, Owes}
 use Rattle.protocol.proofs.Made.{entry-changed, entry-stored, entry-elsewhere, tail-changed, tail-stored, tail-elsewhere}
 use Rattle.protocol.proofs.Region.{entry, tail}
-use Rattle.protocol.proofs.Shape.{Changed, head-kept, tail-kept, entry-kept, kindOf, kindAt, viewOf, Seen, seen-idle, seen-live, seen-pending, see, previousOf, previous-some, previous-none, previous-is, Shape, Inv}
-use Rattle.protocol.proofs.Steps.{undoable, undoable-at, undoable-same, Calm, calm-entry, window-calm, entry-changes, tail-settled, tail-moves}
+use Rattle.protocol.proofs.Shape.{Changed, head-kept, tail-kept, entry-kept, kindOf, kindAt, viewOf, Seen, seen-idle, seen-live, seen-pending, see, previousOf, previous-some, previous-none, Shape, Inv}
+use Rattle.protocol.proofs.Steps.{undoable, undoable-at, undoable-same, calm-entry, window-calm, entry-changes, tail-settled, tail-moves}
 use Rattle.protocol.proofs.Stores.{Along, along-then, along-none, along-one, along-each, flat-append, flat-single}
 
 -- ---- stores that change no byte

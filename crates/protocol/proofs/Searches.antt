@@ -1,18 +1,18 @@
 -- The searches round the ring: what they find has the property, is below the ring's length, and is found once; and by counting, a card that
 -- passes check 6 has an unused entry for each free data block. Assumes nothing.
-use Prim.Native.Nat.{ℕ, zero, suc, _+_, _-_, _%_, _≤_, _<_}
+use Prim.Native.Nat.{ℕ, zero, suc, _+_, _-_, _≤_, _<_}
 use mathlib.Core.List.{List, [], _∷_, _++_}
 use mathlib.Core.Bool.{Bool, true, false, cond, not, _&&_, _||_}
-use mathlib.Core.Path.{_≡_, refl, sym, ap, subst, _∙_}
+use mathlib.Core.Path.{_≡_, refl, sym, ap, _∙_}
 use mathlib.Core.Logic.{_⊎_, inl, inr, ⊎-elim}
-use native.Mathlib.Nat.{add-zero, add-suc, mod-lt}
+use native.Mathlib.Nat.{add-zero, add-suc}
 use native.Mathlib.Omega.{arith}
 use lib.ListN.{length, getD, length-append, List·getD-append}
 use lib.Seq.{getD-append-add}
-use lib.Dec.{eqb, ltb}
-use borrow.Author.Tests.{eqb-true, eqb-false, eq-eqb, ne-eqb, lt-ltb, le-ltb}
+use lib.Dec.{eqb}
+use borrow.Author.Tests.{eqb-true, eq-eqb, ne-eqb, lt-ltb, le-ltb}
 use Rattle.protocol.specs.Below.{anyBelow, countBelow, eachBelow, keep, around, walked}
-use Rattle.protocol.proofs.Below.{either, absurd-bool, same-or-other, below-or-above, last-or-before, around-below, around-apart, count-le, any-found, any-none, any-witness, and-left, and-right, and-both, or-true}
+use Rattle.protocol.proofs.Below.{either, absurd-bool, below-or-above, last-or-before, around-apart, any-found, any-none, and-left, and-right, and-both}
 
 -- ---- what a walk finds
 

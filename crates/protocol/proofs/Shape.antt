@@ -1,11 +1,11 @@
 -- From bytes to kinds: what the card's bytes say of each entry, the shape that checks 1 to 5 look at, and how a change of one part of the
 -- card shows in both. Assumes nothing.
-use Prim.Native.Nat.{ℕ, zero, suc, _+_, _*_, _-_, _≤_, _<_}
+use Prim.Native.Nat.{ℕ, _+_, _-_, _≤_, _<_}
 use mathlib.Core.List.{List}
-use mathlib.Core.Bool.{Bool, true, false, cond, _&&_, _||_}
+use mathlib.Core.Bool.{Bool, true, false, cond, _||_}
 use mathlib.Core.Option.{Option, none, some}
-use mathlib.Core.Path.{_≡_, refl, sym, ap, subst, _∙_}
-use mathlib.Core.Logic.{_⊎_, inl, inr, ⊎-elim}
+use mathlib.Core.Path.{_≡_, refl, sym, ap, _∙_}
+use mathlib.Core.Logic.{_⊎_, inl, inr}
 use native.Mathlib.Omega.{arith}
 use lib.ListN.{length}
 use lib.Dec.{eqb, ltb, leb}
@@ -14,12 +14,12 @@ use Rattle.numbers.specs.Bytes.{be, part, numberAt}
 use Rattle.protocol.specs.declared.Entry.{Entry}
 use Rattle.protocol.specs.declared.Geometry.{Geometry}
 use Rattle.protocol.specs.Below.{anyBelow, around}
-use Rattle.protocol.specs.Layout.{goodGeometry, blockSize, blockAt, diskBlock, headerBytes, cardLength, diskLength, slotPlace, entryPlace, blockPlace}
-use Rattle.protocol.specs.Entry.{FRESH, entryIn, entryAt, inUse, isModified, hasLogRole, goodEntry, allowedFlags, isUnused}
-use Rattle.protocol.specs.Ring.{headOf, tailOf, slotAt, windowLength, windowOf, windowNumber, windowHas, inWindow, usedAt, undoableAt}
-use Rattle.protocol.proofs.Below.{either, any-cong, any-found, around-below, around-apart, below-or-above, or-true, and-left, and-right, absurd-bool}
+use Rattle.protocol.specs.Layout.{goodGeometry, blockSize, blockAt, diskBlock, headerBytes, cardLength, diskLength, entryPlace}
+use Rattle.protocol.specs.Entry.{FRESH, entryIn, entryAt, inUse, isModified, hasLogRole, goodEntry}
+use Rattle.protocol.specs.Ring.{headOf, tailOf, slotAt, windowLength, windowOf, windowNumber, windowHas, inWindow, undoableAt}
+use Rattle.protocol.proofs.Below.{either, any-cong}
 use Rattle.protocol.proofs.Codec.{entry-of-part}
-use Rattle.protocol.proofs.Invariant.{Kind, idle, live, pending, kindNumber, kindCurrent, kindPrevious, kindHome, View, Safe}
+use Rattle.protocol.proofs.Invariant.{Kind, idle, live, pending, View, Safe}
 use Rattle.protocol.proofs.Region.{Region, header, head, tail, slot, entry, block, place, Inside, Differ, cell, place-slot, place-entry, place-block}
 
 -- ---- the card's fields through its parts

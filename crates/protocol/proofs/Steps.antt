@@ -1,16 +1,16 @@
 -- Each kind of store keeps the invariant: a run inside a data block or a disk block, an entry, a slot outside the window, Head forward, and
 -- Tail's store, which settles. Assumes nothing.
-use Prim.Native.Nat.{ℕ, zero, suc, _+_, _*_, _-_, _≤_, _<_}
+use Prim.Native.Nat.{ℕ, _+_, _≤_, _<_}
 use mathlib.Core.List.{List}
 use mathlib.Core.Bool.{Bool, true, false, cond, not, _&&_, _||_}
-use mathlib.Core.Option.{Option, none, some}
+use mathlib.Core.Option.{some}
 use mathlib.Core.Path.{_≡_, refl, sym, ap, subst, _∙_}
-use mathlib.Core.Logic.{_⊎_, inl, inr, ⊎-elim}
+use mathlib.Core.Logic.{inl, inr, ⊎-elim}
 use native.Mathlib.Numerals.{add-one}
 use native.Mathlib.Omega.{arith}
 use lib.ListN.{length}
 use Rattle.numbers.specs.Bytes.{part}
-use lib.Dec.{eqb, ltb}
+use lib.Dec.{eqb}
 use borrow.Author.Tests.{eqb-true, eq-eqb}
 use Rattle.protocol.specs.declared.Entry.{Entry}
 use Rattle.protocol.specs.declared.Geometry.{Geometry}
@@ -18,8 +18,8 @@ use Rattle.protocol.specs.Below.{anyBelow, around}
 use Rattle.protocol.specs.Layout.{blockAt, diskBlock}
 use Rattle.protocol.specs.Entry.{entryAt, inUse, isModified, hasLogRole, goodEntry}
 use Rattle.protocol.specs.Ring.{headOf, tailOf, slotAt, windowLength, windowOf, windowNumber, windowHas, inWindow, usedAt, undoableAt, roleFreeAt, isSettled}
-use Rattle.protocol.proofs.Below.{and-fails, all-of, either, any-cong, any-found, around-below, around-apart, below-or-above, same-or-other, or-true, or-false, or-left, or-right, and-left, and-right, and-both, absurd-bool}
-use Rattle.protocol.proofs.Invariant.{Kind, idle, live, pending, kindNumber, kindCurrent, kindPrevious, kindHome, settledKind, View, Safe, Owes, change-media, change-entry, settle-all}
+use Rattle.protocol.proofs.Below.{and-fails, all-of, either, any-cong, around-below, around-apart, below-or-above, same-or-other, and-both, absurd-bool}
+use Rattle.protocol.proofs.Invariant.{idle, live, pending, kindNumber, kindCurrent, kindPrevious, settledKind, Owes, change-media, change-entry, settle-all}
 use Rattle.protocol.proofs.Region.{Region, header, head, tail, slot, entry, block, Differ}
 use Rattle.protocol.proofs.Shape.{Changed, header-kept, head-kept, tail-kept, slot-kept, entry-kept, block-kept, window-short, window-empty, window-end, window-grows, window-kept, number-kept, in-window-kept, kindOf, kindAt, viewOf, Seen, seen-idle, seen-live, seen-pending, see, previousOf, Shape, Inv}
 

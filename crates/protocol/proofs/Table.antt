@@ -1,24 +1,11 @@
 -- The hand-checked values of document 01 hold of the definitions: each is computed, for any card where the fact leaves the card open.
 -- Assumes nothing.
-use mathlib.Core.Path.{refl, ap, _∙_}
-use mathlib.Core.Bool.{Bool, cond}
-use mathlib.Core.List.{List, [], _∷_, _++_}
-use lib.ListN.{length}
-use Rattle.numbers.specs.Bytes.{beFrom, be, bytesBE, part, numberAt, patch}
-use Rattle.protocol.specs.Below.{anyBelow, countBelow, eachBelow, keep, around, walked}
-use Rattle.protocol.specs.Layout.{between, goodBlocks, goodDisk, blockSize, slotPlace, entryPlace, blockPlace, cardLength, diskPlace, headerBytes, blockAt}
-use Rattle.protocol.specs.Entry.{entryBytes, entryIn, entryAt, inUse, allowedFlags, isUnused, goodEntry, switched, undone}
-use Rattle.protocol.specs.Ring.{headOf, windowLength, windowSlots, usedAt, findEntry, currentOf}
-use Rattle.protocol.specs.Check.{refuse, _orElse_}
-use Rattle.protocol.specs.Store.{Run, isOn, storedOn, madeOn, flat, units, words, sectors, entryStore, wordStore, headStore, tailStore, single}
-use Rattle.protocol.specs.Format.{entryRefusal, formatted}
-use Rattle.protocol.specs.Search.{takenBy, isFree, searchStart, freeBlocks}
-use Rattle.protocol.specs.Commit.{blockRuns, switchRuns, commitRuns, countFits, newBlock}
-use Rattle.protocol.specs.Load.{loadRuns, writeBack, evictRuns}
-use Rattle.protocol.specs.Table.{HandChecked, geometry, oneTaken}
+use mathlib.Core.Path.{refl}
+use Rattle.protocol.specs.Table.{HandChecked}
+use Rattle.protocol.proofs.Computing.{computing}
 
 pub hand-checked : HandChecked
-unfolding beFrom be bytesBE part numberAt patch anyBelow countBelow eachBelow keep around walked between goodBlocks goodDisk blockSize slotPlace entryPlace blockPlace cardLength diskPlace headerBytes blockAt entryBytes entryIn entryAt inUse allowedFlags isUnused goodEntry switched undone headOf windowLength windowSlots usedAt refuse _orElse_ isOn storedOn madeOn flat units words sectors entryStore wordStore headStore tailStore single entryRefusal formatted takenBy isFree searchStart freeBlocks blockRuns switchRuns commitRuns countFits newBlock loadRuns writeBack evictRuns oneTaken
+unfolding computing
 hand-checked =
     record {
       fact1 = λ d. refl;

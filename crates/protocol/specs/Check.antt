@@ -1,5 +1,5 @@
 -- Document 01, "Who can cause a refusal": checks 1 to 7 of a card, and how refusals are put in order. A refusal is its number, 0 for none.
-use Prim.Native.Nat.{ℕ, zero, suc, _+_, _*_}
+use Prim.Native.Nat.{ℕ, zero, suc}
 use mathlib.Core.List.{List}
 use mathlib.Core.Bool.{Bool, cond, not, _&&_, _||_}
 use lib.ListN.{length}

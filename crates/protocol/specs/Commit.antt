@@ -1,6 +1,6 @@
 -- Document 01, "Commit": its plan from the card at entry, its runs of stores, its refusals.
 use Prim.Native.Nat.{ℕ, _+_, _*_, _-_}
-use mathlib.Core.List.{List, [], _∷_, _++_}
+use mathlib.Core.List.{List, _∷_, _++_}
 use mathlib.Core.Bool.{Bool, cond, not, _&&_}
 use lib.ListN.{length, getD}
 use lib.Dec.{eqb, ltb, leb}

@@ -25,24 +25,30 @@ left g c d rs = run rs (fresh g c d)
 unfoldable pub rowLeft : Geometry → List ℕ → List ℕ → List Request → Row
 rowLeft g c d rs = rowAfter g rs (answers rs (fresh g c d)) (diskBlock g d)
 
--- what holds of the media m and the row after a list of calls
-pub record Sound (g : Geometry) (m : Media) (row : Row) : Type 0 where
+-- a recovery under the allowance a
+abbrev pub recovering : ℕ → Request
+recovering a = record { call = recover; allowance = a }
+
+-- what the cut rule says of one list of calls
+pub record Sound (g : Geometry) (c d : List ℕ) (rs : List Request) : Type 0 where
   -- "recover isn't refused with any of 1 to 6"
-  pub recovers : recoverRefusal (m .onCard) ≡ 0
-  -- "if the last call is a recover that answered done, the card is settled": here of the next one, whatever its allowance
-  pub settles : (a n : ℕ) → answerTo (record { call = recover; allowance = a }) m ≡ Done n
-      → isSettled g (run (record { call = recover; allowance = a } ∷ []) m .onCard) ≡ true
+  pub recovers : recoverRefusal (left g c d rs .onCard) ≡ 0
+  -- "if the last call is a recover that answered done, the card is settled"
+  pub settles : (before : List Request) (a n : ℕ) → rs ≡ before ++ (recovering a ∷ []) → answerTo (recovering a) (left g c d before) ≡ Done n
+      → isSettled g (left g c d rs .onCard) ≡ true
   -- "whenever the card is settled, the contents of each disk block b are, byte for byte, block b of the row"
-  pub holds : isSettled g (m .onCard) ≡ true → (b : ℕ) → b < g .disk → contents g (m .onCard) (m .onDisk) b ≡ row b
+  pub holds : isSettled g (left g c d rs .onCard) ≡ true → (b : ℕ) → b < g .disk
+      → contents g (left g c d rs .onCard) (left g c d rs .onDisk) b ≡ rowLeft g c d rs b
   -- "Read and look hand out exactly these bytes"
-  pub reads : isSettled g (m .onCard) ≡ true → (out : List ℕ) (b : ℕ) → length out ≡ blockSize g → b < g .disk
-      → outputAfter (m .onCard) (m .onDisk) out b ≡ row b
-  pub looks : isSettled g (m .onCard) ≡ true → (b : ℕ) → b < g .disk → lookedAt (m .onCard) (m .onDisk) b ≡ row b
-  -- "refused only as their own checks say": 7 before a recovery, 9 and 10
-  pub readRefuses : (out : List ℕ) (b : ℕ) → readRefusal (m .onCard) (m .onDisk) out b
-      ≡ (refuse 7 (isSettled g (m .onCard)) orElse refuse 9 (eqb (length out) (blockSize g)) orElse refuse 10 (ltb b (g .disk)))
-  pub lookRefuses : (b : ℕ) → lookRefusal (m .onCard) (m .onDisk) b
-      ≡ (refuse 7 (isSettled g (m .onCard)) orElse refuse 10 (ltb b (g .disk)))
+  pub reads : isSettled g (left g c d rs .onCard) ≡ true → (out : List ℕ) (b : ℕ) → length out ≡ blockSize g → b < g .disk
+      → outputAfter (left g c d rs .onCard) (left g c d rs .onDisk) out b ≡ rowLeft g c d rs b
+  pub looks : isSettled g (left g c d rs .onCard) ≡ true → (b : ℕ) → b < g .disk
+      → lookedAt (left g c d rs .onCard) (left g c d rs .onDisk) b ≡ rowLeft g c d rs b
+  -- "refused only as their own checks say": 7 on a card that is not settled, 9 and 10
+  pub readRefuses : (out : List ℕ) (b : ℕ) → readRefusal (left g c d rs .onCard) (left g c d rs .onDisk) out b
+      ≡ refuse 7 (isSettled g (left g c d rs .onCard)) orElse refuse 9 (eqb (length out) (blockSize g)) orElse refuse 10 (ltb b (g .disk))
+  pub lookRefuses : (b : ℕ) → lookRefusal (left g c d rs .onCard) (left g c d rs .onDisk) b
+      ≡ refuse 7 (isSettled g (left g c d rs .onCard)) orElse refuse 10 (ltb b (g .disk))
 
 -- demand 3: "The list starts from a card that format answered with done, whatever its data blocks hold, and any disk of D·B bytes";
 -- "After every such list, an empty one too"
@@ -50,7 +56,7 @@ abbrev pub CutRule : Type 0
 CutRule = (g : Geometry) (c d : List ℕ) (rs : List Request)
     → outcomeOf (formatRefusal g c) ≡ FormatDone
     → length d ≡ diskLength g
-    → Sound g (left g c d rs) (rowLeft g c d rs)
+    → Sound g c d rs
 
 -- no call of the list is cut
 abbrev pub Uncut : List Answer → Type 0

@@ -1,8 +1,8 @@
 -- Document 01, "Format", and a single entry read and written by value.
 use Prim.Native.Nat.{ℕ, _+_, _*_}
 use mathlib.Core.List.{List, _++_}
-use mathlib.Core.Bool.{Bool, cond, _&&_}
-use lib.ListN.{length, replicate}
+use mathlib.Core.Bool.{cond, _&&_}
+use lib.ListN.{replicate}
 use lib.Dec.{eqb}
 use Rattle.numbers.specs.Bytes.{patch}
 use Rattle.protocol.specs.declared.Geometry.{Geometry}

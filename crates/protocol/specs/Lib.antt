@@ -14,3 +14,4 @@ pub mod Read
 pub mod Table
 pub mod History
 pub mod CutRule
+pub mod Example

@@ -1,7 +1,7 @@
 -- Document 01, "Load" and "Evict".
-use Prim.Native.Nat.{ℕ, _+_}
+use Prim.Native.Nat.{ℕ}
 use mathlib.Core.List.{List, [], _∷_, _++_}
-use mathlib.Core.Bool.{Bool, cond, not}
+use mathlib.Core.Bool.{cond, not}
 use lib.ListN.{getD}
 use lib.Dec.{ltb}
 use Rattle.protocol.specs.declared.Geometry.{Geometry}

@@ -7,7 +7,6 @@ use lib.Dec.{eqb}
 use Rattle.protocol.specs.declared.Geometry.{Geometry}
 use Rattle.protocol.specs.declared.Condition.{Condition}
 use Rattle.protocol.specs.declared.Condition.the-variants.{Settled, Unsettled}
-use Rattle.protocol.specs.declared.State.{State}
 use Rattle.protocol.specs.declared.Reported.{Reported}
 use Rattle.protocol.specs.declared.Reported.the-variants.{Is, Refused as RefusedState}
 use Rattle.protocol.specs.declared.Held.{Held}

@@ -1,10 +1,9 @@
 -- Document 01, "Head", "Tail" and the window; undoable entries, settled blocks, the settled card and its contents.
 use Prim.Native.Nat.{ℕ, _+_, _-_}
-use mathlib.Core.List.{List, []}
+use mathlib.Core.List.{List}
 use mathlib.Core.Bool.{Bool, cond, not, _&&_, _||_}
 use lib.Dec.{eqb, ltb, leb}
 use Rattle.numbers.specs.Bytes.{numberAt}
-use Rattle.protocol.specs.declared.Entry.{Entry}
 use Rattle.protocol.specs.declared.Geometry.{Geometry}
 use Rattle.protocol.specs.Below.{allBelow, anyBelow, firstBelow, eachBelow, keep, around}
 use Rattle.protocol.specs.Layout.{slotPlace, blockAt, diskBlock}

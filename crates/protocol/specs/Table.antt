@@ -1,8 +1,8 @@
 -- Document 01, "Hand-checked values": the twelve facts as one claim about the definitions, and the three counts below them.
 -- Where a fact speaks of one field, the others are any; where it speaks of a count of stores, the card is any.
-use Prim.Native.Nat.{ℕ, _/_}
+use Prim.Native.Nat.{ℕ}
 use mathlib.Core.List.{List, [], _∷_}
-use mathlib.Core.Bool.{Bool, true, false}
+use mathlib.Core.Bool.{true, false}
 use mathlib.Core.Path.{_≡_}
 use lib.ListN.{length, replicate}
 use Rattle.protocol.specs.declared.Geometry.{Geometry}

@@ -1,21 +1,19 @@
 -- Laws behind the checks' loops and tests.
-use Prim.Native.Nat.{ℕ, _+_, _*_, _-_, _%_, _^_, _≤_, _<_}
+use Prim.Native.Nat.{ℕ, _+_, _*_, _-_, _≤_, _<_}
 use mathlib.Core.Path.{_≡_, refl, sym, ap, _∙_}
 use mathlib.Core.List.{List}
 use mathlib.Core.Logic.{⊎-elim}
 use mathlib.Core.Bool.{Bool, true, false, not, _&&_}
-use native.Mathlib.Nat.{one-mul}
 use native.Mathlib.Omega.{arith}
 use lib.ListN.{length, getD}
 use lib.Dec.{ltb, eqb}
-use lib.Pow.{shl-exact}
 use borrow.Author.Tests.{lt-ltb, le-ltb, le-leb, lt-leb, ltb-false, eq-eqb, ne-eqb, eqb-true, not-true, not-false}
 use Rattle.numbers.specs.Bytes.{numberAt}
 use Rattle.protocol.specs.declared.Geometry.{Geometry}
 use Rattle.protocol.specs.Below.{allBelow, anyBelow, around}
 use Rattle.protocol.specs.Layout.{goodGeometry, geometryOf, goodHeader, zeroFrom, slotPlace, cardLength, diskLength}
 use Rattle.protocol.specs.Ring.{headOf, tailOf, slotAt, windowLength, windowOf, windowNumber, windowHas, inWindow}
-use Rattle.protocol.specs.Check.{refuse, _orElse_, headerFits, cardFits, diskFits, windowNumberFits, ringFits, fitRefusal, diskRefusal}
+use Rattle.protocol.specs.Check.{refuse, headerFits, cardFits, diskFits, windowNumberFits, ringFits, fitRefusal, diskRefusal}
 use Rattle.ring.specs.declared.Window.{Window}
 use Rattle.ring.specs.Fitted.{Fitted, Placed, WindowOf}
 use Rattle.protocol.proofs.Below.{and-left, and-right, and-fails, below-or-above, any-found, any-done}
@@ -42,6 +40,9 @@ fitted-slots g c f = let k : Room g c = room g c f in omega arith
 
 pub fitted-blocks : (g : Geometry) (c : List ℕ) → Fitted g c → g .blocks ≤ 128
 fitted-blocks g c f = let k : Room g c = room g c f in omega arith
+
+pub fitted-disk : (g : Geometry) (c : List ℕ) → Fitted g c → g .disk ≤ 65536
+fitted-disk g c f = let k : Room g c = room g c f in omega arith
 
 -- ---- checks 1 to 3
 

@@ -55,4 +55,6 @@ returns-2 : tie.Need-returns-2 Inv-loop μ-loop
 returns-2 c = search (marked-end, needs)
 
 pub blocks-apart-spec : {M : Type 1} → statement M
-blocks-apart-spec = tie.close (tie.spec Inv-loop μ-loop loop-holds mul-wide element-copy-out-wide wide-requires add-i array-read-if2 returns array-write-marks loop-less loop-again loop-less-2 loop-again-2 returns-2)
+blocks-apart-spec =
+    tie.close (tie.spec Inv-loop μ-loop loop-holds mul-wide element-copy-out-wide wide-requires add-i array-read-if2 returns
+    array-write-marks loop-less loop-again loop-less-2 loop-again-2 returns-2)

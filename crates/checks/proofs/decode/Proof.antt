@@ -1,8 +1,8 @@
 -- `decode` answers what the pass over the entries finds. The invariant: check 5 allows the entries passed, and their keys are listed.
 use Prim.Native.Nat.{_≤_, _-_}
-use mathlib.Core.Path.{_≡_}
-use Rattle.protocol.proofs.Checks.{limits}
-use Rattle.checks.proofs.Laws.{number-small, current-small, Listed, listed-start, listed-turn, listed-bad, listed-end}
+use denote.Ref.{now}
+use Rattle.ring.proofs.Laws.{fitted-blocks, fitted-disk}
+use Rattle.checks.proofs.Laws.{Listed, listed-start, Split, listed-unused, listed-used, listed-bad, listed-end}
 use borrow.Author.Needs.{needs}
 use native.Mathlib.Omega.{arith}
 use Rattle.checks.proofs.decode.Statement.{statement}
@@ -14,20 +14,42 @@ Inv-loop g card ids₀ currents₀ n quiet₀ i₀ ids currents quiet i = (n ≤
 abbrev μ-loop : tie.MeasureT-loop
 μ-loop g card ids₀ currents₀ n quiet₀ i₀ ids currents quiet i = n - i
 
+-- the four reads of a turn are the entry's quarters
+split-of : (c : tie.After-quarter-of4 Inv-loop μ-loop)
+    → let r = c .before .before .before in
+    let h = r .before .before in
+    Split (h .before .before .args .g) (now (h .before .before .args .card)) (h .loop .i) (r .quarter-of .result)
+    (c .before .before .quarter-of2 .result) (c .before .quarter-of3 .result) (c .quarter-of4 .result)
+split-of c =
+    let r = c .before .before .before in
+    let h = r .before .before in
+    record {
+      fitted = h .before .before .pre .0;
+      below = r .before .loop-test .taken;
+      bytes = λ j m. omega (arith, h .before .shared-slice-known .given j);
+      first = r .quarter-of .ensures;
+      second = c .before .before .quarter-of2 .ensures;
+      third = c .before .quarter-of3 .ensures;
+      fourth = c .quarter-of4 .ensures;
+    }
+
 loop-holds : tie.Need-loop-holds Inv-loop μ-loop
-loop-holds c = let k = limits (c .before .args .g) (c .before .pre .0 .good) in (omega arith, search needs, search (listed-start, needs))
+loop-holds c = (search (fitted-blocks, needs), search needs, search (listed-start, needs))
 
-entry-of-requires : tie.Need-entry-of-requires Inv-loop μ-loop
-entry-of-requires c κs = search needs
+quarter-of-requires : tie.Need-quarter-of-requires Inv-loop μ-loop
+quarter-of-requires c κs = search needs
 
-good-entry-requires : tie.Need-good-entry-requires Inv-loop μ-loop
-good-entry-requires c κs = search needs
+quarter-of-requires-2 : tie.Need-quarter-of-requires-2 Inv-loop μ-loop
+quarter-of-requires-2 c κs = search needs
 
-returns : tie.Need-returns Inv-loop μ-loop
-returns c = search (listed-bad, needs)
+quarter-of-requires-3 : tie.Need-quarter-of-requires-3 Inv-loop μ-loop
+quarter-of-requires-3 c κs = search needs
 
-key-of-requires : tie.Need-key-of-requires Inv-loop μ-loop
-key-of-requires c κs = search (number-small, needs)
+quarter-of-requires-4 : tie.Need-quarter-of-requires-4 Inv-loop μ-loop
+quarter-of-requires-4 c κs = search needs
+
+add-i : tie.Need-add-i Inv-loop μ-loop
+add-i c = search needs
 
 mul-ids : tie.Need-mul-ids Inv-loop μ-loop
 mul-ids c = search needs
@@ -35,32 +57,59 @@ mul-ids c = search needs
 element-write-ids : tie.Need-element-write-ids Inv-loop μ-loop
 element-write-ids c = search needs
 
-cast-key-of : tie.Need-cast-key-of Inv-loop μ-loop
-cast-key-of c = search (current-small, needs)
-
-key-of-requires-2 : tie.Need-key-of-requires-2 Inv-loop μ-loop
-key-of-requires-2 c κs = search (current-small, needs)
-
 mul-currents : tie.Need-mul-currents Inv-loop μ-loop
 mul-currents c = search needs
 
 element-write-currents : tie.Need-element-write-currents Inv-loop μ-loop
 element-write-currents c = search needs
 
-has-log-role-requires : tie.Need-has-log-role-requires Inv-loop μ-loop
-has-log-role-requires c κs = search needs
-
-add-i : tie.Need-add-i Inv-loop μ-loop
-add-i c = search needs
-
 loop-less : tie.Need-loop-less Inv-loop μ-loop
 loop-less c = search needs
 
 loop-again : tie.Need-loop-again Inv-loop μ-loop
-loop-again c = let b = c .before .before .before in let m = b .before in let h = m .before .before .before .before in (search needs, search needs, listed-turn _ _ _ _ _ _ _ _ _ _ _ (h .before .before .pre .0) (m .before .before .before .loop-test .taken) (h .loop .inv .2) (m .before .before .entry-of .ensures) (m .before .good-entry .ensures) (m .if1 .left) (b .key-of .ensures) (c .before .key-of2 .ensures) (c .has-log-role .ensures))
+loop-again c = (search needs, search needs, listed-unused (split-of (c .before)) (c .before .before .before .before .before .before .loop .inv .2) (c .if1 .taken))
+
+good-quarters-requires : tie.Need-good-quarters-requires Inv-loop μ-loop
+good-quarters-requires c κs = (search (fitted-disk, needs), c .before .before .quarter-of3 .ensures .below)
+
+returns : tie.Need-returns Inv-loop μ-loop
+returns c = listed-bad (split-of (c .before .before .before)) _ _ (c .before .good-quarters .ensures) (c .if2 .taken)
+
+cast-ids : tie.Need-cast-ids Inv-loop μ-loop
+cast-ids c = search needs
+
+mul-ids-2 : tie.Need-mul-ids-2 Inv-loop μ-loop
+mul-ids-2 c = search needs
+
+element-write-ids-2 : tie.Need-element-write-ids-2 Inv-loop μ-loop
+element-write-ids-2 c = search needs
+
+cast-currents : tie.Need-cast-currents Inv-loop μ-loop
+cast-currents c = search needs
+
+mul-currents-2 : tie.Need-mul-currents-2 Inv-loop μ-loop
+mul-currents-2 c = search needs
+
+element-write-currents-2 : tie.Need-element-write-currents-2 Inv-loop μ-loop
+element-write-currents-2 c = search needs
+
+loop-less-2 : tie.Need-loop-less-2 Inv-loop μ-loop
+loop-less-2 c = search needs
+
+loop-again-2 : tie.Need-loop-again-2 Inv-loop μ-loop
+loop-again-2 c =
+    let w = c .before .before .before in
+    let h = w .before .before .before .before .before in (
+      search needs,
+      search needs,
+      listed-used (split-of w) (h .loop .inv .2) (c .before .before .if1 .left) (c .before .good-quarters .ensures) (c .if2 .left),
+    )
 
 returns-2 : tie.Need-returns-2 Inv-loop μ-loop
 returns-2 c = search (listed-end, needs)
 
 pub decode-spec : {M : Type 1} → statement M
-decode-spec = tie.close (tie.spec Inv-loop μ-loop loop-holds entry-of-requires good-entry-requires returns key-of-requires mul-ids element-write-ids cast-key-of key-of-requires-2 mul-currents element-write-currents has-log-role-requires add-i loop-less loop-again returns-2)
+decode-spec =
+    tie.close (tie.spec Inv-loop μ-loop loop-holds quarter-of-requires quarter-of-requires-2 quarter-of-requires-3 quarter-of-requires-4
+    add-i mul-ids element-write-ids mul-currents element-write-currents loop-less loop-again good-quarters-requires returns cast-ids
+    mul-ids-2 element-write-ids-2 cast-currents mul-currents-2 element-write-currents-2 loop-less-2 loop-again-2 returns-2)

@@ -27,4 +27,5 @@ returns-4 : tie.Need-returns-4
 returns-4 c = search (apart-rest, needs)
 
 pub entries-apart-spec : {M : Type 1} → statement M
-entries-apart-spec = tie.close (tie.spec numbers-apart-requires returns blocks-apart-requires returns-2 returns-3 settled-apart-requires returns-4)
+entries-apart-spec =
+    tie.close (tie.spec numbers-apart-requires returns blocks-apart-requires returns-2 returns-3 settled-apart-requires returns-4)

@@ -29,7 +29,10 @@ in-use-requires c κs = search needs
 
 returns : tie.Need-returns Inv-loop μ-loop
 unfolding findEntry
-returns c = let u = c .before .before in let l = u .before .before in first-here _ _ _ (l .before .loop .inv .2) (l .loop-test .taken) (entry-for _ _ _ _ _ _ _ (u .before .entry-of .ensures) (u .in-use .ensures) (c .if1 .taken))
+returns c =
+    let u = c .before .before in
+    let l = u .before .before in
+    first-here _ _ _ (l .before .loop .inv .2) (l .loop-test .taken) (entry-for _ _ _ _ _ _ _ (u .before .entry-of .ensures) (u .in-use .ensures) (c .if1 .taken))
 
 add-i : tie.Need-add-i Inv-loop μ-loop
 add-i c = search needs
@@ -38,11 +41,15 @@ loop-less : tie.Need-loop-less Inv-loop μ-loop
 loop-less c = search needs
 
 loop-again : tie.Need-loop-again Inv-loop μ-loop
-loop-again c = let u = c .before .before in let l = u .before .before in (search needs, search needs, any-more _ _ (l .before .loop .inv .2) (entry-for _ _ _ _ _ _ _ (u .before .entry-of .ensures) (u .in-use .ensures) (c .if1 .left)))
+loop-again c =
+    let u = c .before .before in
+    let l = u .before .before in
+    (search needs, search needs, any-more _ _ (l .before .loop .inv .2) (entry-for _ _ _ _ _ _ _ (u .before .entry-of .ensures) (u .in-use .ensures) (c .if1 .left)))
 
 returns-2 : tie.Need-returns-2 Inv-loop μ-loop
 unfolding findEntry
 returns-2 c = search (first-nowhere, needs)
 
 pub find-entry-spec : {M : Type 1} → statement M
-find-entry-spec = tie.close (tie.spec Inv-loop μ-loop loop-holds entry-of-requires in-use-requires returns add-i loop-less loop-again returns-2)
+find-entry-spec =
+    tie.close (tie.spec Inv-loop μ-loop loop-holds entry-of-requires in-use-requires returns add-i loop-less loop-again returns-2)

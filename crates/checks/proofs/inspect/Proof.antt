@@ -42,4 +42,6 @@ returns-4 : tie.Need-returns-4
 returns-4 c = search (undamaged, needs)
 
 pub inspect-spec : {M : Type 1} → statement M
-inspect-spec = tie.close (tie.spec ring-fits-requires refused-requires returns decode-requires refused-requires-2 returns-2 head-of-requires tail-of-requires entries-apart-requires refused-requires-3 returns-3 returns-4)
+inspect-spec =
+    tie.close (tie.spec ring-fits-requires refused-requires returns decode-requires refused-requires-2 returns-2 head-of-requires
+    tail-of-requires entries-apart-requires refused-requires-3 returns-3 returns-4)

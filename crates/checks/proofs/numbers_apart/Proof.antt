@@ -33,11 +33,17 @@ array-read-from c = search needs
 
 chained-requires : tie.Need-chained-requires Inv-loop μ-loop
 unfolding keyAt
-chained-requires c κs = let l = c .before .before .before .before in chain-of _ _ _ _ (l .loop .inv .1) _ _ _ (c .before .before .before .loop-test .taken) (l .before .pre) (c .before .if1 .taken) refl
+chained-requires c κs =
+    let l = c .before .before .before .before in
+    chain-of _ _ _ _ (l .loop .inv .1) _ _ _ (c .before .before .before .loop-test .taken) (l .before .pre) (c .before .if1 .taken) refl
 
 returns : tie.Need-returns Inv-loop μ-loop
 unfolding keyAt
-returns c = let k = c .before .before .before in let l = k .before .before .before in chains-clash _ _ _ _ (l .loop .inv .1) _ _ _ _ (k .before .before .loop-test .taken) refl (k .if1 .taken) refl (c .before .chained .ensures) (c .if2 .taken)
+returns c =
+    let k = c .before .before .before in
+    let l = k .before .before .before in
+    chains-clash _ _ _ _ (l .loop .inv .1) _ _ _ _ (k .before .before .loop-test .taken) refl (k .if1 .taken) refl
+    (c .before .chained .ensures) (c .if2 .taken)
 
 array-write-links : tie.Need-array-write-links Inv-loop μ-loop
 array-write-links c = search needs
@@ -53,7 +59,13 @@ loop-less c = search needs
 
 loop-again : tie.Need-loop-again Inv-loop μ-loop
 unfolding keyAt
-loop-again c = let k = c .before .before .before in let l = k .before .before .before in (search needs, chains-more _ _ _ _ (l .loop .inv .1) _ _ _ _ (k .before .before .loop-test .taken) (l .before .pre) refl (k .if1 .taken) refl (c .before .chained .ensures) (c .if2 .left))
+loop-again c =
+    let k = c .before .before .before in
+    let l = k .before .before .before in (
+      search needs,
+      chains-more _ _ _ _ (l .loop .inv .1) _ _ _ _ (k .before .before .loop-test .taken) (l .before .pre) refl (k .if1 .taken) refl
+          (c .before .chained .ensures) (c .if2 .left),
+    )
 
 loop-less-2 : tie.Need-loop-less-2 Inv-loop μ-loop
 loop-less-2 c = search needs
@@ -66,4 +78,6 @@ returns-2 : tie.Need-returns-2 Inv-loop μ-loop
 returns-2 c = search (chains-end, needs)
 
 pub numbers-apart-spec : {M : Type 1} → statement M
-numbers-apart-spec = tie.close (tie.spec Inv-loop μ-loop loop-holds mul-k element-copy-out-k add-i cast-r array-read-from chained-requires returns array-write-links cast-heads array-write-heads loop-less loop-again loop-less-2 loop-again-2 returns-2)
+numbers-apart-spec =
+    tie.close (tie.spec Inv-loop μ-loop loop-holds mul-k element-copy-out-k add-i cast-r array-read-from chained-requires returns
+    array-write-links cast-heads array-write-heads loop-less loop-again loop-less-2 loop-again-2 returns-2)

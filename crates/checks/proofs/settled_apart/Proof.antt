@@ -39,13 +39,19 @@ loop-less : tie.Need-loop-less Inv-loop μ-loop
 loop-less c = search needs
 
 loop-again : tie.Need-loop-again Inv-loop μ-loop
-loop-again c = let l = c .before .before .loop in let b : l .i < length (l .keys) = omega arith in (search needs, search needs, search needs, lists-more _ _ _ _ b (l .inv .3) (c .settled-key .ensures))
+loop-again c =
+    let l = c .before .before .loop in
+    let b : l .i < length (l .keys) = omega arith in
+    (search needs, search needs, search needs, lists-more _ _ _ _ b (l .inv .3) (c .settled-key .ensures))
 
 blocks-apart-requires : tie.Need-blocks-apart-requires Inv-loop μ-loop
 blocks-apart-requires c κs = search needs
 
 returns : tie.Need-returns Inv-loop μ-loop
-returns c = let e = c .before .before in listed-distinct _ _ _ _ _ (lists-all _ _ _ _ (e .loop-test .left) (e .before .loop .inv .3)) (c .blocks-apart .ensures)
+returns c =
+    let e = c .before .before in listed-distinct _ _ _ _ _ (lists-all _ _ _ _ (e .loop-test .left) (e .before .loop .inv .3)) (c .blocks-apart .ensures)
 
 pub settled-apart-spec : {M : Type 1} → statement M
-settled-apart-spec = tie.close (tie.spec Inv-loop μ-loop window-of-requires loop-holds settled-key-requires mul-keys array-write-keys add-i loop-less loop-again blocks-apart-requires returns)
+settled-apart-spec =
+    tie.close (tie.spec Inv-loop μ-loop window-of-requires loop-holds settled-key-requires mul-keys array-write-keys add-i loop-less
+    loop-again blocks-apart-requires returns)

@@ -1,6 +1,6 @@
 -- `disk_length` answers its definition, which does not wrap within the limits of a good geometry.
 use Rattle.protocol.proofs.Checks.{limits}
-use Rattle.protocol.specs.Layout.{blockSize, diskLength}
+use Rattle.protocol.specs.Layout.{diskLength}
 use borrow.Author.Needs.{needs}
 use native.Mathlib.Omega.{arith}
 use Rattle.ring.proofs.disk_length.Statement.{statement}

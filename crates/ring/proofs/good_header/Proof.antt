@@ -24,4 +24,5 @@ unfolding goodHeader
 returns c = cc
 
 pub good-header-spec : {M : Type 1} → statement M
-good-header-spec = tie.close (tie.spec get-requires shared-slice-read-version geometry-of-requires good-geometry-requires zeros-requires returns)
+good-header-spec =
+    tie.close (tie.spec get-requires shared-slice-read-version geometry-of-requires good-geometry-requires zeros-requires returns)

@@ -1,7 +1,7 @@
 -- `in_window` answers whether the number stands in the window. The invariant: it stands in no slot passed.
 use Prim.Native.Nat.{_≤_, _-_}
 use mathlib.Core.Bool.{false}
-use mathlib.Core.Path.{_≡_, sym}
+use mathlib.Core.Path.{_≡_}
 use Rattle.protocol.specs.Below.{anyBelow}
 use Rattle.protocol.specs.Ring.{windowHas}
 use Rattle.protocol.proofs.Below.{any-more}

@@ -1,0 +1,8 @@
+-- The worked history of specs/Example, computed. Assumes nothing.
+use mathlib.Core.Path.{refl}
+use Rattle.protocol.specs.Example.{Worked}
+use Rattle.protocol.proofs.Computing.{computing}
+
+pub worked : Worked
+unfolding computing
+worked = record { said = refl; read = refl; kept = refl; rests = refl }

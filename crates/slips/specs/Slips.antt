@@ -1,0 +1,110 @@
+-- Document 01, "Slips this design invites": each slip as a definition of its own, a short history with it, and the block that is lost.
+-- In each the card holds 7 in blocks 2 and 3 before the slip, and nothing but 7 may be read after it: the save of 8 is never finished.
+use Prim.Native.Nat.{ℕ, _+_}
+use mathlib.Core.List.{List, [], _∷_, _++_}
+use mathlib.Core.Bool.{Bool, cond, _&&_}
+use mathlib.Core.Path.{_≡_}
+use lib.ListN.{replicate}
+use lib.Dec.{eqb}
+use Rattle.protocol.specs.declared.Entry.{Entry}
+use Rattle.protocol.specs.declared.Geometry.{Geometry}
+use Rattle.protocol.specs.Below.{eachBelow}
+use Rattle.protocol.specs.Entry.{FRESH, entryOf, unused, entryAt}
+use Rattle.protocol.specs.Ring.{headOf, inWindow, usedAt, undoableAt, findEntry}
+use Rattle.protocol.specs.Store.{card, disk, Run, madeOn, made, words, entryStore, tailStore, single}
+use Rattle.protocol.specs.Commit.{newBlock, entryFound, oldBlock, blockRuns, commitRuns}
+use Rattle.protocol.specs.Load.{writeBack}
+use Rattle.protocol.specs.Recover.{ifChanging, recoverRuns}
+use Rattle.protocol.specs.History.{Media, run}
+use Rattle.protocol.specs.Example.{tiny, start, saved, ample, firstByte}
+
+-- the media after the first `allowance` stores of the runs
+unfoldable pub stepped : ℕ → List Run → Media → Media
+stepped allowance rs m =
+    record { onCard = madeOn card (made allowance rs) (m .onCard); onDisk = madeOn disk (made allowance rs) (m .onDisk) }
+
+-- a save of 8 over blocks 2 and 3, cut; and the recovery of document 01
+abbrev pub before : Media
+before = run saved start
+
+unfoldable pub saving : Media → List Run
+saving m = commitRuns tiny (m .onCard) (2 ∷ 3 ∷ []) (replicate 1024 8)
+
+unfoldable pub recovering : Media → List Run
+recovering m = recoverRuns tiny (m .onCard)
+
+unfoldable pub then : ℕ → (Media → List Run) → Media → Media
+then allowance f m = stepped allowance (f m) m
+
+-- recovery of the entries that a test picks, each undone in a given way
+unfoldable pub recoveryBy : (Geometry → List ℕ → ℕ → Bool) → (Entry → Entry) → Media → List Run
+recoveryBy picked undo m =
+    eachBelow
+    (λ i. cond (picked tiny (m .onCard) i) (ifChanging (m .onCard) (entryStore tiny i (undo (entryAt tiny (m .onCard) i)))) [])
+    4
+    ++ ifChanging (m .onCard) (tailStore (headOf (m .onCard)))
+
+-- "Scanning only the window when Head and Tail differ"
+unfoldable pub inWindowOnly : Geometry → List ℕ → ℕ → Bool
+inWindowOnly g c i = usedAt g c i && inWindow g c (entryAt g c i .number)
+
+unfoldable pub undoneRight : Entry → Entry
+undoneRight e = cond (eqb (e .previous) FRESH) unused (entryOf 0x82 (e .number) (e .previous) (e .previous))
+
+-- "Setting previous to FRESH .. when undoing"
+unfoldable pub undoneFresh : Entry → Entry
+undoneFresh e = cond (eqb (e .previous) FRESH) unused (entryOf 0x82 (e .number) FRESH (e .previous))
+
+-- "Undoing to a clean flag"
+unfoldable pub undoneClean : Entry → Entry
+undoneClean e = cond (eqb (e .previous) FRESH) unused (entryOf 0x80 (e .number) (e .previous) (e .previous))
+
+-- a recovery that empties the card
+unfoldable pub emptied : Entry → Entry
+emptied e = unused
+
+-- "Setting previous to FRESH at the role switch"
+unfoldable pub switchingFresh : Media → List Run
+switchingFresh m =
+    eachBelow (blockRuns tiny (m .onCard) (2 ∷ 3 ∷ []) (replicate 1024 8)) 2
+    ++ eachBelow
+    (λ i. single (entryStore tiny (entryFound tiny (m .onCard) (2 ∷ 3 ∷ []) i) (entryOf 0x82 (i + 2) FRESH (newBlock tiny (m .onCard) i))))
+    2
+
+-- "Giving out a data block that holds the previous version of a block in this same commit": the second block goes over the first's old one
+unfoldable pub reusing : Media → List Run
+reusing m =
+    blockRuns tiny (m .onCard) (2 ∷ 3 ∷ []) (replicate 1024 8) 0
+    ++ (words tiny (oldBlock tiny (m .onCard) (2 ∷ 3 ∷ []) 0) (replicate 512 8) ∷ [])
+
+-- "Zeroing an entry before its sectors are on disk"
+unfoldable pub zeroingFirst : Media → List Run
+zeroingFirst m = single (entryStore tiny (findEntry tiny (m .onCard) 2) unused) ++ writeBack tiny (m .onCard) 2
+
+unfoldable pub evicting : Media → List Run
+evicting m = writeBack tiny (m .onCard) 2 ++ single (entryStore tiny (findEntry tiny (m .onCard) 2) unused)
+
+-- what is read of a block afterwards is not the 7 that was saved
+pub record Lost : Type 0 where
+  -- cut after the second block's entry: the window has only the first number, and 8 is read of block 3
+  pub windowOnly : firstByte (then ample (recoveryBy inWindowOnly undoneRight) (then 133 saving before)) 3 ≡ 8
+  -- cut before Tail's store: the old version is forgotten, and the disk's 1 is read
+  pub switchFresh : firstByte (then ample recovering (then ample switchingFresh before)) 2 ≡ 1
+  -- recovery cut after its first store, and recovered again
+  pub undoFresh :
+      firstByte (then ample (recoveryBy undoableAt undoneFresh) (then 1 (recoveryBy undoableAt undoneFresh) (then 136 saving before))) 2 ≡ 1
+  -- the older version was modified, and an evict does not write it
+  pub undoClean : firstByte (then ample evicting (then ample (recoveryBy undoableAt undoneClean) (then 136 saving before))) 2 ≡ 1
+  -- cut in the second block's words: block 2 is undone to a block that was written over
+  pub reused : firstByte (then ample recovering (then 100 reusing before)) 2 ≡ 8
+  -- cut after the entry is zeroed
+  pub zeroedFirst : firstByte (then 1 zeroingFirst before) 2 ≡ 1
+  -- no trace of the cut save, and none of the saved one
+  pub emptiedAll : firstByte (then ample (recoveryBy undoableAt emptied) (then 136 saving before)) 2 ≡ 1
+  -- and what document 01 asks for: 7 in each case
+  pub right : firstByte (then ample recovering (then 133 saving before)) 3
+      ∷ firstByte (then ample recovering (then 1 recovering (then 136 saving before))) 2
+      ∷ firstByte (then ample evicting (then ample recovering (then 136 saving before))) 2
+      ∷ firstByte (then 1 evicting before) 2
+      ∷ []
+      ≡ 7 ∷ 7 ∷ 7 ∷ 7 ∷ []
