@@ -1,22 +1,79 @@
 // State, read and look: what a card and its disk hold, at every input, however damaged.
+use protocol::Condition;
+use protocol::Geometry;
 use protocol::Held;
+use protocol::Reported;
+use protocol::State;
+use ring::Window;
 ghost use mathlib.Core.Path.{_≡_};
 ghost use mathlib.Core.Bool.{true};
-ghost use Prim.Native.Nat.{_+_, _≤_};
+ghost use Prim.Native.Nat.{_+_, _≤_, _<_};
 ghost use lib.ListN.{length};
-ghost use Rattle.protocol.specs.Layout.{goodGeometry, blockPlace, diskPlace, geometryOf};
-ghost use Rattle.protocol.specs.Read.{heldBy, outputAfter, lookedAt, stateOf};
-ghost use Rattle.lookup.specs.Place.{foundAt};
+ghost use Rattle.protocol.specs.Layout.{goodGeometry, blockSize};
+ghost use Rattle.protocol.specs.Read.{heldBy, outputAfter, lookedAt, conditionOf, stateOf};
+ghost use Rattle.lookup.specs.Place.{Listed, Copied, placeIn, soughtAt, foundAt};
+ghost use Rattle.ring.specs.Fitted.{Fitted, Placed, WindowOf};
+ghost use Rattle.lookup.specs.Counted.{counted};
+ghost use Rattle.protocol.specs.Below.{countBelow};
+ghost use Rattle.protocol.specs.Ring.{isSettled};
 
-// Where a block lies: refused by checks 1 to 7, outside the disk, or at a place of the card or of the disk.
+// Where a block lies: refused by checks 1 to 7, outside the disk, or at a place of the card or of the disk; with it B, if known.
 pub enum Found {
     Refused(u8),
-    Outside,
-    Card(u64),
-    Disk(u64),
+    Outside(usize),
+    Card(usize, usize),
+    Disk(usize, usize),
 }
 
-// Where disk block b lies. One pass over the entries serves the checks and the search.
+fn wide(k: u32) -> u64
+    ensures { λ r. ⌜ r ≡ k ⌝ }
+{
+    k as u64
+}
+
+fn size_of(g: Geometry) -> usize
+    requires { ⌜ goodGeometry g ≡ true ⌝ }
+    ensures { λ r. ⌜ r ≡ blockSize g ⌝ }
+{
+    codec::block_size(g) as usize
+}
+
+// Where disk block b lies on a card whose keys are listed.
+fn locate(g: Geometry, card: &[u8], ids: &[u32; 128], currents: &[u32; 128], b: u64) -> Found
+    requires { ⌜ Listed g (now card) (now ids) (now currents) × (b < g .disk) ⌝ }
+    ensures { λ r. ⌜ r ≡ placeIn g (now (card .entry)) b ⌝ }
+{
+    let n = g.blocks as usize;
+    let size = size_of(g);
+    let i = checks::find_key(ids, n, b as u32);
+    if i < n {
+        Found::Card(stores::block_place(g, wide(currents[i])), size)
+    } else {
+        Found::Disk(stores::disk_place(g, b), size)
+    }
+}
+
+// The same of a card that passed checks 1 to 3. One pass over the entries serves the checks and the search.
+fn seek(g: Geometry, card: &[u8], b: u64) -> Found
+    requires { ⌜ Fitted g (now card) ⌝ }
+    ensures { λ r. ⌜ r ≡ soughtAt g (now (card .entry)) b ⌝ }
+{
+    let mut ids = [0u32; 128];
+    let mut currents = [0u32; 128];
+    let v = checks::inspect(g, card, &mut ids, &mut currents);
+    if v.refusal != 0 {
+        return Found::Refused(v.refusal);
+    }
+    if !v.settled {
+        return Found::Refused(7);
+    }
+    if g.disk <= b {
+        return Found::Outside(size_of(g));
+    }
+    locate(g, card, &ids, &currents, b)
+}
+
+// Where disk block b lies.
 pub fn find(card: &[u8], disk: &[u8], b: u64) -> Found
     ensures { λ r. ⌜ r ≡ foundAt (now (card .entry)) (now (disk .entry)) b ⌝ }
 {
@@ -29,23 +86,134 @@ pub fn find(card: &[u8], disk: &[u8], b: u64) -> Found
     if d != 0 {
         return Found::Refused(d);
     }
+    seek(g, card, b)
+}
+
+// Hands back disk block b as a part of the card or of the disk, without copying; an empty part where it is refused.
+pub fn look<'a>(card: &'a [u8], disk: &'a [u8], b: u64) -> &'a [u8]
+    ensures { λ r. ⌜ now r ≡ lookedAt (now (card .entry)) (now (disk .entry)) b ⌝ }
+{
+    match find(card, disk, b) {
+        Found::Card(at, size) => &card[at..at + size],
+        Found::Disk(at, size) => &disk[at..at + size],
+        Found::Refused(_) => &card[..0],
+        Found::Outside(_) => &card[..0],
+    }
+}
+
+// Copies what stands at a place to an output of that size, or leaves the output.
+fn copy_out(src: &[u8], at: usize, size: usize, out: &mut [u8]) -> bool
+    requires { ⌜ at + size ≤ length (now src) ⌝ }
+    ensures { λ r. ⌜ Copied (now (src .entry)) at size (now (out .entry)) (now (out .exit)) r ⌝ }
+{
+    if out.len() != size {
+        return false;
+    }
+    numbers::copy(out, 0, src, at, size);
+    true
+}
+
+// Copies disk block b to an output of B bytes, and says whether card or disk held it.
+pub fn read(card: &[u8], disk: &[u8], b: u64, out: &mut [u8]) -> Held
+    ensures answer { λ r. ⌜ r ≡ heldBy (now (card .entry)) (now (disk .entry)) (now (out .entry)) b ⌝ }
+    ensures output { λ r. ⌜ now (out .exit) ≡ outputAfter (now (card .entry)) (now (disk .entry)) (now (out .entry)) b ⌝ }
+{
+    match find(card, disk, b) {
+        Found::Refused(r) => Held::Refused(r),
+        Found::Outside(size) => {
+            if out.len() == size {
+                Held::Refused(10)
+            } else {
+                Held::Refused(9)
+            }
+        }
+        Found::Card(at, size) => {
+            if copy_out(card, at, size, out) {
+                Held::Card
+            } else {
+                Held::Refused(9)
+            }
+        }
+        Found::Disk(at, size) => {
+            if copy_out(disk, at, size, out) {
+                Held::Disk
+            } else {
+                Held::Refused(9)
+            }
+        }
+    }
+}
+
+// Whether entry i is one that is counted: what 0 in use, 1 in use and modified, else undoable.
+fn is_counted(g: Geometry, card: &[u8], w: Window, what: u8, i: usize) -> bool
+    requires { ⌜ Fitted g (now card) × WindowOf g (now card) w × (i < g .blocks) ⌝ }
+    ensures { λ r. ⌜ r ≡ counted what g (now (card .entry)) i ⌝ }
+{
+    let e = checks::entry_of(g, card, i);
+    if what == 0 {
+        return codec::in_use(e);
+    }
+    if what == 1 {
+        return codec::in_use(e) & codec::is_modified(e);
+    }
+    checks::undoable(g, card, w, e)
+}
+
+// How many entries are counted.
+fn count(g: Geometry, card: &[u8], w: Window, what: u8) -> u64
+    requires { ⌜ Fitted g (now card) × WindowOf g (now card) w ⌝ }
+    ensures { λ r. ⌜ r ≡ countBelow (counted what g (now (card .entry))) (g .blocks) ⌝ }
+{
+    let n = g.blocks as usize;
+    let mut total: u64 = 0;
+    let mut i: usize = 0;
+    while i < n {
+        let hit = is_counted(g, card, w, what, i);
+        i += 1;
+        if hit {
+            total += 1;
+        }
+    }
+    total
+}
+
+// The condition of a card that passed checks 1 to 6.
+fn condition(g: Geometry, card: &[u8], settled: bool) -> Condition
+    requires { ⌜ Fitted g (now card) × Placed g (now card) × (settled ≡ isSettled g (now card)) ⌝ }
+    ensures { λ r. ⌜ r ≡ conditionOf g (now (card .entry)) ⌝ }
+{
+    let w = ring::window_of(g, card);
+    if settled {
+        Condition::Settled {
+            used: count(g, card, w, 0),
+            modified: count(g, card, w, 1),
+        }
+    } else {
+        Condition::Unsettled {
+            undoable: count(g, card, w, 2),
+            window: w.count,
+        }
+    }
+}
+
+// The geometry together with the card's condition.
+pub fn state(card: &[u8]) -> Reported
+    ensures { λ r. ⌜ r ≡ stateOf (now (card .entry)) ⌝ }
+{
+    let f = ring::fit_refusal(card);
+    if f != 0 {
+        return Reported::Refused(f);
+    }
+    let g = ring::geometry_of(card);
     let mut ids = [0u32; 128];
     let mut currents = [0u32; 128];
     let v = checks::inspect(g, card, &mut ids, &mut currents);
     if v.refusal != 0 {
-        return Found::Refused(v.refusal);
+        return Reported::Refused(v.refusal);
     }
-    if !v.settled {
-        return Found::Refused(7);
-    }
-    if g.disk <= b {
-        return Found::Outside;
-    }
-    let n = g.blocks as usize;
-    let i = checks::find_key(&ids, n, b as u32);
-    if i < n {
-        Found::Card(codec::block_place(g, currents[i] as u64))
-    } else {
-        Found::Disk(b * codec::block_size(g))
-    }
+    let c = condition(g, card, v.settled);
+    Reported::Is(State {
+        geometry: g,
+        condition: c,
+    })
 }

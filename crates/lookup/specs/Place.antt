@@ -1,0 +1,45 @@
+-- Where a block lies that is looked for: what read, look and the C interface tell in their own ways.
+use Prim.Native.Nat.{ℕ}
+use mathlib.Core.List.{List}
+use mathlib.Core.Bool.{Bool, cond, true}
+use lib.ListN.{length}
+use Rattle.numbers.specs.Bytes.{part}
+use mathlib.Core.Path.{_≡_}
+use lib.Dec.{eqb, ltb}
+use Rattle.protocol.specs.declared.Geometry.{Geometry}
+use Rattle.protocol.specs.Layout.{geometryOf, blockSize, blockPlace, diskPlace}
+use Rattle.protocol.specs.Ring.{cached, currentOf}
+use Rattle.protocol.specs.Check.{entriesFit, cardRefusal}
+use Rattle.protocol.specs.Load.{pairRefusal}
+use Rattle.ring.specs.Fitted.{Fitted}
+use Rattle.checks.specs.Keys.{numberKey, currentKey, Lists}
+use Rattle.lookup.specs.declared.Found.{Found}
+use Rattle.lookup.specs.declared.Found.the-variants.{Refused, Outside, Card, Disk}
+
+-- where the contents of b begin, and their length B
+unfoldable pub placeIn : Geometry → List ℕ → ℕ → Found
+placeIn g c b = cond (cached g c b) (Card (blockPlace g (currentOf g c b)) (blockSize g)) (Disk (diskPlace g b) (blockSize g))
+
+-- after the refusal r: refused, outside the disk, or where it lies
+unfoldable pub foundBy : Geometry → List ℕ → ℕ → ℕ → Found
+foundBy g c b r = cond (eqb r 0) (cond (ltb b (g .disk)) (placeIn g c b) (Outside (blockSize g))) (Refused r)
+
+-- by checks 4 to 7
+unfoldable pub soughtAt : Geometry → List ℕ → ℕ → Found
+soughtAt g c b = foundBy g c b (cardRefusal g c)
+
+-- by checks 1 to 7
+unfoldable pub foundAt : List ℕ → List ℕ → ℕ → Found
+foundAt c d b = foundBy (geometryOf c) c b (pairRefusal c d)
+
+-- a card that passed check 5, with the keys of its entries listed
+pub record Listed (g : Geometry) (c ids cs : List ℕ) : Type 0 where
+  pub fitted : Fitted g c
+  pub fits : entriesFit g c ≡ true
+  pub numbers : Lists (numberKey g c) ids (g .blocks)
+  pub currents : Lists (currentKey g c) cs (g .blocks)
+
+-- `size` bytes from `at` of src were copied to the whole of an output of that length; any other output is left as it was
+pub record Copied (src : List ℕ) (at size : ℕ) (before after : List ℕ) (done : Bool) : Type 0 where
+  pub fits : done ≡ eqb (length before) size
+  pub after-is : after ≡ cond done (part src at size) before

@@ -1,0 +1,4 @@
+-- When a store is left out, and how recovery's turns come together.
+pub mod Passed
+pub mod Skipped
+pub mod Turns

@@ -1,0 +1,47 @@
+-- `load` answers its definition and leaves the card as defined, refused or not; the disk stays.
+use borrow.Author.Needs.{needs}
+use Rattle.transfer.proofs.Found.{load-long, load-goes}
+use Rattle.transfer.proofs.Moving.{load-refused, load-finished}
+use Rattle.transfer.proofs.load.Statement.{statement}
+use Rattle.transfer.proofs.load.Tie as tie
+
+find-room-requires : tie.Need-find-room-requires
+find-room-requires c κs = search needs
+
+same-length : tie.Need-same-length
+same-length c = search needs
+
+returns : tie.Need-returns
+returns c = let f = c .before .before in load-refused _ _ _ _ _ (f .find-room .ensures .refusal-is) (c .if1 .taken)
+
+geometry-of-requires : tie.Need-geometry-of-requires
+geometry-of-requires c κs = search (load-long, needs)
+
+make-load-requires : tie.Need-make-load-requires
+make-load-requires c κs =
+    let e = c .before .before .before in
+    load-goes _ _ _ _ (e .before .before .find-room .ensures) (e .if1 .left) _ (c .before .geometry-of .ensures)
+
+same-length-2 : tie.Need-same-length-2
+same-length-2 c = search needs
+
+returns-2 : tie.Need-returns-2
+returns-2 c =
+    let m = c .before .before in
+    let g = m .before .before in
+    let e = g .before .before in
+    let x = e .before .before .find-room .ensures in
+    let z = e .if1 .left in
+    load-finished _ _ _ _ _ (x .refusal-is) z _ _ _ (g .geometry-of .ensures) (x .block z) (x .entry z) _ _ (m .make-load .ensures)
+
+pub load-spec : {M : Type 1} → statement M
+load-spec =
+    tie.close
+    (tie.spec
+    find-room-requires
+    same-length
+    returns
+    geometry-of-requires
+    make-load-requires
+    same-length-2
+    returns-2)
