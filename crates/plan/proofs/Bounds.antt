@@ -20,7 +20,7 @@ use Rattle.protocol.specs.Search.{takenBy, isFree, unusedAt, searchStart, freeB
 use Rattle.protocol.specs.Commit.{numberOf, uncachedAt, newBlock, entryFound, countFits, dataFits, numbersFit, numbersApart, roomFor, saveRefusal, commitRefusal}
 use Rattle.protocol.proofs.Below.{absurd-bool, either, below-or-above, and-left, and-right, or-right, or-left, all-at, around-below, count-le}
 use Rattle.protocol.proofs.Checks.{Limits, limits, orElse-none, refuse-none}
-use Rattle.protocol.proofs.Allowed.{used-entry}
+use Rattle.protocol.proofs.Allowed.{bounded}
 use Rattle.protocol.proofs.Searches.{walk-finds, unused-enough}
 use Rattle.ring.specs.Fitted.{Fitted}
 use Rattle.ring.proofs.Laws.{fit-fitted}
@@ -103,16 +103,17 @@ module _ {g : Geometry} {c ns bs : List ℕ} (v : Passed g c ns bs) where
       ⊎-elim (λ (m : j < i). absurd (currents-differ i j li m ui uj e)) (λ (m : i ≤ j). omega arith) (below-or-above j i))
       (below-or-above i j)
 
-  current-below : (i : ℕ) → i < g .blocks → usedAt g c i ≡ true → entryAt g c i .current < g .blocks
-  unfolding entriesFit goodEntryAt usedAt
-  current-below i l u =
-      used-entry (g .blocks) (g .disk) (entryAt g c i) (all-at (goodEntryAt g c) (g .blocks) i (v .fits) l) u .currentBelow
+  current-below : (i : ℕ) → i < g .blocks → entryAt g c i .current < g .blocks
+  unfolding entriesFit goodEntryAt
+  current-below i l =
+      let m : Limits g = limits g (v .fitted .good) in
+      bounded (g .blocks) (g .disk) (entryAt g c i) (omega arith) (omega arith) (all-at (goodEntryAt g c) (g .blocks) i (v .fits) l) .current
 
   -- "commit never lacks an entry"
   enough-unused : length (freeBlocks g c) ≤ length (unusedEntries g c)
   unfolding freeBlocks unusedEntries isFree takenBy unusedAt
   enough-unused =
-      unused-enough (usedAt g c) (λ i. entryAt g c i .current) (g .blocks) (searchStart g c) currents-apart current-below start-below
+      unused-enough (usedAt g c) (λ i. entryAt g c i .current) (g .blocks) (searchStart g c) currents-apart (λ i l u. current-below i l) start-below
 
   pub entry-below : (i : ℕ) → i < length ns → entryFound g c ns i < g .blocks
   unfolding entryFound uncachedAt cached unusedEntries

@@ -17,7 +17,7 @@ use Rattle.protocol.specs.Check.{goodEntryAt, entriesFit}
 use Rattle.protocol.specs.Search.{takenBy, isFree, unusedAt, searchStart}
 use Rattle.protocol.proofs.Below.{all-at, any-cong, around-below}
 use Rattle.protocol.proofs.Checks.{Limits, limits}
-use Rattle.protocol.proofs.Allowed.{UsedEntry, used-entry}
+use Rattle.protocol.proofs.Allowed.{Bounded, bounded}
 use Rattle.ring.specs.Fitted.{Fitted}
 use Rattle.checks.specs.Keys.{NONE, key, keyed, keyAt, numberKey, currentKey, Lists}
 use Rattle.plan.specs.declared.Places.{Places}
@@ -48,9 +48,9 @@ unfolding key
 key-taken true x p l = refl
 key-taken false x p l = ne-eqb NONE p (omega arith)
 
-key-none : (u : Bool) (x : ℕ) → (u ≡ true → x < NONE) → eqb (key u x) NONE ≡ not u
+key-none : (u : Bool) (x : ℕ) → x < NONE → eqb (key u x) NONE ≡ not u
 unfolding key
-key-none true x l = ne-eqb x NONE (omega (arith, l refl))
+key-none true x l = ne-eqb x NONE (omega arith)
 key-none false x l = refl
 
 -- ---- the searches
@@ -85,16 +85,13 @@ module _ (g : Geometry) (c : List ℕ) (f : Fitted g c) where
 
     pub unused-found : (ids : List ℕ) → entriesFit g c ≡ true → Lists (numberKey g c) ids (g .blocks)
         → Searched (keyed (keyAt ids) NONE) (g .blocks) start want r → Searched (unusedAt g c) (g .blocks) (searchStart g c) want r
-    unfolding unusedAt usedAt numberKey keyed entriesFit goodEntryAt
+    unfolding unusedAt numberKey keyed entriesFit goodEntryAt
     unused-found ids fit h x =
         let l : Limits g = limits g (f .good) in
         rw (← s .0)
         (searched-same _ _ (g .blocks) start want r (s .1)
         (λ i d.
-        ap (λ (k : ℕ). eqb k NONE) (h i d)
-        ∙ key-none (usedAt g c i) (entryAt g c i .number)
-        (λ u.
-        let a : UsedEntry (g .blocks) (g .disk) (entryAt g c i) =
-        used-entry (g .blocks) (g .disk) (entryAt g c i) (all-at (goodEntryAt g c) (g .blocks) i fit d) u in
-        omega arith))
+        let a : Bounded (g .blocks) (g .disk) (entryAt g c i) =
+        bounded (g .blocks) (g .disk) (entryAt g c i) (omega arith) (omega arith) (all-at (goodEntryAt g c) (g .blocks) i fit d) in
+        ap (λ (k : ℕ). eqb k NONE) (h i d) ∙ key-none (usedAt g c i) (entryAt g c i .number) (omega arith))
         x)

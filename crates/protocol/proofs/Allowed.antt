@@ -1,7 +1,7 @@
 -- The entries that check 5 allows, by cases, and the flags of each. Assumes nothing.
 use Prim.Native.Nat.{ℕ, _/_, _%_, _<_}
 use mathlib.Core.Bool.{true, false, _&&_, _||_}
-use mathlib.Core.Path.{_≡_, refl, sym, ap, _∙_}
+use mathlib.Core.Path.{_≡_, refl, sym, ap, subst, _∙_}
 use mathlib.Core.Logic.{_⊎_, inl, inr, ⊎-elim}
 use lib.Dec.{eqb, ltb}
 use borrow.Author.Tests.{eqb-true, ltb-true, lt-ltb, eq-eqb}
@@ -58,6 +58,18 @@ good-cases n d e h = ⊎-elim (λ u. inl (blank u)) (λ u. inr (in-use u)) (or-t
               ⊎-elim (λ x. inl (ltb-true _ _ x)) (λ x. inr (eqb-true _ _ x))
               (or-true (ltb (e .previous) n) (eqb (e .previous) FRESH) (and-right (ltb (e .current) n) _ s));
         }
+
+-- a number and a current block within their limits, in use or not
+pub record Bounded (n d : ℕ) (e : Entry) : Type 0 where
+  pub number : e .number < d
+  pub current : e .current < n
+
+pub bounded : (n d : ℕ) (e : Entry) → 0 < n → 0 < d → goodEntry n d e ≡ true → Bounded n d e
+bounded n d e hn hd h =
+    ⊎-elim
+    (λ b. subst (Bounded n d) (sym b) (record { number = hd; current = hn }))
+    (λ u. record { number = u .numberBelow; current = u .currentBelow })
+    (good-cases n d e h)
 
 pub used-good : (n d : ℕ) (e : Entry) → UsedEntry n d e → goodEntry n d e ≡ true
 unfolding goodEntry

@@ -21,7 +21,8 @@ use Rattle.protocol.specs.Search.{isFree, unusedAt, searchStart, freeBlocks, un
 use Rattle.protocol.specs.Commit.{numberOf, uncachedAt, newBlock, entryFound, roomFor}
 use Rattle.protocol.specs.Load.{loadRefusal, evictRefusal}
 use Rattle.protocol.proofs.Below.{all-at}
-use Rattle.protocol.proofs.Checks.{Limits, limits, allowed, refuse-passed, refuse-failed, refuse-none, orElse-first, orElse-next, orElse-none}
+use Rattle.protocol.proofs.Allowed.{bounded}
+use Rattle.protocol.proofs.Checks.{Limits, limits, refuse-passed, refuse-failed, refuse-none, orElse-first, orElse-next, orElse-none}
 use Rattle.protocol.proofs.Region.{block, in-card, place-block}
 use Rattle.protocol.proofs.Made.{in-disk}
 use Rattle.ring.specs.Fitted.{Fitted}
@@ -230,7 +231,7 @@ pub current-below : (g : Geometry) (c : List ℕ) (i : ℕ) (e : Entry) → Fitt
 unfolding entriesFit goodEntryAt
 current-below g c i e f fits l is =
     let m : Limits g = limits g (f .good) in
-    let a = allowed (g .blocks) (g .disk) (entryAt g c i) (omega arith) (omega arith) (all-at (goodEntryAt g c) (g .blocks) i fits l) in
+    let a = bounded (g .blocks) (g .disk) (entryAt g c i) (omega arith) (omega arith) (all-at (goodEntryAt g c) (g .blocks) i fits l) in
     subst (λ (x : Entry). x .current < g .blocks) (sym is) (a .current)
 
 pub card-holds : (g : Geometry) (c : List ℕ) (p from : ℕ) → Fitted g c → p < g .blocks → from ≡ blockPlace g p → from + blockSize g ≤ length c
