@@ -28,7 +28,7 @@ use Rattle.protocol.proofs.Passed.{first-zero, second-zero, passed}
 use Rattle.protocol.proofs.Region.{block, in-card, place-block}
 use Rattle.lookup.specs.declared.Found.{Found}
 use Rattle.lookup.specs.declared.Found.the-variants.{Refused, Outside, Card, Disk}
-use Rattle.lookup.specs.Place.{placeIn, foundBy, foundAt, Copied}
+use Rattle.lookup.specs.Place.{placeIn, foundBy, foundAt, fetchedAt, Copied}
 
 -- ---- where it is
 
@@ -192,24 +192,24 @@ copied-all src at n out after f l e =
     }
 
 -- what read promises: its answer and its output
-abbrev pub Promised : List ℕ → List ℕ → ℕ → List ℕ → List ℕ → Held → Type 0
-Promised c d b out after r = (r ≡ heldBy c d out b) × (after ≡ outputAfter c d out b)
+abbrev pub Promised : List ℕ → List ℕ → ℕ → List ℕ → List ℕ → Found → Type 0
+Promised c d b out after r = (r ≡ fetchedAt c d out b) × (after ≡ outputAfter c d out b)
 
 -- refused, with the output as it was
-refused-so : (c d : List ℕ) (b : ℕ) (out : List ℕ) (r : ℕ) → r ≡ readRefusal c d out b → (r ≡ 0 → ⊥) → Promised c d b out out (HeldRefused r)
-unfolding heldBy outputAfter
+refused-so : (c d : List ℕ) (b : ℕ) (out : List ℕ) (r : ℕ) → r ≡ readRefusal c d out b → (r ≡ 0 → ⊥) → Promised c d b out out (Refused r)
+unfolding fetchedAt outputAfter
 refused-so c d b out r e h =
     let f : eqb (readRefusal c d out b) 0 ≡ false = ne-eqb _ _ (λ z. h (e ∙ z)) in (
-      ap HeldRefused e ∙ sym (ap (λ (t : Bool). cond t (cond (cached (G c) c b) HeldCard HeldDisk) (HeldRefused (readRefusal c d out b))) f),
+      ap Refused e ∙ sym (ap (λ (t : Bool). cond t (placeIn (G c) c b) (Refused (readRefusal c d out b))) f),
       sym (ap (λ (t : Bool). cond t (contents (G c) c d b) out) f),
     )
 
 module _ (c d : List ℕ) (b : ℕ) (out : List ℕ) where
-  pub read-refused : (r : ℕ) → Refused r ≡ foundAt c d b → Promised c d b out out (HeldRefused r)
+  pub read-refused : (r : ℕ) → Refused r ≡ foundAt c d b → Promised c d b out out (Refused r)
   unfolding readRefusal
   read-refused r e = go (where-is c d b (Refused r) e)
     where
-      go : Where c d b (Refused r) → Promised c d b out out (HeldRefused r)
+      go : Where c d b (Refused r) → Promised c d b out out (Refused r)
       go (in-none p z) =
           let er : r ≡ pairRefusal c d = cc in
           refused-so c d b out r (orElse-first r (pairRefusal c d) _ er (λ h. z (sym er ∙ h))) (λ h. z (sym er ∙ h))
@@ -218,11 +218,11 @@ module _ (c d : List ℕ) (b : ℕ) (out : List ℕ) where
       go (in-home p z l k) = let w : _≡_ {A = ℕ} 0 1 = cc in absurd (omega arith)
 
   -- outside the disk: 10 with an output of B bytes, else 9
-  pub read-outside : (n : ℕ) → Outside n ≡ foundAt c d b → length out ≡ n → Promised c d b out out (HeldRefused 10)
+  pub read-outside : (n : ℕ) → Outside n ≡ foundAt c d b → length out ≡ n → Promised c d b out out (Refused 10)
   unfolding refuse _orElse_
   read-outside n e len = go (where-is c d b (Outside n) e)
     where
-      go : Where c d b (Outside n) → Promised c d b out out (HeldRefused 10)
+      go : Where c d b (Outside n) → Promised c d b out out (Refused 10)
       go (in-none p z) = let w : _≡_ {A = ℕ} 0 1 = cc in absurd (omega arith)
       go (in-nothing p z l) =
           let en : n ≡ blockSize (G c) = cc in
@@ -231,71 +231,71 @@ module _ (c d : List ℕ) (b : ℕ) (out : List ℕ) where
       go (in-home p z l k) = let w : _≡_ {A = ℕ} 0 1 = cc in absurd (omega arith)
 
   -- an output that is not B bytes
-  wrong-output : (n : ℕ) → pairRefusal c d ≡ 0 → n ≡ blockSize (G c) → (length out ≡ n → ⊥) → Promised c d b out out (HeldRefused 9)
+  wrong-output : (n : ℕ) → pairRefusal c d ≡ 0 → n ≡ blockSize (G c) → (length out ≡ n → ⊥) → Promised c d b out out (Refused 9)
   unfolding refuse _orElse_
   wrong-output n z en h =
       refused-so c d b out 9 (sym (read-by c d z out b ∙ rw (ne-eqb (length out) (blockSize (G c)) (λ q. h (q ∙ sym en))))) (λ q. omega arith)
 
-  pub read-outside-short : (n : ℕ) → Outside n ≡ foundAt c d b → (length out ≡ n → ⊥) → Promised c d b out out (HeldRefused 9)
+  pub read-outside-short : (n : ℕ) → Outside n ≡ foundAt c d b → (length out ≡ n → ⊥) → Promised c d b out out (Refused 9)
   read-outside-short n e h = go (where-is c d b (Outside n) e)
     where
-      go : Where c d b (Outside n) → Promised c d b out out (HeldRefused 9)
+      go : Where c d b (Outside n) → Promised c d b out out (Refused 9)
       go (in-none p z) = let w : _≡_ {A = ℕ} 0 1 = cc in absurd (omega arith)
       go (in-nothing p z l) = wrong-output n z (cc) h
       go (in-cache p z l k) = let w : _≡_ {A = ℕ} 0 1 = cc in absurd (omega arith)
       go (in-home p z l k) = let w : _≡_ {A = ℕ} 0 1 = cc in absurd (omega arith)
 
   -- found, with the output right or wrong
-  taken : (held : Held) (after : List ℕ) (z : pairRefusal c d ≡ 0) → b < G c .disk → length out ≡ blockSize (G c)
-      → cond (cached (G c) c b) HeldCard HeldDisk ≡ held → after ≡ contents (G c) c d b → Promised c d b out after held
-  unfolding heldBy outputAfter refuse _orElse_
+  taken : (held : Found) (after : List ℕ) (z : pairRefusal c d ≡ 0) → b < G c .disk → length out ≡ blockSize (G c)
+      → placeIn (G c) c b ≡ held → after ≡ contents (G c) c d b → Promised c d b out after held
+  unfolding fetchedAt outputAfter refuse _orElse_
   taken held after z l len eh ea =
       let r : readRefusal c d out b ≡ 0 = read-by c d z out b ∙ rw (eq-eqb _ _ len, lt-ltb b (G c .disk) l) in (
-        sym eh ∙ sym (ap (λ (t : Bool). cond t (cond (cached (G c) c b) HeldCard HeldDisk) (HeldRefused (readRefusal c d out b))) (eq-eqb _ _ r)),
+        sym eh ∙ sym (ap (λ (t : Bool). cond t (placeIn (G c) c b) (Refused (readRefusal c d out b))) (eq-eqb _ _ r)),
         ea ∙ sym (ap (λ (t : Bool). cond t (contents (G c) c d b) out) (eq-eqb _ _ r)),
       )
 
   pub read-card : (at n : ℕ) (after : List ℕ) (done : Bool) → Card at n ≡ foundAt c d b → Copied c at n out after done → done ≡ true
-      → Promised c d b out after HeldCard
-  unfolding contents blockAt
+      → Promised c d b out after (Card at n)
+  unfolding contents blockAt placeIn
   read-card at n after done e y t = go (where-is c d b (Card at n) e)
     where
-      go : Where c d b (Card at n) → Promised c d b out after HeldCard
+      go : Where c d b (Card at n) → Promised c d b out after (Card at n)
       go (in-none p z) = let w : _≡_ {A = ℕ} 0 1 = cc in absurd (omega arith)
       go (in-nothing p z l) = let w : _≡_ {A = ℕ} 0 1 = cc in absurd (omega arith)
       go (in-cache p z l k) =
           let ea : at ≡ blockPlace (G c) (currentOf (G c) c b) = cc in
           let en : n ≡ blockSize (G c) = cc in
-          taken HeldCard after z l (eqb-true _ _ (sym (y .fits) ∙ t) ∙ en) (rw k)
+          taken (Card at n) after z l (eqb-true _ _ (sym (y .fits) ∙ t) ∙ en) (rw k (λ s. Card (sym ea s) (sym en s)))
           (y .after-is ∙ ap (λ (q : Bool). cond q (part c at n) out) t ∙ (λ s. part c (ea s) (en s)) ∙ rw k)
       go (in-home p z l k) = let w : _≡_ {A = ℕ} 0 1 = cc in absurd (omega arith)
 
   pub read-disk : (at n : ℕ) (after : List ℕ) (done : Bool) → Disk at n ≡ foundAt c d b → Copied d at n out after done → done ≡ true
-      → Promised c d b out after HeldDisk
-  unfolding contents diskBlock
+      → Promised c d b out after (Disk at n)
+  unfolding contents diskBlock placeIn
   read-disk at n after done e y t = go (where-is c d b (Disk at n) e)
     where
-      go : Where c d b (Disk at n) → Promised c d b out after HeldDisk
+      go : Where c d b (Disk at n) → Promised c d b out after (Disk at n)
       go (in-none p z) = let w : _≡_ {A = ℕ} 0 1 = cc in absurd (omega arith)
       go (in-nothing p z l) = let w : _≡_ {A = ℕ} 0 1 = cc in absurd (omega arith)
       go (in-cache p z l k) = let w : _≡_ {A = ℕ} 0 1 = cc in absurd (omega arith)
       go (in-home p z l k) =
           let ea : at ≡ diskPlace (G c) b = cc in
           let en : n ≡ blockSize (G c) = cc in
-          taken HeldDisk after z l (eqb-true _ _ (sym (y .fits) ∙ t) ∙ en) (rw k)
+          taken (Disk at n) after z l (eqb-true _ _ (sym (y .fits) ∙ t) ∙ en) (rw k (λ s. Disk (sym ea s) (sym en s)))
           (y .after-is ∙ ap (λ (q : Bool). cond q (part d at n) out) t ∙ (λ s. part d (ea s) (en s)) ∙ rw k)
 
   -- found, and the output is of another length: on the card or on the disk
   pub read-short : (f : Found) (src : List ℕ) (at n : ℕ) (after : List ℕ) (done : Bool) → f ≡ foundAt c d b → (f ≡ Card at n) ⊎ (f ≡ Disk at n)
-      → Copied src at n out after done → done ≡ false → Promised c d b out after (HeldRefused 9)
+      → Copied src at n out after done → done ≡ false → Promised c d b out after (Refused 9)
   read-short f src at n after done e which y t =
-      subst (λ (z : List ℕ). Promised c d b out z (HeldRefused 9)) (sym (y .after-is ∙ ap (λ (q : Bool). cond q (part src at n) out) t))
+      subst (λ (z : List ℕ). Promised c d b out z (Refused 9)) (sym (y .after-is ∙ ap (λ (q : Bool). cond q (part src at n) out) t))
       (go (where-is c d b f e) which)
     where
       wrong : length out ≡ n → ⊥
       wrong = eqb-false _ _ (sym (y .fits) ∙ t)
 
-      go : Where c d b f → (f ≡ Card at n) ⊎ (f ≡ Disk at n) → Promised c d b out out (HeldRefused 9)
+      go : Where c d b f → (f ≡ Card at n) ⊎ (f ≡ Disk at n) → Promised c d b out out (Refused 9)
       go (in-none p z) (inl q) = let w : _≡_ {A = ℕ} 0 1 = cc in absurd (omega arith)
       go (in-none p z) (inr q) = let w : _≡_ {A = ℕ} 0 1 = cc in absurd (omega arith)
       go (in-nothing p z l) (inl q) = let w : _≡_ {A = ℕ} 0 1 = cc in absurd (omega arith)
@@ -306,9 +306,59 @@ module _ (c d : List ℕ) (b : ℕ) (out : List ℕ) where
       go (in-home p z l k) (inr q) = wrong-output n z (cc) wrong
 
   pub read-card-short : (at n : ℕ) (after : List ℕ) (done : Bool) → Card at n ≡ foundAt c d b → Copied c at n out after done → done ≡ false
-      → Promised c d b out after (HeldRefused 9)
+      → Promised c d b out after (Refused 9)
   read-card-short at n after done e y t = read-short (Card at n) c at n after done e (inl refl) y t
 
   pub read-disk-short : (at n : ℕ) (after : List ℕ) (done : Bool) → Disk at n ≡ foundAt c d b → Copied d at n out after done → done ≡ false
-      → Promised c d b out after (HeldRefused 9)
+      → Promised c d b out after (Refused 9)
   read-disk-short at n after done e y t = read-short (Disk at n) d at n after done e (inr refl) y t
+
+-- ---- who held it
+
+module _ (c d : List ℕ) (b : ℕ) (out : List ℕ) where
+  -- fetched from a place, or refused
+  heldIs : Found → Held → Type 0
+  heldIs f h = f ≡ fetchedAt c d out b → h ≡ heldBy c d out b
+
+  by-cases : (f : Found) (h : Held) → (readRefusal c d out b ≡ 0 → cached (G c) c b ≡ true → f ≡ placeIn (G c) c b → h ≡ HeldCard)
+      → (readRefusal c d out b ≡ 0 → cached (G c) c b ≡ false → f ≡ placeIn (G c) c b → h ≡ HeldDisk)
+      → (f ≡ Refused (readRefusal c d out b) → h ≡ HeldRefused (readRefusal c d out b)) → heldIs f h
+  unfolding heldIs fetchedAt heldBy
+  by-cases f h a k r e = go (either (eqb (readRefusal c d out b) 0)) (either (cached (G c) c b))
+    where
+      go : (eqb (readRefusal c d out b) 0 ≡ true) ⊎ (eqb (readRefusal c d out b) 0 ≡ false) → (cached (G c) c b ≡ true) ⊎ (cached (G c) c b ≡ false)
+          → h ≡ cond (eqb (readRefusal c d out b) 0) (cond (cached (G c) c b) HeldCard HeldDisk) (HeldRefused (readRefusal c d out b))
+      go (inl z) (inl y) = a (eqb-true _ _ z) y (e ∙ rw z) ∙ sym (rw (z, y))
+      go (inl z) (inr y) = k (eqb-true _ _ z) y (e ∙ rw z) ∙ sym (rw (z, y))
+      go (inr z) y = r (e ∙ rw z) ∙ sym (rw z)
+
+  pub held-card : (at n : ℕ) → Card at n ≡ fetchedAt c d out b → HeldCard ≡ heldBy c d out b
+  unfolding placeIn heldIs
+  held-card at n e =
+      by-cases (Card at n) HeldCard (λ z y f. refl)
+      (λ z y f. let w : Card at n ≡ Disk (diskPlace (G c) b) (blockSize (G c)) = f ∙ rw y in let x : _≡_ {A = ℕ} 0 1 = cc in absurd (omega arith))
+      (λ f. let x : _≡_ {A = ℕ} 0 1 = cc in absurd (omega arith)) e
+
+  pub held-disk : (at n : ℕ) → Disk at n ≡ fetchedAt c d out b → HeldDisk ≡ heldBy c d out b
+  unfolding placeIn heldIs
+  held-disk at n e =
+      by-cases (Disk at n) HeldDisk
+      (λ z y f. let w : Disk at n ≡ Card (blockPlace (G c) (currentOf (G c) c b)) (blockSize (G c)) = f ∙ rw y in let x : _≡_ {A = ℕ} 0 1 = cc in absurd (omega arith))
+      (λ z y f. refl) (λ f. let x : _≡_ {A = ℕ} 0 1 = cc in absurd (omega arith)) e
+
+  pub held-refused : (r : ℕ) → Refused r ≡ fetchedAt c d out b → HeldRefused r ≡ heldBy c d out b
+  unfolding placeIn heldIs
+  held-refused r e =
+      by-cases (Refused r) (HeldRefused r)
+      (λ z y f. let w : Refused r ≡ Card (blockPlace (G c) (currentOf (G c) c b)) (blockSize (G c)) = f ∙ rw y in let x : _≡_ {A = ℕ} 0 1 = cc in absurd (omega arith))
+      (λ z y f. let w : Refused r ≡ Disk (diskPlace (G c) b) (blockSize (G c)) = f ∙ rw y in let x : _≡_ {A = ℕ} 0 1 = cc in absurd (omega arith))
+      (λ f. let x : r ≡ readRefusal c d out b = cc in ap HeldRefused x) e
+
+  -- a fetch never ends outside the disk
+  pub held-outside : (n : ℕ) → Outside n ≡ fetchedAt c d out b → HeldRefused 10 ≡ heldBy c d out b
+  unfolding placeIn heldIs
+  held-outside n e =
+      by-cases (Outside n) (HeldRefused 10)
+      (λ z y f. let w : Outside n ≡ Card (blockPlace (G c) (currentOf (G c) c b)) (blockSize (G c)) = f ∙ rw y in let x : _≡_ {A = ℕ} 0 1 = cc in absurd (omega arith))
+      (λ z y f. let w : Outside n ≡ Disk (diskPlace (G c) b) (blockSize (G c)) = f ∙ rw y in let x : _≡_ {A = ℕ} 0 1 = cc in absurd (omega arith))
+      (λ f. let x : _≡_ {A = ℕ} 0 1 = cc in absurd (omega arith)) e

@@ -11,6 +11,7 @@ use Rattle.protocol.specs.Layout.{geometryOf, blockSize, blockPlace, diskPlace}
 use Rattle.protocol.specs.Ring.{cached, currentOf}
 use Rattle.protocol.specs.Check.{entriesFit, cardRefusal}
 use Rattle.protocol.specs.Load.{pairRefusal}
+use Rattle.protocol.specs.Read.{readRefusal}
 use Rattle.ring.specs.Fitted.{Fitted}
 use Rattle.checks.specs.Keys.{numberKey, currentKey, Lists}
 use Rattle.lookup.specs.declared.Found.{Found}
@@ -31,6 +32,10 @@ soughtAt g c b = foundBy g c b (cardRefusal g c)
 -- by checks 1 to 7
 unfoldable pub foundAt : List ℕ → List ℕ → ℕ → Found
 foundAt c d b = foundBy (geometryOf c) c b (pairRefusal c d)
+
+-- what a read comes to: refused by all its checks, or where it was copied from
+unfoldable pub fetchedAt : List ℕ → List ℕ → List ℕ → ℕ → Found
+fetchedAt c d out b = cond (eqb (readRefusal c d out b) 0) (placeIn (geometryOf c) c b) (Refused (readRefusal c d out b))
 
 -- a card that passed check 5, with the keys of its entries listed
 pub record Listed (g : Geometry) (c ids cs : List ℕ) : Type 0 where

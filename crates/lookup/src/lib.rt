@@ -11,7 +11,7 @@ ghost use Prim.Native.Nat.{_+_, _≤_, _<_};
 ghost use lib.ListN.{length};
 ghost use Rattle.protocol.specs.Layout.{goodGeometry, blockSize};
 ghost use Rattle.protocol.specs.Read.{heldBy, outputAfter, lookedAt, conditionOf, stateOf};
-ghost use Rattle.lookup.specs.Place.{Listed, Copied, placeIn, soughtAt, foundAt};
+ghost use Rattle.lookup.specs.Place.{Listed, Copied, placeIn, soughtAt, foundAt, fetchedAt};
 ghost use Rattle.ring.specs.Fitted.{Fitted, Placed, WindowOf};
 ghost use Rattle.lookup.specs.Counted.{counted};
 ghost use Rattle.protocol.specs.Below.{countBelow};
@@ -113,34 +113,47 @@ fn copy_out(src: &[u8], at: usize, size: usize, out: &mut [u8]) -> bool
     true
 }
 
+// Copies disk block b to an output of B bytes, and tells where it lies.
+pub fn fetch(card: &[u8], disk: &[u8], b: u64, out: &mut [u8]) -> Found
+    ensures answer { λ r. ⌜ r ≡ fetchedAt (now (card .entry)) (now (disk .entry)) (now (out .entry)) b ⌝ }
+    ensures output { λ r. ⌜ now (out .exit) ≡ outputAfter (now (card .entry)) (now (disk .entry)) (now (out .entry)) b ⌝ }
+{
+    match find(card, disk, b) {
+        Found::Refused(r) => Found::Refused(r),
+        Found::Outside(size) => {
+            if out.len() == size {
+                Found::Refused(10)
+            } else {
+                Found::Refused(9)
+            }
+        }
+        Found::Card(at, size) => {
+            if copy_out(card, at, size, out) {
+                Found::Card(at, size)
+            } else {
+                Found::Refused(9)
+            }
+        }
+        Found::Disk(at, size) => {
+            if copy_out(disk, at, size, out) {
+                Found::Disk(at, size)
+            } else {
+                Found::Refused(9)
+            }
+        }
+    }
+}
+
 // Copies disk block b to an output of B bytes, and says whether card or disk held it.
 pub fn read(card: &[u8], disk: &[u8], b: u64, out: &mut [u8]) -> Held
     ensures answer { λ r. ⌜ r ≡ heldBy (now (card .entry)) (now (disk .entry)) (now (out .entry)) b ⌝ }
     ensures output { λ r. ⌜ now (out .exit) ≡ outputAfter (now (card .entry)) (now (disk .entry)) (now (out .entry)) b ⌝ }
 {
-    match find(card, disk, b) {
+    match fetch(card, disk, b, out) {
+        Found::Card(_, _) => Held::Card,
+        Found::Disk(_, _) => Held::Disk,
         Found::Refused(r) => Held::Refused(r),
-        Found::Outside(size) => {
-            if out.len() == size {
-                Held::Refused(10)
-            } else {
-                Held::Refused(9)
-            }
-        }
-        Found::Card(at, size) => {
-            if copy_out(card, at, size, out) {
-                Held::Card
-            } else {
-                Held::Refused(9)
-            }
-        }
-        Found::Disk(at, size) => {
-            if copy_out(disk, at, size, out) {
-                Held::Disk
-            } else {
-                Held::Refused(9)
-            }
-        }
+        Found::Outside(_) => Held::Refused(10),
     }
 }
 

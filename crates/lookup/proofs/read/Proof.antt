@@ -1,95 +1,75 @@
--- `read` answers and leaves its output as defined, by where the block was found and whether the output is of B bytes.
-use Rattle.lookup.proofs.Reading.{card-part, disk-part, read-refused, read-outside, read-outside-short, read-card, read-disk, read-card-short, read-disk-short}
+-- `read` says who held the block that `fetch` copied.
+use Rattle.lookup.proofs.Reading.{held-card, held-disk, held-refused, held-outside}
 use borrow.Author.Needs.{needs}
 use mathlib.Core.Path.{sym, _∙_}
 use Rattle.lookup.proofs.read.Statement.{statement}
 use Rattle.lookup.proofs.read.Tie as tie
 
-find-requires : tie.Need-find-requires
-find-requires c κs = search needs
+fetch-requires : tie.Need-fetch-requires
+fetch-requires c κs = search needs
+
+enum-told : tie.Need-enum-told
+enum-told c = search needs
+
+enum-told-2 : tie.Need-enum-told-2
+enum-told-2 c = search needs
 
 enum-known-r : tie.Need-enum-known-r
 enum-known-r c = search needs
 
-enum-known-size : tie.Need-enum-known-size
-enum-known-size c = search needs
-
-enum-known-at : tie.Need-enum-known-at
-enum-known-at c = search needs
-
-copy-out-requires : tie.Need-copy-out-requires
-copy-out-requires c κs = let a = c .before .before in card-part _ _ _ _ _ (sym (a .at .given .1) ∙ a .before .before .find .ensures)
-
-enum-known-at-2 : tie.Need-enum-known-at-2
-enum-known-at-2 c = search needs
-
-copy-out-requires-2 : tie.Need-copy-out-requires-2
-copy-out-requires-2 c κs = let a = c .before .before in disk-part _ _ _ _ _ (sym (a .at2 .given .1) ∙ a .before .before .find .ensures)
-
-returns : tie.Need-returns
-returns c = let a = c .before in read-refused _ _ _ _ _ (sym (a .r .given .1) ∙ a .before .before .find .ensures)
-
-returns-2 : tie.Need-returns-2
-returns-2 c = let a = c .before .before in read-outside _ _ _ _ _ (sym (a .size .given .1) ∙ a .before .before .find .ensures) (c .if1 .taken)
-
-returns-3 : tie.Need-returns-3
-returns-3 c = let a = c .before .before in read-outside-short _ _ _ _ _ (sym (a .size .given .1) ∙ a .before .before .find .ensures) (c .if1 .left)
+enum-told-3 : tie.Need-enum-told-3
+enum-told-3 c = search needs
 
 same-length : tie.Need-same-length
 same-length c = search needs
 
-returns-4 : tie.Need-returns-4
-returns-4 c =
-    let o = c .before .before .before in
-    let a = o .before .before .before in
-    read-card _ _ _ _ _ _ _ _ (sym (a .at .given .1) ∙ a .before .before .find .ensures) (o .copy-out .ensures) (c .if2 .taken)
+returns : tie.Need-returns
+returns c =
+    let a = c in
+    let f = a .before .before .before .before in
+    (held-card _ _ _ _ _ _ (sym (a .enum-told .given .1) ∙ f .fetch .ensures .0), f .fetch .ensures .1)
 
 same-length-2 : tie.Need-same-length-2
 same-length-2 c = search needs
 
-returns-5 : tie.Need-returns-5
-returns-5 c =
-    let o = c .before .before .before in
-    let a = o .before .before .before in
-    read-card-short _ _ _ _ _ _ _ _ (sym (a .at .given .1) ∙ a .before .before .find .ensures) (o .copy-out .ensures) (c .if2 .left)
+returns-2 : tie.Need-returns-2
+returns-2 c =
+    let a = c in
+    let f = a .before .before .before .before in
+    (held-disk _ _ _ _ _ _ (sym (a .enum-told2 .given .1) ∙ f .fetch .ensures .0), f .fetch .ensures .1)
 
 same-length-3 : tie.Need-same-length-3
 same-length-3 c = search needs
 
-returns-6 : tie.Need-returns-6
-returns-6 c =
-    let o = c .before .before .before in
-    let a = o .before .before .before in
-    read-disk _ _ _ _ _ _ _ _ (sym (a .at2 .given .1) ∙ a .before .before .find .ensures) (o .copy-out2 .ensures) (c .if3 .taken)
+returns-3 : tie.Need-returns-3
+returns-3 c =
+    let a = c .before in
+    let f = a .before .before .before .before in
+    (held-refused _ _ _ _ _ (sym (a .r .given .1) ∙ f .fetch .ensures .0), f .fetch .ensures .1)
 
 same-length-4 : tie.Need-same-length-4
 same-length-4 c = search needs
 
-returns-7 : tie.Need-returns-7
-returns-7 c =
-    let o = c .before .before .before in
-    let a = o .before .before .before in
-    read-disk-short _ _ _ _ _ _ _ _ (sym (a .at2 .given .1) ∙ a .before .before .find .ensures) (o .copy-out2 .ensures) (c .if3 .left)
+returns-4 : tie.Need-returns-4
+returns-4 c =
+    let a = c in
+    let f = a .before .before .before .before in
+    (held-outside _ _ _ _ _ (sym (a .enum-told3 .given .1) ∙ f .fetch .ensures .0), f .fetch .ensures .1)
 
 pub read-spec : {M : Type 1} → statement M
 read-spec =
     tie.close
     (tie.spec
-    find-requires
+    fetch-requires
+    enum-told
+    enum-told-2
     enum-known-r
-    enum-known-size
-    enum-known-at
-    copy-out-requires
-    enum-known-at-2
-    copy-out-requires-2
-    returns
-    returns-2
-    returns-3
+    enum-told-3
     same-length
-    returns-4
+    returns
     same-length-2
-    returns-5
+    returns-2
     same-length-3
-    returns-6
+    returns-3
     same-length-4
-    returns-7)
+    returns-4)

@@ -1,0 +1,47 @@
+-- The answers of document 01 as plain numbers, each case with its kind.
+use Prim.Native.Nat.{ℕ}
+use Rattle.protocol.specs.declared.Answer.{Answer}
+use Rattle.protocol.specs.declared.Answer.the-variants.{Done, Cut, Refused}
+use Rattle.protocol.specs.declared.Condition.{Condition}
+use Rattle.protocol.specs.declared.Condition.the-variants.{Settled, Unsettled}
+use Rattle.protocol.specs.declared.Geometry.{Geometry}
+use Rattle.protocol.specs.declared.Outcome.{Outcome}
+use Rattle.protocol.specs.declared.Outcome.the-variants.{Done as FormatDone, Refused as FormatRefused}
+use Rattle.protocol.specs.declared.Reported.{Reported}
+use Rattle.protocol.specs.declared.Reported.the-variants.{Is, Refused as StateRefused}
+use Rattle.protocol.specs.declared.State.{State}
+use Rattle.lookup.specs.declared.Found.{Found}
+use Rattle.lookup.specs.declared.Found.the-variants.{Card, Disk, Outside, Refused as FoundRefused}
+use Rattle.tinca.specs.declared.TincaAnswer.{TincaAnswer}
+use Rattle.tinca.specs.declared.TincaPlace.{TincaPlace}
+use Rattle.tinca.specs.declared.TincaState.{TincaState}
+
+-- 0 done with its stores, 1 cut, 2 refused with its number
+abbrev pub plainAnswer : Answer → TincaAnswer
+plainAnswer (Done m) = record { kind = 0; refusal = 0; stores = m }
+plainAnswer Cut = record { kind = 1; refusal = 0; stores = 0 }
+plainAnswer (Refused r) = record { kind = 2; refusal = r; stores = 0 }
+
+-- the same of format, which counts no stores
+abbrev pub plainOutcome : Outcome → TincaAnswer
+plainOutcome FormatDone = record { kind = 0; refusal = 0; stores = 0 }
+plainOutcome (FormatRefused r) = record { kind = 2; refusal = r; stores = 0 }
+
+-- 0 on the card, 1 on the disk, 2 refused; a number outside the disk is 10
+abbrev pub plainPlace : Found → TincaPlace
+plainPlace (Card at n) = record { kind = 0; refusal = 0; offset = at; length = n }
+plainPlace (Disk at n) = record { kind = 1; refusal = 0; offset = at; length = n }
+plainPlace (FoundRefused r) = record { kind = 2; refusal = r; offset = 0; length = 0 }
+plainPlace (Outside n) = record { kind = 2; refusal = 10; offset = 0; length = 0 }
+
+-- 0 settled, 1 unsettled, each with the geometry and two counts
+abbrev pub plainCondition : Geometry → Condition → TincaState
+plainCondition g (Settled u m) =
+    record { kind = 0; refusal = 0; k = g .k; slots = g .slots; blocks = g .blocks; disk = g .disk; first = u; second = m }
+plainCondition g (Unsettled u w) =
+    record { kind = 1; refusal = 0; k = g .k; slots = g .slots; blocks = g .blocks; disk = g .disk; first = u; second = w }
+
+-- 2 refused, all else zero
+abbrev pub plainState : Reported → TincaState
+plainState (Is s) = plainCondition (s .geometry) (s .condition)
+plainState (StateRefused r) = record { kind = 2; refusal = r; k = 0; slots = 0; blocks = 0; disk = 0; first = 0; second = 0 }

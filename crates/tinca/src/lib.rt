@@ -1,0 +1,256 @@
+// The C interface of the cache: every call of document 01, with answers as plain structs. include/tinca.h declares it for C.
+use lookup::Found;
+use protocol::Answer;
+use protocol::Condition;
+use protocol::Outcome;
+use protocol::Reported;
+use protocol::State;
+ghost use mathlib.Core.Path.{_≡_};
+ghost use Rattle.protocol.specs.Table.{geometry};
+ghost use Rattle.protocol.specs.Store.{card as onCard, disk as onDisk, answerOf, afterOn};
+ghost use Rattle.protocol.specs.Format.{outcomeOf, formatRefusal, afterFormat};
+ghost use Rattle.protocol.specs.Commit.{commitWork};
+ghost use Rattle.protocol.specs.Load.{loadWork, evictWork};
+ghost use Rattle.protocol.specs.Recover.{recoverWork};
+ghost use Rattle.protocol.specs.Read.{outputAfter, stateOf};
+ghost use Rattle.lookup.specs.Place.{foundAt, fetchedAt};
+ghost use Rattle.tinca.specs.Plain.{plainAnswer, plainOutcome, plainPlace, plainState};
+
+// kind 0 done, with the stores made; 1 cut; 2 refused, with the number
+#[repr(C)]
+pub struct TincaAnswer {
+    pub kind: u32,
+    pub refusal: u32,
+    pub stores: u64,
+}
+
+// kind 0 on the card, 1 on the disk, at offset; 2 refused, with the number
+#[repr(C)]
+pub struct TincaPlace {
+    pub kind: u32,
+    pub refusal: u32,
+    pub offset: u64,
+    pub length: u64,
+}
+
+// kind 0 settled: in use, modified; 1 unsettled: undoable, window; 2 refused, with the number
+#[repr(C)]
+pub struct TincaState {
+    pub kind: u32,
+    pub refusal: u32,
+    pub k: u64,
+    pub slots: u64,
+    pub blocks: u64,
+    pub disk: u64,
+    pub first: u64,
+    pub second: u64,
+}
+
+fn answer(a: Answer) -> TincaAnswer
+    ensures { λ r. ⌜ r ≡ plainAnswer a ⌝ }
+{
+    match a {
+        Answer::Done(m) => TincaAnswer {
+            kind: 0,
+            refusal: 0,
+            stores: m,
+        },
+        Answer::Cut => TincaAnswer {
+            kind: 1,
+            refusal: 0,
+            stores: 0,
+        },
+        Answer::Refused(r) => TincaAnswer {
+            kind: 2,
+            refusal: r as u32,
+            stores: 0,
+        },
+    }
+}
+
+fn outcome(o: Outcome) -> TincaAnswer
+    ensures { λ r. ⌜ r ≡ plainOutcome o ⌝ }
+{
+    match o {
+        Outcome::Done => TincaAnswer {
+            kind: 0,
+            refusal: 0,
+            stores: 0,
+        },
+        Outcome::Refused(r) => TincaAnswer {
+            kind: 2,
+            refusal: r as u32,
+            stores: 0,
+        },
+    }
+}
+
+fn at_place(kind: u32, offset: usize, length: usize) -> TincaPlace
+    ensures { λ r. ⌜ r ≡ record { kind = kind; refusal = 0; offset = offset; length = length } ⌝ }
+{
+    TincaPlace {
+        kind: kind,
+        refusal: 0,
+        offset: offset as u64,
+        length: length as u64,
+    }
+}
+
+fn no_place(refusal: u32) -> TincaPlace
+    ensures { λ r. ⌜ r ≡ record { kind = 2; refusal = refusal; offset = 0; length = 0 } ⌝ }
+{
+    TincaPlace {
+        kind: 2,
+        refusal: refusal,
+        offset: 0,
+        length: 0,
+    }
+}
+
+fn place(f: Found) -> TincaPlace
+    ensures { λ r. ⌜ r ≡ plainPlace f ⌝ }
+{
+    match f {
+        Found::Card(at, size) => at_place(0, at, size),
+        Found::Disk(at, size) => at_place(1, at, size),
+        Found::Refused(r) => no_place(r as u32),
+        Found::Outside(_) => no_place(10),
+    }
+}
+
+fn told(s: State) -> TincaState
+    ensures { λ r. ⌜ r ≡ plainState (Reported.Is s) ⌝ }
+{
+    let g = s.geometry;
+    let c = s.condition;
+    match c {
+        Condition::Settled { used, modified } => TincaState {
+            kind: 0,
+            refusal: 0,
+            k: g.k,
+            slots: g.slots,
+            blocks: g.blocks,
+            disk: g.disk,
+            first: used,
+            second: modified,
+        },
+        Condition::Unsettled { undoable, window } => TincaState {
+            kind: 1,
+            refusal: 0,
+            k: g.k,
+            slots: g.slots,
+            blocks: g.blocks,
+            disk: g.disk,
+            first: undoable,
+            second: window,
+        },
+    }
+}
+
+fn untold(refusal: u32) -> TincaState
+    ensures { λ r. ⌜ r ≡ record { kind = 2; refusal = refusal; k = 0; slots = 0; blocks = 0; disk = 0; first = 0; second = 0 } ⌝ }
+{
+    TincaState {
+        kind: 2,
+        refusal: refusal,
+        k: 0,
+        slots: 0,
+        blocks: 0,
+        disk: 0,
+        first: 0,
+        second: 0,
+    }
+}
+
+fn state(s: Reported) -> TincaState
+    ensures { λ r. ⌜ r ≡ plainState s ⌝ }
+{
+    match s {
+        Reported::Is(t) => told(t),
+        Reported::Refused(r) => untold(r as u32),
+    }
+}
+
+#[no_mangle]
+pub extern "C" fn tinca_format(
+    k: u64,
+    slots: u64,
+    blocks: u64,
+    disk: u64,
+    card: &mut [u8],
+) -> TincaAnswer
+    ensures answer { λ r. ⌜ r ≡ plainOutcome (outcomeOf (formatRefusal (geometry k slots blocks disk) (now (card .entry)))) ⌝ }
+    ensures card { λ r. ⌜ now (card .exit) ≡ afterFormat (geometry k slots blocks disk) (now (card .entry)) ⌝ }
+{
+    outcome(format::format(k, slots, blocks, disk, card))
+}
+
+#[no_mangle]
+pub extern "C" fn tinca_commit(
+    card: &mut [u8],
+    numbers: &[u64],
+    bytes: &[u8],
+    allowance: u64,
+) -> TincaAnswer
+    ensures answer { λ r. ⌜ r ≡ plainAnswer (answerOf allowance (commitWork (now (card .entry)) (now (numbers .entry)) (now (bytes .entry)))) ⌝ }
+    ensures card { λ r. ⌜ now (card .exit) ≡ afterOn onCard allowance (commitWork (now (card .entry)) (now (numbers .entry)) (now (bytes .entry))) (now (card .entry)) ⌝ }
+{
+    answer(commit::commit(card, numbers, bytes, allowance))
+}
+
+#[no_mangle]
+pub extern "C" fn tinca_load(
+    card: &mut [u8],
+    disk: &[u8],
+    block: u64,
+    allowance: u64,
+) -> TincaAnswer
+    ensures answer { λ r. ⌜ r ≡ plainAnswer (answerOf allowance (loadWork (now (card .entry)) (now (disk .entry)) block)) ⌝ }
+    ensures card { λ r. ⌜ now (card .exit) ≡ afterOn onCard allowance (loadWork (now (card .entry)) (now (disk .entry)) block) (now (card .entry)) ⌝ }
+{
+    answer(transfer::load(card, disk, block, allowance))
+}
+
+#[no_mangle]
+pub extern "C" fn tinca_evict(
+    card: &mut [u8],
+    disk: &mut [u8],
+    block: u64,
+    allowance: u64,
+) -> TincaAnswer
+    ensures answer { λ r. ⌜ r ≡ plainAnswer (answerOf allowance (evictWork (now (card .entry)) (now (disk .entry)) block)) ⌝ }
+    ensures card { λ r. ⌜ now (card .exit) ≡ afterOn onCard allowance (evictWork (now (card .entry)) (now (disk .entry)) block) (now (card .entry)) ⌝ }
+    ensures disk { λ r. ⌜ now (disk .exit) ≡ afterOn onDisk allowance (evictWork (now (card .entry)) (now (disk .entry)) block) (now (disk .entry)) ⌝ }
+{
+    answer(transfer::evict(card, disk, block, allowance))
+}
+
+#[no_mangle]
+pub extern "C" fn tinca_recover(card: &mut [u8], allowance: u64) -> TincaAnswer
+    ensures answer { λ r. ⌜ r ≡ plainAnswer (answerOf allowance (recoverWork (now (card .entry)))) ⌝ }
+    ensures card { λ r. ⌜ now (card .exit) ≡ afterOn onCard allowance (recoverWork (now (card .entry))) (now (card .entry)) ⌝ }
+{
+    answer(recovery::recover(card, allowance))
+}
+
+#[no_mangle]
+pub extern "C" fn tinca_read(card: &[u8], disk: &[u8], block: u64, out: &mut [u8]) -> TincaPlace
+    ensures answer { λ r. ⌜ r ≡ plainPlace (fetchedAt (now (card .entry)) (now (disk .entry)) (now (out .entry)) block) ⌝ }
+    ensures output { λ r. ⌜ now (out .exit) ≡ outputAfter (now (card .entry)) (now (disk .entry)) (now (out .entry)) block ⌝ }
+{
+    place(lookup::fetch(card, disk, block, out))
+}
+
+#[no_mangle]
+pub extern "C" fn tinca_look(card: &[u8], disk: &[u8], block: u64) -> TincaPlace
+    ensures { λ r. ⌜ r ≡ plainPlace (foundAt (now (card .entry)) (now (disk .entry)) block) ⌝ }
+{
+    place(lookup::find(card, disk, block))
+}
+
+#[no_mangle]
+pub extern "C" fn tinca_state_of(card: &[u8]) -> TincaState
+    ensures { λ r. ⌜ r ≡ plainState (stateOf (now (card .entry))) ⌝ }
+{
+    state(lookup::state(card))
+}
