@@ -436,7 +436,7 @@ fn done(answer: Answer) -> Result<u64, String> {
 }
 
 /// Part a: at each step of the script every allowance from 0 to m; after each of them a recovery at every allowance, after each cut
-/// one a second at every allowance, then one in full; then the row, and the step once more.
+/// one a second at every allowance, then one in full; then the row, the row once all is evicted, and the step once more.
 pub fn every_cut<'a>(one: &'a dyn Calls, other: &'a dyn Calls, geometry: Geometry, blocks: u64, stride: u64) -> Result<Tally, String> {
     let seed = 17;
     let mut card = vec![0; geometry.card_length()];
@@ -488,6 +488,13 @@ pub fn every_cut<'a>(one: &'a dyn Calls, other: &'a dyn Calls, geometry: Geometr
                     }
                 }
             }
+            // what is on the card reaches the disk
+            let recovered = pair.snapshot();
+            for block in 0..blocks {
+                pair.evict(block, u64::MAX)?;
+                after.holds(&mut pair, block)?;
+            }
+            pair.set(&recovered);
             if answer == Answer::Cut && !matches!(step, Step::Evict(_)) {
                 make(&mut pair, geometry, &step, u64::MAX, &mut after)?;
                 for block in 0..blocks {
@@ -928,7 +935,7 @@ mod tests {
         tally.complete().unwrap();
     }
 
-    /// Every slip is reported by the parts of the comparison, and by each of the parts named.
+    /// Every slip is reported by a part of the comparison.
     #[test]
     fn a_wrong_model_is_reported() {
         let right = Model::default();
@@ -956,7 +963,7 @@ mod tests {
     /// The lists themselves lose a saved block under the slips that the design invites: the row sees it without a second model.
     #[test]
     fn the_row_sees_the_slips_that_lose_a_block() {
-        for slip in [Slip::FreshAtSwitch, Slip::FreshAtUndo, Slip::WindowAlone, Slip::ZeroBeforeSectors, Slip::TailFirst] {
+        for slip in [Slip::CleanUndo, Slip::FreshAtSwitch, Slip::FreshAtUndo, Slip::WindowAlone, Slip::ZeroBeforeSectors, Slip::TailFirst] {
             let wrong = Model { slip: Some(slip) };
             assert!(every_cut(&wrong, &wrong, SMALL, 6, 16).is_err(), "{slip:?}");
         }

@@ -3,6 +3,7 @@
 
 pub mod drive;
 pub mod ffi;
+pub mod mapped;
 pub mod model;
 pub mod random;
 

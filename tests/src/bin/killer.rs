@@ -1,1 +1,146 @@
-fn main(){}
+//! Starts a station, kills it at a random instant, recovers its card and checks that every save is whole and none that was
+//! acknowledged is lost; then starts it again on the same card, so that the cuts of all kills add up.
+//!
+//!     killer [--kills N] [--seed S]
+//!
+//! A kill ends a process between two instructions; the stores made so far stay in the mapping. So this tests the order of the stores
+//! as compiled. It says nothing of a processor's cache or of a memory controller.
+
+use std::path::PathBuf;
+use std::process::{Child, Command, Stdio};
+use std::time::{Duration, Instant};
+use tinca_tests::ffi::Library;
+use tinca_tests::mapped::*;
+use tinca_tests::random::Random;
+use tinca_tests::{Answer, Calls, Place, State};
+
+fn option(name: &str, otherwise: u64) -> u64 {
+    let words: Vec<String> = std::env::args().collect();
+    match words.iter().position(|word| word == name) {
+        Some(place) => words.get(place + 1).and_then(|word| word.parse().ok()).unwrap_or_else(|| {
+            eprintln!("{name} needs a number");
+            std::process::exit(2);
+        }),
+        None => otherwise,
+    }
+}
+
+struct Folder(PathBuf);
+
+impl Drop for Folder {
+    fn drop(&mut self) {
+        let _ = std::fs::remove_dir_all(&self.0);
+    }
+}
+
+/// The sequence number of each group, if all its blocks are whole and of one save.
+fn saves(library: &Library, card: &[u8], disk: &[u8]) -> Result<Vec<u64>, String> {
+    let mut found = Vec::new();
+    for group in 0..GROUPS {
+        let mut sequences = Vec::new();
+        for number in numbers(group) {
+            let mut out = [0; BLOCK];
+            match library.read(card, disk, number, &mut out) {
+                Place::Card(..) | Place::Disk(..) => sequences.push(sequence_of(&out, number)?),
+                other => return Err(format!("read of block {number}: {other:?}")),
+            }
+        }
+        if sequences.iter().any(|sequence| *sequence != sequences[0]) {
+            return Err(format!("group {group} is torn: saves {sequences:?}"));
+        }
+        found.push(sequences[0]);
+    }
+    Ok(found)
+}
+
+fn stop(child: &mut Child) {
+    let _ = child.kill();
+    let _ = child.wait();
+}
+
+fn run(kills: u64, seed: u64) -> Result<String, String> {
+    let mut random = Random(seed);
+    let base = if std::path::Path::new("/dev/shm").is_dir() { PathBuf::from("/dev/shm") } else { std::env::temp_dir() };
+    let folder = Folder(base.join(format!("tinca-kill-{}", std::process::id())));
+    std::fs::create_dir_all(&folder.0).map_err(|error| error.to_string())?;
+    let station = std::env::current_exe().map_err(|error| error.to_string())?.with_file_name("station");
+    let open = |name: &str, length| Mapped::open(&folder.0.join(name), length).map_err(|error| error.to_string());
+    let (mut card, mut disk, notes) = (open("card", CARD)?, open("disk", DISK)?, open("notes", NOTES)?);
+    let library = Library;
+    let start = Instant::now();
+    let (mut unsettled, mut undone_stores, mut newer, mut saved, mut undoable_most) = (0, 0, 0, 0, 0);
+    let mut left_to_station = 0;
+    for kill in 0..kills {
+        let before = notes.number(ACKNOWLEDGED);
+        let mut command = Command::new(&station);
+        command.arg(&folder.0).arg(random.next().to_string()).stdin(Stdio::null());
+        if kill == 0 {
+            command.arg("format");
+        }
+        let mut child = command.spawn().map_err(|error| format!("{}: {error}", station.display()))?;
+        let begun = Instant::now();
+        while notes.number(ACKNOWLEDGED) == before {
+            if let Ok(Some(status)) = child.try_wait() {
+                return Err(format!("kill {kill}: the station ended by itself: {status}"));
+            }
+            if begun.elapsed() > Duration::from_secs(10) {
+                stop(&mut child);
+                return Err(format!("kill {kill}: no save in ten seconds"));
+            }
+            std::thread::yield_now();
+        }
+        // mostly within microseconds, at times milliseconds
+        let nanoseconds = if random.once_in(4) { random.below(3_000_000) } else { random.below(200_000) };
+        let instant = Instant::now();
+        while (instant.elapsed().as_nanos() as u64) < nanoseconds {
+            std::hint::spin_loop();
+        }
+        stop(&mut child);
+        let state = library.state(card.bytes());
+        match state {
+            State::Settled { .. } => {}
+            State::Unsettled { undoable, .. } => {
+                unsettled += 1;
+                undoable_most = undoable_most.max(undoable);
+                // one time in four the next station finds the card as it is; its own recovery then comes first
+                if random.once_in(4) {
+                    left_to_station += 1;
+                    continue;
+                }
+            }
+            other => return Err(format!("kill {kill}: {other:?}")),
+        }
+        match library.recover(card.bytes_mut(), u64::MAX) {
+            Answer::Done(stores) => undone_stores += stores,
+            other => return Err(format!("kill {kill}: recover {other:?}")),
+        }
+        let found = saves(&library, card.bytes(), disk.bytes_mut()).map_err(|error| format!("kill {kill}: {error}"))?;
+        let (acknowledged, begun) = (notes.number(ACKNOWLEDGED), notes.number(BEGUN));
+        for (group, sequence) in found.iter().enumerate() {
+            let noted = notes.number(1 + group);
+            if *sequence < noted || (*sequence > noted && *sequence > begun) {
+                return Err(format!("kill {kill}: group {group} holds save {sequence}, noted {noted}, begun {begun}"));
+            }
+            newer += (*sequence > noted) as u64;
+        }
+        if acknowledged < before {
+            return Err(format!("kill {kill}: the notes went back"));
+        }
+        saved = acknowledged;
+    }
+    Ok(format!(
+        "{kills} kills in {:.1} s: {saved} saves acknowledged, {unsettled} cards unsettled (at most {undoable_most} entries to undo, \
+         {left_to_station} left to the station), {undone_stores} stores of recoveries, {newer} whole saves not yet noted; no save torn or lost",
+        start.elapsed().as_secs_f64()
+    ))
+}
+
+fn main() {
+    match run(option("--kills", 1000), option("--seed", 1)) {
+        Ok(line) => println!("{line}"),
+        Err(error) => {
+            println!("LOST: {error}");
+            std::process::exit(1);
+        }
+    }
+}
