@@ -81,10 +81,21 @@ pub fn numbers(group: u64) -> Vec<u64> {
     }
 }
 
-/// The acknowledgements: number 0 is the last save's, then one for each group; then the save that was begun last.
+/// The notes, 8 bytes each: the last save that was acknowledged, the last of each group, the save that was begun last; then the
+/// storing call under way (0 none) with its block or group.
 pub const ACKNOWLEDGED: usize = 0;
 pub const BEGUN: usize = 1 + GROUPS as usize;
-pub const NOTES: usize = 8 * (2 + GROUPS as usize);
+pub const CALL: usize = BEGUN + 1;
+pub const ARGUMENT: usize = BEGUN + 2;
+pub const NOTES: usize = 8 * (BEGUN + 3);
+pub const COMMIT: u64 = 1;
+pub const LOAD: u64 = 2;
+pub const EVICT: u64 = 3;
+
+/// What a save writes.
+pub fn saved(sequence: u64, group: u64) -> Vec<u8> {
+    numbers(group).iter().flat_map(|number| block(sequence, *number)).collect()
+}
 
 /// A block of a save: its sequence number, its number, filling, and a checksum over all before.
 pub fn block(sequence: u64, number: u64) -> [u8; BLOCK] {

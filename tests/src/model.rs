@@ -304,6 +304,17 @@ pub enum Store {
     Sector(usize, Vec<u8>),
 }
 
+impl Store {
+    /// Offset and bytes, and whether they go to the disk.
+    pub fn unit(&self) -> (bool, usize, &[u8]) {
+        match self {
+            Store::Word(at, bytes) => (false, *at, bytes),
+            Store::Entry(at, bytes) => (false, *at, bytes),
+            Store::Sector(at, bytes) => (true, *at, bytes),
+        }
+    }
+}
+
 /// What a wrong program might do. The comparison must see each of them.
 #[derive(Clone, Copy, Debug, PartialEq, Eq)]
 pub enum Slip {
@@ -523,11 +534,9 @@ impl Model {
         };
         let count = stores.len() as u64;
         for store in stores.iter().take(usize::try_from(allowance).unwrap_or(usize::MAX)) {
-            match store {
-                Store::Word(at, bytes) => card[*at..at + 8].copy_from_slice(bytes),
-                Store::Entry(at, bytes) => card[*at..at + 16].copy_from_slice(bytes),
-                Store::Sector(at, bytes) => disk[*at..at + 512].copy_from_slice(bytes),
-            }
+            let (on_disk, at, bytes) = store.unit();
+            let to = if on_disk { &mut *disk } else { &mut *card };
+            to[at..at + bytes.len()].copy_from_slice(bytes);
         }
         if allowance < count || (allowance == count && self.slips(Slip::CutAtCount)) {
             Answer::Cut
