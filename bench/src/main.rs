@@ -261,8 +261,9 @@ fn others(k: u64, rounds: usize) -> Vec<(&'static str, f64)> {
 
 fn main() {
     let quick = std::env::args().any(|word| word == "quick");
-    let rounds = if quick { 20 } else { 300 };
+    let rounds = if quick { 20 } else { 1500 };
     println!("The unproved commit equals the library's in {} calls.\n", same_contract());
+    three(9, 256, 128, 64, 16, rounds);
     println!("Commit of n blocks; S 256, N 128, D 65,536, 64 entries in use. Nanoseconds, medians; in brackets the ratio to the copy.\n");
     println!("| B | n | copy of n B bytes | library | unproved | library / unproved |");
     println!("|---|---|---|---|---|---|");

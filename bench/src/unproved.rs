@@ -10,19 +10,19 @@ pub enum Answer {
 const EMPTY: u32 = u32::MAX;
 const FRESH: u32 = u32::MAX;
 
-/// Numbers below 65,536 in a table of open addresses; at most 128 + 255 of them in 1,024 places.
+/// Numbers below 65,536 in a table of open addresses; at most 128 + 255 of them in 512 places.
 struct Marks {
-    keys: [u32; 1024],
-    entries: [u8; 1024],
+    keys: [u32; 512],
+    entries: [u8; 512],
 }
 
 impl Marks {
     /// The place of the number, or the empty one where it goes.
     #[inline]
     fn place(&self, number: u32) -> usize {
-        let mut at = (number.wrapping_mul(0x9E37_79B1) >> 22) as usize;
+        let mut at = (number.wrapping_mul(0x9E37_79B1) >> 23) as usize;
         while self.keys[at] != EMPTY && self.keys[at] != number {
-            at = (at + 1) & 1023;
+            at = (at + 1) & 511;
         }
         at
     }
@@ -118,7 +118,7 @@ pub fn commit(card: &mut [u8], numbers: &[u64], data: &[u8], allowance: u64) -> 
         }
         slot = if slot + 1 == slots { 0 } else { slot + 1 };
     }
-    let mut marks = Marks { keys: [EMPTY; 1024], entries: [0; 1024] };
+    let mut marks = Marks { keys: [EMPTY; 512], entries: [0; 512] };
     let (mut taken, mut used): (u128, u128) = (0, 0);
     let (mut equal, mut role) = (false, false);
     for (index, entry) in card[entries..blocks].chunks_exact(16).enumerate() {
