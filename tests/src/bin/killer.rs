@@ -5,12 +5,13 @@
 //!
 //! Then it starts the station again on the same card, so that the cuts of all kills add up.
 //!
-//!     killer [--kills N] [--seed S] [--as-left]
+//!     killer [--kills N] [--seed S] [--as-left] [--units]
 //!
 //! A kill ends a process between two instructions; the stores made so far stay in the mapping. So this tests the order of the stores
 //! as compiled. It says nothing of a processor's cache or of a memory controller. Document 01's units are whole; where the compiled
 //! code makes a unit in several pieces, a kill can fall between them. Such a unit is counted, then made whole or taken back, as the
 //! card's memory would. With `--as-left` it is left as it is, to see what comes of it: the run may then end with a loss.
+//! With `--units` the station hands each unit to the card by one instruction; then nothing is lost with `--as-left` either.
 
 use std::path::PathBuf;
 use std::process::{Child, Command, Stdio};
@@ -109,6 +110,7 @@ fn run(kills: u64, seed: u64) -> Result<String, String> {
     let (mut card, mut disk, mut notes) = (open("card", CARD)?, open("disk", DISK)?, open("notes", NOTES)?);
     let before = open("before", CARD + DISK)?;
     let (library, model) = (Library, Model::default());
+    let units = std::env::args().any(|word| word == "--units");
     let as_left = std::env::args().any(|word| word == "--as-left");
     let (mut inside, mut between, mut half) = (0, 0, [0u64; 6]);
     let start = Instant::now();
@@ -120,6 +122,9 @@ fn run(kills: u64, seed: u64) -> Result<String, String> {
         command.arg(&folder.0).arg(random.next().to_string()).stdin(Stdio::null());
         if kill == 0 {
             command.arg("format");
+        }
+        if units {
+            command.arg("units");
         }
         let mut child = command.spawn().map_err(|error| format!("{}: {error}", station.display()))?;
         let begun = Instant::now();
@@ -134,7 +139,8 @@ fn run(kills: u64, seed: u64) -> Result<String, String> {
             std::thread::yield_now();
         }
         // mostly within microseconds, at times milliseconds
-        let nanoseconds = if random.once_in(4) { random.below(3_000_000) } else { random.below(200_000) };
+        // (by units a call takes a thousand times as long)
+        let nanoseconds = if units { random.below(8_000_000) } else if random.once_in(4) { random.below(3_000_000) } else { random.below(200_000) };
         let instant = Instant::now();
         while (instant.elapsed().as_nanos() as u64) < nanoseconds {
             std::hint::spin_loop();
