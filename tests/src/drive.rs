@@ -239,8 +239,9 @@ impl<'a> Pair<'a> {
         let b = self.other.evict(self.card[1].get_mut(), self.disk[1].get_mut(), block, allowance);
         if self.disk[1].length > WHOLE_DISK {
             // the block itself and a block's length to each side
-            let middle = (block.min(1 << 20) as usize * 4096).min(self.disk[1].length);
-            for (from, to) in [(0, 8192), (middle.saturating_sub(8192), middle + 8192)] {
+            let size = 1 << self.card[1].get()[5].min(12);
+            let middle = (block.min(1 << 20) as usize * size).min(self.disk[1].length);
+            for (from, to) in [(0, 2 * size), (middle.saturating_sub(size), middle + 2 * size)] {
                 let to = to.min(self.disk[1].length);
                 if self.disk[0].get()[from..to] != self.disk[1].get()[from..to] {
                     return Err(format!("evict({block}, allowance {allowance}): disk differs from {from} to {to}"));
