@@ -1,0 +1,299 @@
+//! Times of the library in one run: beside a plain copy of the same bytes (the floor) and an unproved commit of the same contract.
+//! Each figure is the median of many rounds; within a round the three take turns.
+
+mod unproved;
+
+use std::hint::black_box;
+use std::time::Instant;
+use unproved::Answer;
+
+#[repr(C)]
+#[derive(Clone, Copy)]
+struct RawAnswer {
+    kind: u32,
+    refusal: u32,
+    stores: u64,
+}
+
+#[repr(C)]
+#[derive(Clone, Copy)]
+struct RawPlace {
+    kind: u32,
+    refusal: u32,
+    offset: u64,
+    length: u64,
+}
+
+#[repr(C)]
+#[derive(Clone, Copy)]
+struct RawState {
+    kind: u32,
+    refusal: u32,
+    geometry: [u64; 4],
+    counts: [u64; 2],
+}
+
+extern "C" {
+    fn tinca_format(k: u64, slots: u64, data_blocks: u64, disk_blocks: u64, card: *mut u8, length: usize) -> RawAnswer;
+    fn tinca_commit(
+        card: *mut u8,
+        length: usize,
+        numbers: *const u64,
+        count: usize,
+        data: *const u8,
+        data_length: usize,
+        allowance: u64,
+    ) -> RawAnswer;
+    fn tinca_load(card: *mut u8, length: usize, disk: *const u8, disk_length: usize, block: u64, allowance: u64) -> RawAnswer;
+    fn tinca_evict(card: *mut u8, length: usize, disk: *mut u8, disk_length: usize, block: u64, allowance: u64) -> RawAnswer;
+    fn tinca_recover(card: *mut u8, length: usize, allowance: u64) -> RawAnswer;
+    fn tinca_read(
+        card: *const u8,
+        length: usize,
+        disk: *const u8,
+        disk_length: usize,
+        block: u64,
+        out: *mut u8,
+        out_length: usize,
+    ) -> RawPlace;
+    fn tinca_state_of(card: *const u8, length: usize) -> RawState;
+}
+
+const ALL: u64 = u64::MAX;
+
+fn commit(card: &mut [u8], numbers: &[u64], data: &[u8], allowance: u64) -> Answer {
+    let raw = unsafe {
+        tinca_commit(card.as_mut_ptr(), card.len(), numbers.as_ptr(), numbers.len(), data.as_ptr(), data.len(), allowance)
+    };
+    match raw.kind {
+        0 => Answer::Done(raw.stores),
+        1 => Answer::Cut,
+        _ => Answer::Refused(raw.refusal),
+    }
+}
+
+fn done(raw: RawAnswer) {
+    assert_eq!((raw.kind, raw.refusal), (0, 0));
+}
+
+fn formatted(k: u64, slots: u64, data_blocks: u64, disk_blocks: u64) -> Vec<u8> {
+    let mut card = vec![0; (128 + 8 * slots + 16 * data_blocks + (data_blocks << k)) as usize];
+    done(unsafe { tinca_format(k, slots, data_blocks, disk_blocks, card.as_mut_ptr(), card.len()) });
+    card
+}
+
+fn next(state: &mut u64) -> u64 {
+    *state = state.wrapping_add(0x9E37_79B9_7F4A_7C15);
+    let z = (*state ^ (*state >> 30)).wrapping_mul(0xBF58_476D_1CE4_E5B9);
+    let z = (z ^ (z >> 27)).wrapping_mul(0x94D0_49BB_1331_11EB);
+    z ^ (z >> 31)
+}
+
+/// The unproved commit answers and stores as the library does, on cards whole, cut and damaged.
+fn same_contract() -> u64 {
+    let mut state = 3;
+    let mut calls = 0;
+    for (slots, data_blocks, disk_blocks) in [(8, 4, 6), (16, 12, 20), (256, 128, 65_536)] {
+        let mut card = formatted(9, slots, data_blocks, disk_blocks);
+        for turn in 0..20_000u64 {
+            let n = match next(&mut state) % 16 {
+                0 => 0,
+                1 => slots as usize,
+                2 => slots as usize - 1,
+                _ => 1 + next(&mut state) as usize % 4,
+            };
+            let bound = disk_blocks.min(2 * data_blocks) + (next(&mut state) % 24 == 0) as u64;
+            let mut numbers: Vec<u64> = (0..n).map(|_| next(&mut state) % bound).collect();
+            if next(&mut state) % 2 == 0 {
+                let first = next(&mut state) % bound;
+                numbers = (0..n as u64).map(|i| (first + i) % bound).collect();
+            }
+            let data: Vec<u8> = vec![turn as u8; n * 512 + (next(&mut state) % 32 == 0) as usize];
+            let allowance = if next(&mut state) % 3 == 0 { next(&mut state) % (n as u64 * 68 + 3) } else { ALL };
+            let mut one = card.clone();
+            if next(&mut state) % 6 == 0 {
+                let at = next(&mut state) as usize % (128 + 8 * slots + 16 * data_blocks) as usize;
+                one[at] = next(&mut state) as u8;
+            }
+            let mut other = one.clone();
+            let damaged = one != card;
+            let (a, b) = (commit(&mut one, &numbers, &data, allowance), unproved::commit(&mut other, &numbers, &data, allowance));
+            assert!(a == b && one == other, "the unproved commit differs: {a:?} and {b:?} for {numbers:?}, allowance {allowance}");
+            calls += 1;
+            if !damaged {
+                card = one;
+                if a == Answer::Cut {
+                    done(unsafe { tinca_recover(card.as_mut_ptr(), card.len(), ALL) });
+                }
+                if a == Answer::Refused(14) || turn % 64 == 63 {
+                    card = formatted(9, slots, data_blocks, disk_blocks);
+                }
+            }
+        }
+    }
+    calls
+}
+
+fn median(mut times: Vec<f64>) -> f64 {
+    times.sort_by(|a, b| a.total_cmp(b));
+    times[times.len() / 2]
+}
+
+/// Nanoseconds of one turn of each, medians over the rounds; they take turns within a round.
+fn timed(rounds: usize, turns: usize, runs: &mut [&mut dyn FnMut(usize)]) -> Vec<f64> {
+    let mut times = vec![Vec::new(); runs.len()];
+    for round in 0..rounds {
+        for (index, run) in runs.iter_mut().enumerate() {
+            let start = Instant::now();
+            for turn in 0..turns {
+                run(turn);
+            }
+            let time = start.elapsed().as_nanos() as f64 / turns as f64;
+            if round >= rounds / 10 {
+                times[index].push(time);
+            }
+        }
+    }
+    times.into_iter().map(median).collect()
+}
+
+fn spread(count: usize) -> Vec<u64> {
+    (0..count as u64).map(|i| (i * 40_503 + 7) % 65_536).collect()
+}
+
+/// A card with the given numbers in use, saved `most` at a time.
+fn filled(k: u64, slots: u64, data_blocks: u64, numbers: &[u64]) -> Vec<u8> {
+    let mut card = formatted(k, slots, data_blocks, 65_536);
+    for part in numbers.chunks((data_blocks as usize / 2).max(1)) {
+        assert!(matches!(commit(&mut card, part, &vec![1; part.len() << k], ALL), Answer::Done(_)));
+    }
+    card
+}
+
+/// Floor, library and unproved commit.
+fn three(k: u64, slots: u64, data_blocks: u64, in_use: usize, n: usize, rounds: usize) -> Vec<f64> {
+    let numbers = spread(in_use);
+    let mut proved_card = filled(k, slots, data_blocks, &numbers);
+    let mut unproved_card = proved_card.clone();
+    let mut area = proved_card.clone();
+    let data: Vec<u8> = (0..n << k).map(|i| i as u8).collect();
+    let saved = &numbers[..n];
+    let blocks = area.len() - ((data_blocks as usize) << k);
+    let mut at = 0;
+    let turns = (4096 / n).clamp(8, 512);
+    let mut copy = |_: usize| {
+        let from = blocks + (at << k);
+        area[from..from + (n << k)].copy_from_slice(black_box(&data));
+        black_box(&mut area);
+        at = if at + 2 * n > data_blocks as usize { 0 } else { at + n };
+    };
+    let mut proved = |_: usize| {
+        let answer = commit(black_box(&mut proved_card), black_box(saved), black_box(&data), black_box(ALL));
+        assert!(matches!(answer, Answer::Done(_)));
+    };
+    let mut plain = |_: usize| {
+        let answer = unproved::commit(black_box(&mut unproved_card), black_box(saved), black_box(&data), black_box(ALL));
+        assert!(matches!(answer, Answer::Done(_)));
+    };
+    timed(rounds, turns, &mut [&mut copy, &mut proved, &mut plain])
+}
+
+fn others(k: u64, rounds: usize) -> Vec<(&'static str, f64)> {
+    let block = 1usize << k;
+    let numbers = spread(96);
+    let (cached, rest) = numbers.split_at(64);
+    let mut card = filled(k, 256, 128, cached);
+    let length = card.len();
+    let mut disk = vec![0u8; block * 65_536];
+    let disk_length = disk.len();
+    for number in &numbers {
+        disk[*number as usize * block..][..block].fill(9);
+    }
+    let mut out = vec![0u8; block];
+    let (card, disk) = (card.as_mut_ptr(), disk.as_mut_ptr());
+    let mut times = vec![Vec::new(); 8];
+    let mut time = |index: usize, run: &mut dyn FnMut(usize)| {
+        let start = Instant::now();
+        for turn in 0..32 {
+            run(turn);
+        }
+        times[index].push(start.elapsed().as_nanos() as f64 / 32.0);
+    };
+    let data = vec![3u8; 32 * block];
+    let before = unsafe { std::slice::from_raw_parts(card, length) }.to_vec();
+    for _ in 0..rounds {
+        time(0, &mut |turn| done(unsafe { tinca_load(card, length, disk, disk_length, rest[turn], ALL) }));
+        time(1, &mut |turn| done(unsafe { tinca_evict(card, length, disk, disk_length, rest[turn], ALL) }));
+        assert_eq!(unsafe { tinca_commit(card, length, rest.as_ptr(), 32, data.as_ptr(), data.len(), ALL) }.kind, 0);
+        time(2, &mut |turn| done(unsafe { tinca_evict(card, length, disk, disk_length, rest[turn], ALL) }));
+        time(3, &mut |turn| {
+            let place = unsafe { tinca_read(card, length, disk, disk_length, cached[turn], out.as_mut_ptr(), block) };
+            assert_eq!((place.kind, place.refusal, place.length), (0, 0, block as u64));
+            black_box(place.offset);
+        });
+        time(4, &mut |turn| {
+            let place = unsafe { tinca_read(card, length, disk, disk_length, rest[turn], out.as_mut_ptr(), block) };
+            assert_eq!(place.kind, 1);
+        });
+        time(5, &mut |_| done(unsafe { tinca_recover(card, length, ALL) }));
+        time(7, &mut |_| {
+            let state = unsafe { tinca_state_of(card, length) };
+            assert_eq!((state.kind, state.refusal, state.counts[0]), (0, 0, 64));
+            black_box(state.geometry);
+        });
+    }
+    // recovery of a commit of 16 that was cut before its last store
+    let mut cut = before.clone();
+    let answer = commit(&mut cut, &cached[..16], &data[..16 * block], 16 * (block as u64 / 8 + 4));
+    assert_eq!(answer, Answer::Cut);
+    let fields = 128 + 8 * 256 + 16 * 128;
+    let mut card = cut.clone();
+    for _ in 0..32 * rounds {
+        card[..fields].copy_from_slice(&cut[..fields]);
+        let start = Instant::now();
+        done(unsafe { tinca_recover(card.as_mut_ptr(), length, ALL) });
+        times[6].push(start.elapsed().as_nanos() as f64);
+    }
+    let names =
+        ["load", "evict, clean", "evict, modified", "read from card", "read from disk", "recover, settled", "recover, 16 to undo", "state"];
+    names.into_iter().zip(times.into_iter().map(median)).collect()
+}
+
+fn main() {
+    let quick = std::env::args().any(|word| word == "quick");
+    let rounds = if quick { 20 } else { 1500 };
+    println!("The unproved commit equals the library's in {} calls.\n", same_contract());
+    three(9, 256, 128, 64, 16, rounds);
+    println!("Commit of n blocks; S 256, N 128, D 65,536, 64 entries in use. Nanoseconds, medians; in brackets the ratio to the copy.\n");
+    println!("| B | n | copy of n B bytes | library | unproved | library / unproved |");
+    println!("|---|---|---|---|---|---|");
+    for k in [9, 12] {
+        for n in [1, 4, 16, 64] {
+            let times = three(k, 256, 128, 64, n, rounds);
+            println!(
+                "| {} | {n} | {:.0} | {:.0} ({:.1}) | {:.0} ({:.1}) | {:.2} |",
+                1 << k,
+                times[0],
+                times[1],
+                times[1] / times[0],
+                times[2],
+                times[2] / times[0],
+                times[1] / times[2]
+            );
+        }
+    }
+    println!("\nCommit of one block as N grows; B 512, S 256, N / 2 entries in use.\n");
+    println!("| N | copy | library | unproved | library / unproved |");
+    println!("|---|---|---|---|---|");
+    for data_blocks in [4, 16, 64, 128] {
+        let times = three(9, 256, data_blocks, data_blocks as usize / 2, 1, rounds);
+        println!("| {data_blocks} | {:.0} | {:.0} | {:.0} | {:.2} |", times[0], times[1], times[2], times[1] / times[2]);
+    }
+    println!("\nThe other calls; S 256, N 128, D 65,536, 64 to 96 entries in use.\n");
+    println!("| call | B 512 | B 4096 |");
+    println!("|---|---|---|");
+    let (small, large) = (others(9, rounds), others(12, rounds));
+    for (one, other) in small.iter().zip(&large) {
+        println!("| {} | {:.0} | {:.0} |", one.0, one.1, other.1);
+    }
+}

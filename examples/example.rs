@@ -1,0 +1,58 @@
+//! Formats a card, saves two blocks, loses the power in the next save, recovers and reads.
+
+use tinca_tests::ffi::Library;
+use tinca_tests::{Answer, Calls, Place, State};
+
+const BLOCK: usize = 512;
+
+fn told(call: &str, answer: Answer) {
+    match answer {
+        Answer::Done(stores) => println!("{call}: done, {stores} stores"),
+        Answer::Cut => println!("{call}: cut"),
+        Answer::Refused(number) => println!("{call}: refused with {number}"),
+        Answer::Malformed(..) => unreachable!(),
+    }
+}
+
+fn show(card: &[u8], disk: &[u8], block: u64) {
+    let mut out = [0; BLOCK];
+    match Library.read(card, disk, block, &mut out) {
+        Place::Card(..) => println!("block {block}: on the card, bytes {}", out[0]),
+        Place::Disk(..) => println!("block {block}: on the disk, bytes {}", out[0]),
+        Place::Refused(number) => println!("block {block}: refused with {number}"),
+        Place::Malformed(..) => unreachable!(),
+    }
+}
+
+fn state(card: &[u8]) {
+    match Library.state(card) {
+        State::Settled { in_use, modified, .. } => println!("settled: {in_use} in use, {modified} modified"),
+        State::Unsettled { undoable, window, .. } => println!("unsettled: {undoable} to undo, {window} slots in the window"),
+        State::Refused(number) => println!("refused with {number}"),
+        State::Malformed(..) => unreachable!(),
+    }
+}
+
+fn main() {
+    let mut card = vec![0; 2304];
+    let mut disk = vec![0; 16 * BLOCK];
+    told("format", Library.format(9, 8, 4, 16, &mut card));
+    told("first save of 3 and 5", Library.commit(&mut card, &[3, 5], &[7; 2 * BLOCK], u64::MAX));
+    told("evict 5", Library.evict(&mut card, &mut disk, 5, u64::MAX));
+    show(&card, &disk, 3);
+    show(&card, &disk, 5);
+
+    told("a save of 3 twice", Library.commit(&mut card, &[3, 3], &[8; 2 * BLOCK], u64::MAX));
+    told("second save, power lost before its last store", Library.commit(&mut card, &[3, 5], &[8; 2 * BLOCK], 136));
+    state(&card);
+    show(&card, &disk, 3);
+    told("recover, power lost again", Library.recover(&mut card, 1));
+    told("recover", Library.recover(&mut card, u64::MAX));
+    state(&card);
+    show(&card, &disk, 3);
+    show(&card, &disk, 5);
+
+    told("second save again", Library.commit(&mut card, &[3, 5], &[8; 2 * BLOCK], u64::MAX));
+    show(&card, &disk, 3);
+    show(&card, &disk, 5);
+}

@@ -1,0 +1,135 @@
+//! A station on mapped files: saves without end, with evicts and loads between, and notes each save that was answered with done.
+//! Before each storing call it copies card and disk aside and notes the call, so that `killer`, which starts and kills it, can tell
+//! how far the call came.
+//!
+//!     station FOLDER SEED [format] [units]
+//!
+//! With `units` the library works on a copy, and each unit goes to the mapped card by one instruction: the call is made at each
+//! allowance in turn, and what changed from the one before is the next unit.
+
+use std::path::Path;
+use tinca_tests::ffi::Library;
+use tinca_tests::mapped::*;
+use tinca_tests::random::Random;
+use tinca_tests::{Answer, Calls, State};
+
+struct Station {
+    card: Mapped,
+    disk: Mapped,
+    notes: Mapped,
+    before: Mapped,
+    units: bool,
+}
+
+/// One whole unit of the card: an entry by one 16-byte instruction, anything else by 8-byte ones.
+#[cfg(target_arch = "x86_64")]
+fn put_unit(to: &mut [u8], at: usize, bytes: &[u8]) {
+    use std::arch::x86_64::{__m128i, _mm_loadu_si128, _mm_store_si128};
+    let place = to[at..at + bytes.len()].as_mut_ptr();
+    if bytes.len() == 16 {
+        assert!(place as usize % 16 == 0);
+        unsafe { _mm_store_si128(place as *mut __m128i, _mm_loadu_si128(bytes.as_ptr() as *const __m128i)) };
+    } else {
+        let word = u64::from_ne_bytes(bytes.try_into().unwrap());
+        unsafe { std::ptr::write_volatile(place as *mut u64, word) };
+    }
+    std::sync::atomic::fence(std::sync::atomic::Ordering::SeqCst);
+}
+
+#[cfg(not(target_arch = "x86_64"))]
+fn put_unit(_: &mut [u8], _: usize, _: &[u8]) {
+    panic!("no 16-byte store is known for this processor");
+}
+
+impl Station {
+    fn noted(&mut self, call: u64, argument: u64, run: impl Fn(&mut [u8], &mut [u8], u64) -> Answer) -> Answer {
+        self.before.bytes_mut()[..CARD].copy_from_slice(self.card.bytes());
+        self.before.bytes_mut()[CARD..].copy_from_slice(self.disk.bytes());
+        self.notes.set_number(ARGUMENT, argument);
+        self.notes.set_number(CALL, call);
+        let answer = if self.units {
+            self.by_units(run)
+        } else {
+            run(self.card.bytes_mut(), self.disk.bytes_mut(), u64::MAX)
+        };
+        self.notes.set_number(CALL, 0);
+        answer
+    }
+
+    fn by_units(&mut self, run: impl Fn(&mut [u8], &mut [u8], u64) -> Answer) -> Answer {
+        let (card, disk) = (self.card.bytes().to_vec(), self.disk.bytes().to_vec());
+        let answer = run(&mut card.clone(), &mut disk.clone(), u64::MAX);
+        let Answer::Done(count) = answer else { return answer };
+        let entries = 128 + 8 * SLOTS as usize;
+        let blocks = entries + 16 * DATA_BLOCKS as usize;
+        for allowance in 1..=count {
+            let (mut card, mut disk) = (card.clone(), disk.clone());
+            run(&mut card, &mut disk, allowance);
+            if let Some(place) = (0..CARD).find(|place| card[*place] != self.card.bytes()[*place]) {
+                let size = if (entries..blocks).contains(&place) { 16 } else { 8 };
+                let at = place / size * size;
+                put_unit(self.card.bytes_mut(), at, &card[at..at + size]);
+            } else if let Some(place) = (0..DISK).find(|place| disk[*place] != self.disk.bytes()[*place]) {
+                let at = place / 512 * 512;
+                self.disk.bytes_mut()[at..at + 512].copy_from_slice(&disk[at..at + 512]);
+            }
+            assert!(self.card.bytes() == card && self.disk.bytes() == disk, "more than one unit");
+        }
+        answer
+    }
+
+    fn evict(&mut self, block: u64) {
+        let answer = self.noted(EVICT, block, |card, disk, allowance| Library.evict(card, disk, block, allowance));
+        assert!(matches!(answer, Answer::Done(_) | Answer::Refused(13)), "evict {answer:?}");
+    }
+
+    fn load(&mut self, block: u64) {
+        let answer = self.noted(LOAD, block, |card, disk, allowance| Library.load(card, disk, block, allowance));
+        assert!(matches!(answer, Answer::Done(_) | Answer::Refused(12 | 14)), "load {answer:?}");
+    }
+}
+
+fn main() {
+    let words: Vec<String> = std::env::args().collect();
+    if words.len() < 3 {
+        eprintln!("station FOLDER SEED [format] [units]");
+        std::process::exit(2);
+    }
+    let open = |name: &str, length| Mapped::open(&Path::new(&words[1]).join(name), length).expect(name);
+    let mut random = Random(words[2].parse().expect("a seed"));
+    let says = |word: &str| words[3..].iter().any(|one| one == word);
+    let mut station = Station {
+        card: open("card", CARD),
+        disk: open("disk", DISK),
+        notes: open("notes", NOTES),
+        before: open("before", CARD + DISK),
+        units: says("units"),
+    };
+    if says("format") {
+        assert_eq!(Library.format(K, SLOTS, DATA_BLOCKS, DISK_BLOCKS, station.card.bytes_mut()), Answer::Done(0));
+    }
+    // a card that was left unsettled is recovered here
+    assert!(matches!(Library.recover(station.card.bytes_mut(), u64::MAX), Answer::Done(_)));
+    assert!(matches!(Library.state(station.card.bytes()), State::Settled { .. }));
+    let mut sequence = station.notes.number(ACKNOWLEDGED).max(station.notes.number(BEGUN));
+    loop {
+        sequence += 1;
+        let group = random.below(GROUPS);
+        let (numbers, data) = (numbers(group), saved(sequence, group));
+        station.notes.set_number(BEGUN, sequence);
+        loop {
+            match station.noted(COMMIT, group, |card, _, allowance| Library.commit(card, &numbers, &data, allowance)) {
+                Answer::Done(_) => break,
+                Answer::Refused(14) => station.evict(random.below(DISK_BLOCKS)),
+                other => panic!("commit {other:?}"),
+            }
+        }
+        station.notes.set_number(1 + group as usize, sequence);
+        station.notes.set_number(ACKNOWLEDGED, sequence);
+        match random.below(4) {
+            0 => station.evict(random.below(DISK_BLOCKS)),
+            1 => station.load(random.below(DISK_BLOCKS)),
+            _ => {}
+        }
+    }
+}

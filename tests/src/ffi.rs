@@ -1,0 +1,149 @@
+//! The functions of include/tinca.h.
+
+use crate::{Answer, Calls, Geometry, Place, State};
+
+#[repr(C)]
+#[derive(Clone, Copy, Debug, PartialEq, Eq)]
+pub struct RawAnswer {
+    pub kind: u32,
+    pub refusal: u32,
+    pub stores: u64,
+}
+
+#[repr(C)]
+#[derive(Clone, Copy, Debug, PartialEq, Eq)]
+pub struct RawPlace {
+    pub kind: u32,
+    pub refusal: u32,
+    pub offset: u64,
+    pub length: u64,
+}
+
+#[repr(C)]
+#[derive(Clone, Copy, Debug, PartialEq, Eq)]
+pub struct RawState {
+    pub kind: u32,
+    pub refusal: u32,
+    pub k: u64,
+    pub slots: u64,
+    pub data_blocks: u64,
+    pub disk_blocks: u64,
+    pub first: u64,
+    pub second: u64,
+}
+
+extern "C" {
+    fn tinca_format(k: u64, slots: u64, data_blocks: u64, disk_blocks: u64, card: *mut u8, card_len: usize) -> RawAnswer;
+    fn tinca_commit(
+        card: *mut u8,
+        card_len: usize,
+        numbers: *const u64,
+        count: usize,
+        data: *const u8,
+        data_len: usize,
+        allowance: u64,
+    ) -> RawAnswer;
+    fn tinca_load(card: *mut u8, card_len: usize, disk: *const u8, disk_len: usize, block: u64, allowance: u64) -> RawAnswer;
+    fn tinca_evict(card: *mut u8, card_len: usize, disk: *mut u8, disk_len: usize, block: u64, allowance: u64) -> RawAnswer;
+    fn tinca_recover(card: *mut u8, card_len: usize, allowance: u64) -> RawAnswer;
+    fn tinca_read(
+        card: *const u8,
+        card_len: usize,
+        disk: *const u8,
+        disk_len: usize,
+        block: u64,
+        out: *mut u8,
+        out_len: usize,
+    ) -> RawPlace;
+    fn tinca_look(card: *const u8, card_len: usize, disk: *const u8, disk_len: usize, block: u64) -> RawPlace;
+    fn tinca_state_of(card: *const u8, card_len: usize) -> RawState;
+}
+
+/// The library. A slice of no bytes is handed over as a null pointer.
+pub struct Library;
+
+fn lent<T>(slice: &[T]) -> *const T {
+    if slice.is_empty() {
+        std::ptr::null()
+    } else {
+        slice.as_ptr()
+    }
+}
+
+fn lent_mut<T>(slice: &mut [T]) -> *mut T {
+    if slice.is_empty() {
+        std::ptr::null_mut()
+    } else {
+        slice.as_mut_ptr()
+    }
+}
+
+/// What a kind leaves unused must be zero; anything else is no answer at all and equals none of the model's.
+pub fn answer(raw: RawAnswer) -> Answer {
+    match raw {
+        RawAnswer { kind: 0, refusal: 0, stores } => Answer::Done(stores),
+        RawAnswer { kind: 1, refusal: 0, stores: 0 } => Answer::Cut,
+        RawAnswer { kind: 2, refusal, stores: 0 } => Answer::Refused(refusal),
+        _ => Answer::Malformed(raw.kind, raw.refusal, raw.stores),
+    }
+}
+
+pub fn place(raw: RawPlace) -> Place {
+    match raw {
+        RawPlace { kind: 0, refusal: 0, offset, length } => Place::Card(offset, length),
+        RawPlace { kind: 1, refusal: 0, offset, length } => Place::Disk(offset, length),
+        RawPlace { kind: 2, refusal, offset: 0, length: 0 } => Place::Refused(refusal),
+        _ => Place::Malformed(raw.kind, raw.refusal, raw.offset, raw.length),
+    }
+}
+
+pub fn state(raw: RawState) -> State {
+    let geometry = Geometry { k: raw.k, slots: raw.slots, data_blocks: raw.data_blocks, disk_blocks: raw.disk_blocks };
+    match raw {
+        RawState { kind: 0, refusal: 0, first, second, .. } => State::Settled { geometry, in_use: first, modified: second },
+        RawState { kind: 1, refusal: 0, first, second, .. } => State::Unsettled { geometry, undoable: first, window: second },
+        RawState { kind: 2, refusal, k: 0, slots: 0, data_blocks: 0, disk_blocks: 0, first: 0, second: 0 } => State::Refused(refusal),
+        _ => State::Malformed(raw.kind, raw.refusal),
+    }
+}
+
+impl Calls for Library {
+    fn format(&self, k: u64, slots: u64, data_blocks: u64, disk_blocks: u64, card: &mut [u8]) -> Answer {
+        answer(unsafe { tinca_format(k, slots, data_blocks, disk_blocks, lent_mut(card), card.len()) })
+    }
+
+    fn commit(&self, card: &mut [u8], numbers: &[u64], data: &[u8], allowance: u64) -> Answer {
+        let card_len = card.len();
+        answer(unsafe {
+            tinca_commit(lent_mut(card), card_len, lent(numbers), numbers.len(), lent(data), data.len(), allowance)
+        })
+    }
+
+    fn load(&self, card: &mut [u8], disk: &[u8], block: u64, allowance: u64) -> Answer {
+        let card_len = card.len();
+        answer(unsafe { tinca_load(lent_mut(card), card_len, lent(disk), disk.len(), block, allowance) })
+    }
+
+    fn evict(&self, card: &mut [u8], disk: &mut [u8], block: u64, allowance: u64) -> Answer {
+        let (card_len, disk_len) = (card.len(), disk.len());
+        answer(unsafe { tinca_evict(lent_mut(card), card_len, lent_mut(disk), disk_len, block, allowance) })
+    }
+
+    fn recover(&self, card: &mut [u8], allowance: u64) -> Answer {
+        let card_len = card.len();
+        answer(unsafe { tinca_recover(lent_mut(card), card_len, allowance) })
+    }
+
+    fn read(&self, card: &[u8], disk: &[u8], block: u64, out: &mut [u8]) -> Place {
+        let out_len = out.len();
+        place(unsafe { tinca_read(lent(card), card.len(), lent(disk), disk.len(), block, lent_mut(out), out_len) })
+    }
+
+    fn look(&self, card: &[u8], disk: &[u8], block: u64) -> Place {
+        place(unsafe { tinca_look(lent(card), card.len(), lent(disk), disk.len(), block) })
+    }
+
+    fn state(&self, card: &[u8]) -> State {
+        state(unsafe { tinca_state_of(lent(card), card.len()) })
+    }
+}

@@ -1,0 +1,22 @@
+//! What holds the library to document 01 by running it: a separate model, the calls of the C interface, and a driver that makes
+//! each call on both and compares all that they leave.
+
+pub mod drive;
+pub mod ffi;
+pub mod mapped;
+pub mod model;
+pub mod random;
+
+pub use model::{Answer, Geometry, Place, State};
+
+/// The calls of the interface. The library is one implementation, the model another.
+pub trait Calls {
+    fn format(&self, k: u64, slots: u64, data_blocks: u64, disk_blocks: u64, card: &mut [u8]) -> Answer;
+    fn commit(&self, card: &mut [u8], numbers: &[u64], data: &[u8], allowance: u64) -> Answer;
+    fn load(&self, card: &mut [u8], disk: &[u8], block: u64, allowance: u64) -> Answer;
+    fn evict(&self, card: &mut [u8], disk: &mut [u8], block: u64, allowance: u64) -> Answer;
+    fn recover(&self, card: &mut [u8], allowance: u64) -> Answer;
+    fn read(&self, card: &[u8], disk: &[u8], block: u64, out: &mut [u8]) -> Place;
+    fn look(&self, card: &[u8], disk: &[u8], block: u64) -> Place;
+    fn state(&self, card: &[u8]) -> State;
+}

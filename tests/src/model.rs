@@ -1,0 +1,654 @@
+//! The model: document 01 in Rust, plain rather than fast. A card is decoded into structures; each storing call gives the list of its
+//! stores; an allowance takes the first of them.
+
+use crate::Calls;
+
+#[derive(Clone, Copy, Debug, PartialEq, Eq)]
+pub enum Answer {
+    Done(u64),
+    Cut,
+    Refused(u32),
+    /// What the C interface must never give: a kind that is none, or a field set that the kind leaves unused.
+    Malformed(u32, u32, u64),
+}
+
+/// Where a block lies: offset and length.
+#[derive(Clone, Copy, Debug, PartialEq, Eq)]
+pub enum Place {
+    Card(u64, u64),
+    Disk(u64, u64),
+    Refused(u32),
+    Malformed(u32, u32, u64, u64),
+}
+
+#[derive(Clone, Copy, Debug, PartialEq, Eq)]
+pub enum State {
+    Settled { geometry: Geometry, in_use: u64, modified: u64 },
+    Unsettled { geometry: Geometry, undoable: u64, window: u64 },
+    Refused(u32),
+    Malformed(u32, u32),
+}
+
+#[derive(Clone, Copy, Debug, PartialEq, Eq)]
+pub struct Geometry {
+    pub k: u64,
+    pub slots: u64,
+    pub data_blocks: u64,
+    pub disk_blocks: u64,
+}
+
+impl Geometry {
+    pub fn allowed(&self) -> bool {
+        (9..=12).contains(&self.k)
+            && (8..=256).contains(&self.slots)
+            && self.slots % 8 == 0
+            && (4..=128).contains(&self.data_blocks)
+            && self.data_blocks % 4 == 0
+            && (1..=65_536).contains(&self.disk_blocks)
+    }
+
+    /// B.
+    pub fn block(&self) -> usize {
+        1 << self.k
+    }
+
+    pub fn slot_at(&self, slot: u64) -> usize {
+        128 + 8 * slot as usize
+    }
+
+    pub fn entry_at(&self, entry: usize) -> usize {
+        128 + 8 * self.slots as usize + 16 * entry
+    }
+
+    pub fn block_at(&self, block: u32) -> usize {
+        128 + 8 * self.slots as usize + 16 * self.data_blocks as usize + block as usize * self.block()
+    }
+
+    pub fn card_length(&self) -> usize {
+        128 + 8 * self.slots as usize + 16 * self.data_blocks as usize + self.data_blocks as usize * self.block()
+    }
+
+    pub fn disk_length(&self) -> usize {
+        self.disk_blocks as usize * self.block()
+    }
+
+    pub fn header(&self) -> [u8; 64] {
+        let mut bytes = [0; 64];
+        bytes[0..4].copy_from_slice(&64u32.to_be_bytes());
+        bytes[4] = 1;
+        bytes[5] = self.k as u8;
+        bytes[6..8].copy_from_slice(&(self.slots as u16).to_be_bytes());
+        bytes[8..12].copy_from_slice(&(self.data_blocks as u32).to_be_bytes());
+        bytes[12..16].copy_from_slice(&(self.disk_blocks as u32).to_be_bytes());
+        bytes
+    }
+
+    /// Check 1.
+    pub fn from_header(card: &[u8]) -> Result<Geometry, u32> {
+        if card.len() < 128 {
+            return Err(1);
+        }
+        let geometry = Geometry {
+            k: card[5] as u64,
+            slots: u16::from_be_bytes(card[6..8].try_into().unwrap()) as u64,
+            data_blocks: u32::from_be_bytes(card[8..12].try_into().unwrap()) as u64,
+            disk_blocks: u32::from_be_bytes(card[12..16].try_into().unwrap()) as u64,
+        };
+        if geometry.allowed() && card[0..64] == geometry.header() {
+            Ok(geometry)
+        } else {
+            Err(1)
+        }
+    }
+}
+
+/// An entry in use. A previous block of `None` is FRESH.
+#[derive(Clone, Copy, Debug, PartialEq, Eq)]
+pub struct Entry {
+    pub modified: bool,
+    pub log_role: bool,
+    pub number: u64,
+    pub previous: Option<u32>,
+    pub current: u32,
+}
+
+pub const FRESH: u32 = 0xFFFF_FFFF;
+
+/// Reads sixteen bytes: an unused entry is `None`. Check 5.
+pub fn read_entry(bytes: &[u8; 16], data_blocks: u64, disk_blocks: u64) -> Result<Option<Entry>, u32> {
+    if *bytes == [0; 16] {
+        return Ok(None);
+    }
+    let (modified, log_role) = match bytes[0] {
+        0x80 => (false, false),
+        0x82 => (true, false),
+        0x83 => (true, true),
+        _ => return Err(5),
+    };
+    let mut wide = [0; 8];
+    wide[1..8].copy_from_slice(&bytes[1..8]);
+    let number = u64::from_be_bytes(wide);
+    let previous = u32::from_be_bytes(bytes[8..12].try_into().unwrap());
+    let current = u32::from_be_bytes(bytes[12..16].try_into().unwrap());
+    let previous = if previous == FRESH {
+        None
+    } else if (previous as u64) < data_blocks {
+        Some(previous)
+    } else {
+        return Err(5);
+    };
+    if number >= disk_blocks || current as u64 >= data_blocks {
+        return Err(5);
+    }
+    Ok(Some(Entry { modified, log_role, number, previous, current }))
+}
+
+pub fn write_entry(entry: Option<Entry>) -> [u8; 16] {
+    let mut bytes = [0; 16];
+    if let Some(entry) = entry {
+        bytes[0..8].copy_from_slice(&entry.number.to_be_bytes());
+        bytes[0] = match (entry.modified, entry.log_role) {
+            (false, false) => 0x80,
+            (true, false) => 0x82,
+            (true, true) => 0x83,
+            (false, true) => panic!("no such flag byte"),
+        };
+        bytes[8..12].copy_from_slice(&entry.previous.unwrap_or(FRESH).to_be_bytes());
+        bytes[12..16].copy_from_slice(&entry.current.to_be_bytes());
+    }
+    bytes
+}
+
+/// The entry after its role switch.
+pub fn switched(entry: Entry) -> Entry {
+    Entry { log_role: false, ..entry }
+}
+
+/// The entry after its undoing.
+pub fn undone(entry: Entry) -> Option<Entry> {
+    entry.previous.map(|previous| Entry {
+        modified: true,
+        log_role: false,
+        number: entry.number,
+        previous: Some(previous),
+        current: previous,
+    })
+}
+
+/// The count of a commit's stores.
+pub fn commit_stores(n: u64, block: u64) -> u64 {
+    n * (block / 8 + 4) + 1
+}
+
+/// Slots from `tail` up to but not including `head`, going round.
+pub fn window_slots(slots: u64, head: u64, tail: u64) -> Vec<u64> {
+    let mut window = Vec::new();
+    let mut slot = tail;
+    while slot != head {
+        window.push(slot);
+        slot = (slot + 1) % slots;
+    }
+    window
+}
+
+/// Places from `head` mod `count` upward and round where `wanted` holds.
+pub fn walk(count: u64, head: u64, wanted: impl Fn(usize) -> bool) -> Vec<usize> {
+    (0..count).map(|step| ((head % count + step) % count) as usize).filter(|place| wanted(*place)).collect()
+}
+
+/// A card that passed checks 1, 2 and 4 to 6, without its data blocks.
+#[derive(Clone, Debug, PartialEq, Eq)]
+pub struct Card {
+    pub geometry: Geometry,
+    pub head: u64,
+    pub tail: u64,
+    /// The numbers that stand in the window.
+    pub window: Vec<u64>,
+    pub entries: Vec<Option<Entry>>,
+}
+
+fn word(bytes: &[u8], at: usize) -> u64 {
+    u64::from_be_bytes(bytes[at..at + 8].try_into().unwrap())
+}
+
+impl Card {
+    /// Checks 1 to 6; check 3 where a disk's length is given.
+    pub fn open(bytes: &[u8], disk_length: Option<usize>) -> Result<Card, u32> {
+        let geometry = Geometry::from_header(bytes)?;
+        if bytes.len() != geometry.card_length() {
+            return Err(2);
+        }
+        if disk_length.is_some_and(|length| length != geometry.disk_length()) {
+            return Err(3);
+        }
+        let (head, tail) = (word(bytes, 64), word(bytes, 72));
+        if head >= geometry.slots || tail >= geometry.slots {
+            return Err(4);
+        }
+        let window: Vec<u64> =
+            window_slots(geometry.slots, head, tail).iter().map(|slot| word(bytes, geometry.slot_at(*slot))).collect();
+        if window.iter().any(|number| *number >= geometry.disk_blocks) {
+            return Err(4);
+        }
+        let mut entries = Vec::new();
+        for index in 0..geometry.data_blocks as usize {
+            let at = geometry.entry_at(index);
+            let bytes: &[u8; 16] = bytes[at..at + 16].try_into().unwrap();
+            entries.push(read_entry(bytes, geometry.data_blocks, geometry.disk_blocks)?);
+        }
+        let card = Card { geometry, head, tail, window, entries };
+        let mut taken: Vec<(&Entry, Option<u32>)> = Vec::new();
+        for entry in card.in_use() {
+            let settled = card.settled_block(entry);
+            for (other, other_settled) in &taken {
+                let same_settled = settled.is_some() && settled == *other_settled;
+                if entry.number == other.number || entry.current == other.current || same_settled {
+                    return Err(6);
+                }
+            }
+            taken.push((entry, settled));
+        }
+        Ok(card)
+    }
+
+    /// Checks 1 to 7.
+    pub fn open_settled(bytes: &[u8], disk_length: Option<usize>) -> Result<Card, u32> {
+        let card = Card::open(bytes, disk_length)?;
+        if card.settled() {
+            Ok(card)
+        } else {
+            Err(7)
+        }
+    }
+
+    pub fn in_use(&self) -> impl Iterator<Item = &Entry> {
+        self.entries.iter().flatten()
+    }
+
+    pub fn undoable(&self, entry: &Entry) -> bool {
+        entry.log_role || self.window.contains(&entry.number)
+    }
+
+    pub fn settled_block(&self, entry: &Entry) -> Option<u32> {
+        if self.undoable(entry) {
+            entry.previous
+        } else {
+            Some(entry.current)
+        }
+    }
+
+    pub fn settled(&self) -> bool {
+        self.head == self.tail && !self.in_use().any(|entry| entry.log_role)
+    }
+
+    pub fn entry_for(&self, number: u64) -> Option<usize> {
+        self.entries.iter().position(|entry| entry.is_some_and(|entry| entry.number == number))
+    }
+
+    /// The free data blocks in the order of the search.
+    pub fn free_blocks(&self) -> Vec<usize> {
+        walk(self.geometry.data_blocks, self.head, |block| !self.in_use().any(|entry| entry.current as usize == block))
+    }
+
+    /// The unused entries in the order of the search.
+    pub fn unused_entries(&self) -> Vec<usize> {
+        walk(self.geometry.data_blocks, self.head, |entry| self.entries[entry].is_none())
+    }
+}
+
+/// One store: a unit that is whole.
+#[derive(Clone, Debug, PartialEq, Eq)]
+pub enum Store {
+    Word(usize, [u8; 8]),
+    Entry(usize, [u8; 16]),
+    Sector(usize, Vec<u8>),
+}
+
+impl Store {
+    /// Offset and bytes, and whether they go to the disk.
+    pub fn unit(&self) -> (bool, usize, &[u8]) {
+        match self {
+            Store::Word(at, bytes) => (false, *at, bytes),
+            Store::Entry(at, bytes) => (false, *at, bytes),
+            Store::Sector(at, bytes) => (true, *at, bytes),
+        }
+    }
+}
+
+/// What a wrong program might do. The comparison must see each of them.
+#[derive(Clone, Copy, Debug, PartialEq, Eq)]
+pub enum Slip {
+    CleanUndo,
+    FreshAtSwitch,
+    FreshAtUndo,
+    WindowAlone,
+    CountOneMore,
+    CutAtCount,
+    ZeroBeforeSectors,
+    OldBlockGivenOut,
+    SearchFromZero,
+    HeadAlone,
+    SlotBeforeEntry,
+    TailFirst,
+    UnchangedCounted,
+    RepeatsLetBy,
+    LookOneByteLess,
+    FormatClearsBlocks,
+    ReadTouchesOnRefusal,
+    CountsEveryEntry,
+}
+
+pub const SLIPS: [Slip; 18] = [
+    Slip::CleanUndo,
+    Slip::FreshAtSwitch,
+    Slip::FreshAtUndo,
+    Slip::WindowAlone,
+    Slip::CountOneMore,
+    Slip::CutAtCount,
+    Slip::ZeroBeforeSectors,
+    Slip::OldBlockGivenOut,
+    Slip::SearchFromZero,
+    Slip::HeadAlone,
+    Slip::SlotBeforeEntry,
+    Slip::TailFirst,
+    Slip::UnchangedCounted,
+    Slip::RepeatsLetBy,
+    Slip::LookOneByteLess,
+    Slip::FormatClearsBlocks,
+    Slip::ReadTouchesOnRefusal,
+    Slip::CountsEveryEntry,
+];
+
+/// The model; with a slip, a deliberately wrong one.
+#[derive(Clone, Copy, Debug, Default)]
+pub struct Model {
+    pub slip: Option<Slip>,
+}
+
+fn words_of(stores: &mut Vec<Store>, at: usize, bytes: &[u8]) {
+    for (index, word) in bytes.chunks_exact(8).enumerate() {
+        stores.push(Store::Word(at + 8 * index, word.try_into().unwrap()));
+    }
+}
+
+impl Model {
+    fn slips(&self, slip: Slip) -> bool {
+        self.slip == Some(slip)
+    }
+
+    pub fn commit_list(&self, bytes: &[u8], numbers: &[u64], data: &[u8]) -> Result<Vec<Store>, u32> {
+        let card = Card::open_settled(bytes, None)?;
+        let geometry = card.geometry;
+        let n = numbers.len();
+        if n == 0 || n as u64 > geometry.slots - 1 {
+            return Err(8);
+        }
+        if data.len() != n * geometry.block() {
+            return Err(9);
+        }
+        if numbers.iter().any(|number| *number >= geometry.disk_blocks) {
+            return Err(10);
+        }
+        let repeats = (0..n).any(|i| numbers[..i].contains(&numbers[i]));
+        if repeats && !self.slips(Slip::RepeatsLetBy) {
+            return Err(11);
+        }
+        let searched = if self.slips(Slip::SearchFromZero) { Card { head: 0, ..card.clone() } } else { card.clone() };
+        let mut free = searched.free_blocks();
+        if self.slips(Slip::OldBlockGivenOut) {
+            let old = card.entry_for(numbers[0]).map(|entry| card.entries[entry].unwrap().current as usize);
+            free.extend(old);
+        }
+        if n > free.len() {
+            return Err(14);
+        }
+        let mut unused = searched.unused_entries().into_iter();
+        let mut head = card.head;
+        let mut stores = Vec::new();
+        let mut written = Vec::new();
+        for (i, number) in numbers.iter().enumerate() {
+            let block = &data[i * geometry.block()..(i + 1) * geometry.block()];
+            let current = free[i] as u32;
+            let (index, previous) = match card.entry_for(*number) {
+                Some(index) => (index, Some(card.entries[index].unwrap().current)),
+                None => (unused.next().unwrap(), None),
+            };
+            let entry = Entry { modified: true, log_role: true, number: *number, previous, current };
+            written.push((index, entry));
+            if self.slips(Slip::HeadAlone) && i > 0 {
+                head = (head + 1) % geometry.slots;
+                stores.push(Store::Word(64, head.to_be_bytes()));
+                continue;
+            }
+            words_of(&mut stores, geometry.block_at(current), block);
+            stores.push(Store::Entry(geometry.entry_at(index), write_entry(Some(entry))));
+            stores.push(Store::Word(geometry.slot_at(head), number.to_be_bytes()));
+            if self.slips(Slip::SlotBeforeEntry) {
+                let last = stores.len() - 1;
+                stores.swap(last, last - 1);
+            }
+            head = (head + 1) % geometry.slots;
+            stores.push(Store::Word(64, head.to_be_bytes()));
+        }
+        let tail = Store::Word(72, head.to_be_bytes());
+        if self.slips(Slip::TailFirst) {
+            stores.push(tail.clone());
+        }
+        for (index, entry) in written {
+            let mut entry = switched(entry);
+            if self.slips(Slip::FreshAtSwitch) {
+                entry.previous = None;
+            }
+            stores.push(Store::Entry(geometry.entry_at(index), write_entry(Some(entry))));
+        }
+        if !self.slips(Slip::TailFirst) {
+            stores.push(tail);
+        }
+        Ok(stores)
+    }
+
+    pub fn load_list(&self, bytes: &[u8], disk: &[u8], number: u64) -> Result<Vec<Store>, u32> {
+        let card = Card::open_settled(bytes, Some(disk.len()))?;
+        let geometry = card.geometry;
+        if number >= geometry.disk_blocks {
+            return Err(10);
+        }
+        if card.entry_for(number).is_some() {
+            return Err(12);
+        }
+        let Some(current) = card.free_blocks().first().copied() else {
+            return Err(14);
+        };
+        let index = card.unused_entries()[0];
+        let at = number as usize * geometry.block();
+        let mut stores = Vec::new();
+        words_of(&mut stores, geometry.block_at(current as u32), &disk[at..at + geometry.block()]);
+        let entry = Entry { modified: false, log_role: false, number, previous: None, current: current as u32 };
+        stores.push(Store::Entry(geometry.entry_at(index), write_entry(Some(entry))));
+        Ok(stores)
+    }
+
+    pub fn evict_list(&self, bytes: &[u8], disk_length: usize, number: u64) -> Result<Vec<Store>, u32> {
+        let card = Card::open_settled(bytes, Some(disk_length))?;
+        let geometry = card.geometry;
+        if number >= geometry.disk_blocks {
+            return Err(10);
+        }
+        let Some(index) = card.entry_for(number) else {
+            return Err(13);
+        };
+        let entry = card.entries[index].unwrap();
+        let mut stores = Vec::new();
+        if entry.modified {
+            let at = geometry.block_at(entry.current);
+            for (i, sector) in bytes[at..at + geometry.block()].chunks_exact(512).enumerate() {
+                stores.push(Store::Sector(number as usize * geometry.block() + 512 * i, sector.to_vec()));
+            }
+        }
+        let zeros = Store::Entry(geometry.entry_at(index), write_entry(None));
+        if self.slips(Slip::ZeroBeforeSectors) {
+            stores.insert(0, zeros);
+        } else {
+            stores.push(zeros);
+        }
+        Ok(stores)
+    }
+
+    pub fn recover_list(&self, bytes: &[u8]) -> Result<Vec<Store>, u32> {
+        let card = Card::open(bytes, None)?;
+        let mut stores = Vec::new();
+        for (index, entry) in card.entries.iter().enumerate() {
+            let Some(entry) = entry else { continue };
+            let undoable = if self.slips(Slip::WindowAlone) && card.head != card.tail {
+                card.window.contains(&entry.number)
+            } else {
+                card.undoable(entry)
+            };
+            if undoable {
+                let mut after = undone(*entry);
+                if let Some(after) = after.as_mut() {
+                    if self.slips(Slip::CleanUndo) {
+                        after.modified = false;
+                    }
+                    if self.slips(Slip::FreshAtUndo) {
+                        after.previous = None;
+                    }
+                }
+                let after = write_entry(after);
+                if after != write_entry(Some(*entry)) || self.slips(Slip::UnchangedCounted) {
+                    stores.push(Store::Entry(card.geometry.entry_at(index), after));
+                }
+            }
+        }
+        if card.tail != card.head || self.slips(Slip::UnchangedCounted) {
+            stores.push(Store::Word(72, card.head.to_be_bytes()));
+        }
+        Ok(stores)
+    }
+
+    /// Makes the first stores of the list, as many as the allowance, and answers.
+    fn make(&self, list: Result<Vec<Store>, u32>, allowance: u64, card: &mut [u8], disk: &mut [u8]) -> Answer {
+        let stores = match list {
+            Ok(stores) => stores,
+            Err(number) => return Answer::Refused(number),
+        };
+        let count = stores.len() as u64;
+        for store in stores.iter().take(usize::try_from(allowance).unwrap_or(usize::MAX)) {
+            let (on_disk, at, bytes) = store.unit();
+            let to = if on_disk { &mut *disk } else { &mut *card };
+            to[at..at + bytes.len()].copy_from_slice(bytes);
+        }
+        if allowance < count || (allowance == count && self.slips(Slip::CutAtCount)) {
+            Answer::Cut
+        } else if self.slips(Slip::CountOneMore) {
+            Answer::Done(count + 1)
+        } else {
+            Answer::Done(count)
+        }
+    }
+
+    fn place(&self, card: &[u8], disk: &[u8], block: u64, out_length: Option<usize>) -> Result<Place, u32> {
+        let opened = Card::open_settled(card, Some(disk.len()))?;
+        let geometry = opened.geometry;
+        if out_length.is_some_and(|length| length != geometry.block()) {
+            return Err(9);
+        }
+        if block >= geometry.disk_blocks {
+            return Err(10);
+        }
+        Ok(match opened.entry_for(block) {
+            Some(index) => {
+                let current = opened.entries[index].unwrap().current;
+                Place::Card(geometry.block_at(current) as u64, geometry.block() as u64)
+            }
+            None => Place::Disk(block * geometry.block() as u64, geometry.block() as u64),
+        })
+    }
+}
+
+impl Calls for Model {
+    fn format(&self, k: u64, slots: u64, data_blocks: u64, disk_blocks: u64, card: &mut [u8]) -> Answer {
+        let geometry = Geometry { k, slots, data_blocks, disk_blocks };
+        if !geometry.allowed() {
+            return Answer::Refused(1);
+        }
+        if card.len() != geometry.card_length() {
+            return Answer::Refused(2);
+        }
+        card[0..64].copy_from_slice(&geometry.header());
+        card[64..geometry.block_at(0)].fill(0);
+        if self.slips(Slip::FormatClearsBlocks) {
+            card[64..].fill(0);
+        }
+        Answer::Done(0)
+    }
+
+    fn commit(&self, card: &mut [u8], numbers: &[u64], data: &[u8], allowance: u64) -> Answer {
+        let list = self.commit_list(card, numbers, data);
+        self.make(list, allowance, card, &mut [])
+    }
+
+    fn load(&self, card: &mut [u8], disk: &[u8], block: u64, allowance: u64) -> Answer {
+        let list = self.load_list(card, disk, block);
+        self.make(list, allowance, card, &mut [])
+    }
+
+    fn evict(&self, card: &mut [u8], disk: &mut [u8], block: u64, allowance: u64) -> Answer {
+        let list = self.evict_list(card, disk.len(), block);
+        self.make(list, allowance, card, disk)
+    }
+
+    fn recover(&self, card: &mut [u8], allowance: u64) -> Answer {
+        let list = self.recover_list(card);
+        self.make(list, allowance, card, &mut [])
+    }
+
+    fn read(&self, card: &[u8], disk: &[u8], block: u64, out: &mut [u8]) -> Place {
+        match self.place(card, disk, block, Some(out.len())) {
+            Ok(place) => {
+                match place {
+                    Place::Card(at, length) => out.copy_from_slice(&card[at as usize..(at + length) as usize]),
+                    Place::Disk(at, length) => out.copy_from_slice(&disk[at as usize..(at + length) as usize]),
+                    _ => unreachable!(),
+                }
+                place
+            }
+            Err(number) => {
+                if self.slips(Slip::ReadTouchesOnRefusal) {
+                    out.fill(0);
+                }
+                Place::Refused(number)
+            }
+        }
+    }
+
+    fn look(&self, card: &[u8], disk: &[u8], block: u64) -> Place {
+        match self.place(card, disk, block, None) {
+            Ok(Place::Card(at, length)) if self.slips(Slip::LookOneByteLess) => Place::Card(at, length - 1),
+            Ok(place) => place,
+            Err(number) => Place::Refused(number),
+        }
+    }
+
+    fn state(&self, card: &[u8]) -> State {
+        let card = match Card::open(card, None) {
+            Ok(card) => card,
+            Err(number) => return State::Refused(number),
+        };
+        let geometry = card.geometry;
+        if card.settled() {
+            let every = self.slips(Slip::CountsEveryEntry);
+            State::Settled {
+                geometry,
+                in_use: card.in_use().count() as u64,
+                modified: card.in_use().filter(|entry| every || entry.modified).count() as u64,
+            }
+        } else {
+            State::Unsettled {
+                geometry,
+                undoable: card.in_use().filter(|entry| card.undoable(entry)).count() as u64,
+                window: card.window.len() as u64,
+            }
+        }
+    }
+}
