@@ -1,9 +1,10 @@
--- Laws of the checks' definitions: refusals in order, the limits of a good geometry as orders of numbers, and an entry's bytes as
--- four quarters. Assumes nothing.
+-- Laws of the checks' definitions: refusals in order, the limits of a good geometry and of an allowed entry as orders of numbers,
+-- and an entry's bytes as four quarters. Assumes nothing.
 use Prim.Native.Nat.{ℕ, zero, suc, _+_, _*_, _/_, _%_, _^_, _≤_, _<_}
 use mathlib.Core.List.{List}
 use mathlib.Core.Bool.{Bool, true, false, _&&_}
-use mathlib.Core.Path.{_≡_, refl, sym, _∙_}
+use mathlib.Core.Logic.{_⊎_, inl, ⊎-elim}
+use mathlib.Core.Path.{_≡_, refl, sym, subst, _∙_}
 use native.Mathlib.Nat.{mul-le-mul}
 use native.Mathlib.Omega.{arith}
 use lib.ListN.{length, getD}
@@ -13,9 +14,11 @@ use borrow.Author.Tests.{leb-true}
 use Rattle.numbers.specs.Bytes.{numberAt, Bytes}
 use Rattle.numbers.proofs.Laws.{number-one, number-split, number-high, number-low}
 use Rattle.protocol.specs.declared.Geometry.{Geometry}
+use Rattle.protocol.specs.declared.Entry.{Entry}
 use Rattle.protocol.specs.Layout.{between, goodK, goodSlots, goodBlocks, goodDisk, goodGeometry, blockSize}
-use Rattle.protocol.specs.Entry.{entryOf, entryIn}
+use Rattle.protocol.specs.Entry.{FRESH, entryOf, unused, entryIn, goodEntry}
 use Rattle.protocol.specs.Check.{refuse, _orElse_}
+use Rattle.protocol.proofs.Allowed.{UsedEntry, good-cases}
 use Rattle.protocol.proofs.Below.{and-left, and-right}
 
 -- ---- refusals in order: r is the answer of what stands right of it
@@ -86,6 +89,21 @@ limits g h =
       card-data = mul-le-mul (n .1) b;
       disk-data = mul-le-mul (d .1) b;
     }
+
+-- ---- an entry that check 5 allows
+
+-- its fields' limits; an unused entry's are zero
+pub record Allowed (n d : ℕ) (e : Entry) : Type 0 where
+  pub number : e .number < d
+  pub current : e .current < n
+  pub previous : (e .previous < n) ⊎ (e .previous ≡ FRESH)
+
+pub allowed : (n d : ℕ) (e : Entry) → 0 < n → 0 < d → goodEntry n d e ≡ true → Allowed n d e
+allowed n d e hn hd h =
+    ⊎-elim
+    (λ (q : e ≡ unused). subst (Allowed n d) (sym q) (record { number = hd; current = hn; previous = inl hn }))
+    (λ (u : UsedEntry n d e). record { number = u .numberBelow; current = u .currentBelow; previous = u .previousBelow })
+    (good-cases n d e h)
 
 -- ---- an entry's sixteen bytes as four quarters
 
