@@ -2,6 +2,7 @@
 use Prim.Native.Nat.{_≤_, _-_}
 use Rattle.plan.proofs.Rows.{Marked, marked-start, marked-skip, marked-more, marked-end}
 use borrow.Author.Needs.{needs}
+use native.Mathlib.Omega.{arith}
 use Rattle.plan.proofs.free_marks.Statement.{statement}
 use Rattle.plan.proofs.free_marks.Tie as tie
 
@@ -33,13 +34,13 @@ array-write-marks : tie.Need-array-write-marks Inv-loop μ-loop
 array-write-marks c = search needs
 
 loop-less : tie.Need-loop-less Inv-loop μ-loop
-loop-less c = search needs
+loop-less c = omega arith
 
 loop-again : tie.Need-loop-again Inv-loop μ-loop
 loop-again c = (search needs, search (marked-more, needs))
 
 loop-less-2 : tie.Need-loop-less-2 Inv-loop μ-loop
-loop-less-2 c = search needs
+loop-less-2 c = omega arith
 
 loop-again-2 : tie.Need-loop-again-2 Inv-loop μ-loop
 loop-again-2 c = (search needs, search (marked-skip, needs))
