@@ -6,9 +6,10 @@
  * card settled, and a settled card reads, byte for byte, as the last commit that answered "done" left it. This holds
  * over every list of calls from a formatted card, recoveries cut again and again among them. It is proved of the code.
  *
- * What is not. The proof speaks of the order in which the program makes its stores. A compiler, a processor's cache and
- * a memory controller may delay or reorder stores to plain memory: docs/DECISIONS.md says what a station must do. One
- * card, one disk, one call at a time: nothing here locks. Card, disk, data, numbers and output may not overlap.
+ * What is not. The proof speaks of whole stores in the order in which the program makes them. The compiled code stores an
+ * entry by several instructions, and a processor's cache and a memory controller may delay or reorder stores to plain
+ * memory: docs/ORDER.md says what a station must do so that each unit reaches the card whole and in order. One card, one
+ * disk, one call at a time: nothing here locks. Card, disk, data, numbers and output may not overlap.
  *
  * A slice is a pointer and a length. A pointer may be null only where its length is 0. Every other argument may be
  * anything: each call takes every input, always returns, and refuses by number before any store.
