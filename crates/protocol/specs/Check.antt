@@ -45,7 +45,7 @@ ringFits g c =
 unfoldable pub goodEntryAt : Geometry → List ℕ → ℕ → Bool
 goodEntryAt g c i = goodEntry (g .blocks) (g .disk) (entryAt g c i)
 
--- not 5
+-- not 5: every entry is one that check 5 allows
 unfoldable pub entriesFit : Geometry → List ℕ → Bool
 entriesFit g c = allBelow (goodEntryAt g c) (g .blocks)
 
@@ -64,7 +64,7 @@ apart g c i j = not (usedAt g c i && (usedAt g c j && alike g c i j))
 unfoldable pub apartBefore : Geometry → List ℕ → ℕ → Bool
 apartBefore g c i = allBelow (apart g c i) i
 
--- not 6
+-- not 6: no "two in-use entries with equal numbers, equal current blocks or equal settled blocks"
 unfoldable pub entriesApart : Geometry → List ℕ → Bool
 entriesApart g c = allBelow (apartBefore g c) (g .blocks)
 

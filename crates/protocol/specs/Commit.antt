@@ -108,6 +108,7 @@ saveRefusal g c ns bs =
     orElse refuse 11 (numbersApart ns)
     orElse refuse 14 (roomFor g c (length ns))
 
+-- commit is refused with 1, 2, 4 to 7, then by its own checks
 unfoldable pub commitRefusal : List ℕ → List ℕ → List ℕ → ℕ
 commitRefusal c ns bs = fitRefusal c orElse cardRefusal (geometryOf c) c orElse saveRefusal (geometryOf c) c ns bs
 

@@ -38,9 +38,11 @@ workOf (load b) m = loadWork (m .onCard) (m .onDisk) b
 workOf (evict b) m = evictWork (m .onCard) (m .onDisk) b
 workOf recover m = recoverWork (m .onCard)
 
+-- what the call answers, on the media that it meets
 unfoldable pub answerTo : Request → Media → Answer
 answerTo r m = answerOf (r .allowance) (workOf (r .call) m)
 
+-- the media as the call leaves them
 unfoldable pub after : Request → Media → Media
 after r m =
     record {

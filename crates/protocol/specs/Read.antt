@@ -22,6 +22,7 @@ use Rattle.protocol.specs.Load.{pairRefusal, blockRefusal}
 unfoldable pub outputRefusal : Geometry → List ℕ → ℕ
 outputRefusal g out = refuse 9 (eqb (length out) (blockSize g))
 
+-- read is refused with 1 to 7, 9 and 10
 unfoldable pub readRefusal : List ℕ → List ℕ → List ℕ → ℕ → ℕ
 readRefusal c d out b =
     pairRefusal c d orElse outputRefusal (geometryOf c) out orElse blockRefusal (geometryOf c) b
@@ -35,6 +36,7 @@ heldBy c d out b =
 unfoldable pub outputAfter : List ℕ → List ℕ → List ℕ → ℕ → List ℕ
 outputAfter c d out b = cond (eqb (readRefusal c d out b) 0) (contents (geometryOf c) c d b) out
 
+-- look is refused with 1 to 7 and 10; "Look's refusal is the empty part"
 unfoldable pub lookRefusal : List ℕ → List ℕ → ℕ → ℕ
 lookRefusal c d b = pairRefusal c d orElse blockRefusal (geometryOf c) b
 
@@ -42,6 +44,7 @@ lookRefusal c d b = pairRefusal c d orElse blockRefusal (geometryOf c) b
 unfoldable pub lookedAt : List ℕ → List ℕ → ℕ → List ℕ
 lookedAt c d b = cond (eqb (lookRefusal c d b) 0) (contents (geometryOf c) c d b) []
 
+-- state is refused with 1, 2 and 4 to 6
 unfoldable pub stateRefusal : List ℕ → ℕ
 stateRefusal c = fitRefusal c orElse damageRefusal (geometryOf c) c
 

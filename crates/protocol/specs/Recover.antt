@@ -32,6 +32,7 @@ undoRuns g c i = cond (undoableAt g c i) (ifChanging c (entryStore g i (undone (
 unfoldable pub recoverRuns : Geometry → List ℕ → List Run
 recoverRuns g c = eachBelow (undoRuns g c) (g .blocks) ++ ifChanging c (tailStore (headOf c))
 
+-- recover is refused with 1, 2 and 4 to 6: 7 is "all but format, recover, state"
 unfoldable pub recoverRefusal : List ℕ → ℕ
 recoverRefusal c = fitRefusal c orElse damageRefusal (geometryOf c) c
 
