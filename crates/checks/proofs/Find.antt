@@ -7,9 +7,8 @@ use native.Mathlib.Omega.{arith}
 use lib.Dec.{eqb, ltb}
 use borrow.Author.Tests.{ne-eqb}
 use Rattle.protocol.specs.declared.Geometry.{Geometry}
-use Rattle.protocol.specs.declared.Entry.{Entry}
 use Rattle.protocol.specs.Below.{anyBelow, firstBelow}
-use Rattle.protocol.specs.Entry.{entryAt, inUse}
+use Rattle.protocol.specs.Entry.{entryAt}
 use Rattle.protocol.specs.Ring.{usedAt, entryFor, findEntry}
 use Rattle.protocol.proofs.Below.{any-at, first-at, first-none}
 use Rattle.checks.specs.Keys.{NONE, key, numberKey, keyed, keyAt, Lists}
@@ -28,11 +27,6 @@ first-same p q zero h = refl
 first-same p q (suc n) h =
     let e : firstBelow p n ≡ firstBelow q n = first-same p q n (λ i l. h i (omega arith)) in
     λ t. cond (ltb (e t) n) (e t) (cond (h n (omega arith) t) n (suc n))
-
-pub entry-for : (g : Geometry) (c : List ℕ) (b i : ℕ) (e : Entry) (u r : Bool) → e ≡ entryAt g c i → u ≡ inUse e → u && eqb (e .number) b ≡ r
-    → entryFor g c b i ≡ r
-unfolding entryFor usedAt
-entry-for g c b i e u r q used t = sym (λ k. inUse (q k) && eqb (q k .number) b) ∙ ap (λ (x : Bool). x && eqb (e .number) b) (sym used) ∙ t
 
 -- an entry in use for b has the key b
 key-for : (u : Bool) (x b : ℕ) → b < NONE → eqb (key u x) b ≡ u && eqb x b

@@ -8,7 +8,6 @@ ghost use Prim.Native.Nat.{_≤_, _<_};
 ghost use lib.ListN.{length};
 ghost use Rattle.protocol.specs.Below.{anyBelow, firstBelow};
 ghost use Rattle.protocol.specs.Entry.{entryAt, goodEntry};
-ghost use Rattle.protocol.specs.Ring.{findEntry};
 ghost use Rattle.protocol.specs.Check.{entriesApart, damageRefusal, cardRefusal};
 ghost use Rattle.ring.specs.Fitted.{Fitted, Placed, WindowOf};
 ghost use Rattle.checks.specs.Keys.{NONE, settledKey, undoableEntry, keyed, distinct, keyAt};
@@ -301,23 +300,6 @@ pub fn find_key(keys: &[u32; 128], n: usize, k: u32) -> usize
     let mut i: usize = 0;
     while i < n {
         if keys[i] == k {
-            return i;
-        }
-        i += 1;
-    }
-    n
-}
-
-// The place of the in-use entry for disk block b, or N where b is not cached. After `inspect`, `find_key` answers it without decoding.
-pub fn find_entry(g: Geometry, card: &[u8], b: u64) -> usize
-    requires { ⌜ Fitted g (now card) ⌝ }
-    ensures { λ r. ⌜ r ≡ findEntry g (now (card .entry)) b ⌝ }
-{
-    let n = g.blocks as usize;
-    let mut i: usize = 0;
-    while i < n {
-        let e = entry_of(g, card, i);
-        if codec::in_use(e) & (e.number == b) {
             return i;
         }
         i += 1;
