@@ -1,10 +1,12 @@
-//! Times of the library in one run: beside a plain copy of the same bytes (the floor) and an unproved commit of the same contract.
-//! Each figure is the median of many rounds; within a round the three take turns.
+//! Times of the library in one run: beside a plain copy of the same bytes (the floor), an unproved commit of the same contract and,
+//! where installed, LMDB and libpmemobj. Each figure is the median of many rounds; within a round all take turns.
 
+mod stores;
 mod unproved;
 
 use std::hint::black_box;
 use std::time::Instant;
+use stores::{Kind, Store, KINDS};
 use unproved::Answer;
 
 #[repr(C)]
@@ -170,9 +172,11 @@ fn filled(k: u64, slots: u64, data_blocks: u64, numbers: &[u64]) -> Vec<u8> {
     card
 }
 
-/// Floor, library and unproved commit.
-fn three(k: u64, slots: u64, data_blocks: u64, in_use: usize, n: usize, rounds: usize) -> Vec<f64> {
+/// Floor, library, unproved commit and the stores of the given kinds.
+fn measured(k: u64, data_blocks: u64, n: usize, rounds: usize, kinds: &'static [Kind]) -> Vec<f64> {
+    let (slots, in_use) = (256, data_blocks as usize / 2);
     let numbers = spread(in_use);
+    let mut stores: Vec<Store> = kinds.iter().map(|kind| Store::filled(kind, 1 << k, &numbers)).collect();
     let mut proved_card = filled(k, slots, data_blocks, &numbers);
     let mut unproved_card = proved_card.clone();
     let mut area = proved_card.clone();
@@ -195,7 +199,30 @@ fn three(k: u64, slots: u64, data_blocks: u64, in_use: usize, n: usize, rounds: 
         let answer = unproved::commit(black_box(&mut unproved_card), black_box(saved), black_box(&data), black_box(ALL));
         assert!(matches!(answer, Answer::Done(_)));
     };
-    timed(rounds, turns, &mut [&mut copy, &mut proved, &mut plain])
+    let bytes = &data;
+    let mut saves: Vec<_> =
+        stores.iter_mut().map(|store| move |_: usize| store.save(black_box(saved), black_box(bytes))).collect();
+    let mut runs: Vec<&mut dyn FnMut(usize)> = vec![&mut copy, &mut proved, &mut plain];
+    runs.extend(saves.iter_mut().map(|run| run as &mut dyn FnMut(usize)));
+    let times = timed(rounds, turns, &mut runs);
+    stores.iter().for_each(|store| store.check(saved, &data));
+    times
+}
+
+fn commits(rounds: usize) {
+    let names: String = KINDS.iter().map(|kind| format!(" {} |", kind.name)).collect();
+    println!("Commit of n blocks; S 256, N 128, D 65,536, 64 entries in use. Nanoseconds, medians; in brackets the ratio to the copy.\n");
+    println!("| B | n | copy of n B bytes | library | unproved | library / unproved |{names}");
+    println!("|---|---|---|---|---|---|{}", "---|".repeat(KINDS.len()));
+    for k in [9, 12] {
+        for n in [1, 4, 16, 64] {
+            let times = measured(k, 128, n, rounds, KINDS);
+            let cell = |time: &f64| format!(" {time:.0} ({:.1}) |", time / times[0]);
+            let ours: String = times[1..3].iter().map(cell).collect();
+            let theirs: String = times[3..].iter().map(cell).collect();
+            println!("| {} | {n} | {:.0} |{ours} {:.2} |{theirs}", 1 << k, times[0], times[1] / times[2]);
+        }
+    }
 }
 
 fn others(k: u64, rounds: usize) -> Vec<(&'static str, f64)> {
@@ -260,33 +287,17 @@ fn others(k: u64, rounds: usize) -> Vec<(&'static str, f64)> {
 }
 
 fn main() {
+    stores::persistent();
     let quick = std::env::args().any(|word| word == "quick");
     let rounds = if quick { 20 } else { 1500 };
     println!("The unproved commit equals the library's in {} calls.\n", same_contract());
-    three(9, 256, 128, 64, 16, rounds);
-    println!("Commit of n blocks; S 256, N 128, D 65,536, 64 entries in use. Nanoseconds, medians; in brackets the ratio to the copy.\n");
-    println!("| B | n | copy of n B bytes | library | unproved | library / unproved |");
-    println!("|---|---|---|---|---|---|");
-    for k in [9, 12] {
-        for n in [1, 4, 16, 64] {
-            let times = three(k, 256, 128, 64, n, rounds);
-            println!(
-                "| {} | {n} | {:.0} | {:.0} ({:.1}) | {:.0} ({:.1}) | {:.2} |",
-                1 << k,
-                times[0],
-                times[1],
-                times[1] / times[0],
-                times[2],
-                times[2] / times[0],
-                times[1] / times[2]
-            );
-        }
-    }
+    measured(9, 128, 16, rounds, KINDS);
+    commits(rounds);
     println!("\nCommit of one block as N grows; B 512, S 256, N / 2 entries in use.\n");
     println!("| N | copy | library | unproved | library / unproved |");
     println!("|---|---|---|---|---|");
     for data_blocks in [4, 16, 64, 128] {
-        let times = three(9, 256, data_blocks, data_blocks as usize / 2, 1, rounds);
+        let times = measured(9, data_blocks, 1, rounds, &[]);
         println!("| {data_blocks} | {:.0} | {:.0} | {:.0} | {:.2} |", times[0], times[1], times[2], times[1] / times[2]);
     }
     println!("\nThe other calls; S 256, N 128, D 65,536, 64 to 96 entries in use.\n");
