@@ -1,5 +1,5 @@
 /*
- * tinca: a write-back cache card that a power cut cannot tear.
+ * tinca: a write-back cache card, proved against power cuts at every store.
  *
  * What is promised. Each storing call makes its stores in the order of document 01, one whole unit after the other: an
  * 8-byte word, a 16-byte entry, a 512-byte disk sector. Wherever they stop, a recovery that answers "done" leaves the
