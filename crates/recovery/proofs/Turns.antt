@@ -7,9 +7,10 @@ use mathlib.Core.Bool.{Bool, true, false, cond, not, _&&_, _||_}
 use mathlib.Core.Path.{_≡_, refl, sym, ap, subst, _∙_}
 use mathlib.Core.Logic.{_⊎_, inl, inr}
 use native.Mathlib.Omega.{arith}
-use lib.ListN.{length, take, length-append}
+use native.Mathlib.Numerals.{add-one}
+use lib.ListN.{length, take}
 use lib.Dec.{ltb}
-use borrow.Author.Tests.{eq-eqb, ne-eqb, not-true, not-false}
+use borrow.Author.Tests.{eq-eqb, ne-eqb, lt-ltb, le-ltb, not-true, not-false}
 use mir.Syntax.{w64}
 use mir.Val.{Fits}
 use Rattle.numbers.specs.Bytes.{be, part, numberAt, Bytes}
@@ -24,7 +25,7 @@ use Rattle.protocol.specs.Entry.{FRESH, unused, entryOf, entryIn, entryAt, inUs
 use Rattle.protocol.specs.Ring.{headOf, tailOf, slotAt, inWindow, usedAt, undoableAt}
 use Rattle.protocol.specs.Store.{card, Store, Run, single, flat, entryStore, wordStore, tailStore}
 use Rattle.protocol.specs.Recover.{sameBytes, ifChanging, undoRuns, recoverRuns}
-use Rattle.protocol.proofs.Below.{around-below}
+use Rattle.protocol.proofs.Below.{around-below, absurd-bool, below-or-above}
 use Rattle.protocol.proofs.Codec.{entry-of-part, length-entry}
 use Rattle.protocol.proofs.Shape.{window-kept, number-kept, in-window-kept}
 use Rattle.protocol.proofs.Stores.{Held, Confined, confined-take, confined-part, flat-append, flat-single}
@@ -33,8 +34,11 @@ use Rattle.ring.specs.declared.Window.{Window}
 use Rattle.ring.specs.Fitted.{Fitted, WindowOf}
 use Rattle.ring.proofs.Laws.{fitted-long, fitted-blocks}
 use Rattle.stores.specs.Did.{Did}
-use Rattle.stores.proofs.Laws.{did-none, did-same, did-each, did-then, did-length, length-each}
+use Rattle.stores.proofs.Laws.{did-none, did-same, did-each, did-length, length-each}
 use Rattle.recovery.specs.declared.Progress.{Progress}
+use Rattle.recovery.specs.declared.Step.{Step}
+use Rattle.recovery.specs.declared.Step.the-variants.{Nothing, Undo, Tail}
+use Rattle.recovery.specs.Step.{runsAt, stepStores, undoes, Listed}
 use Rattle.recovery.specs.Went.{Went, Recovered, sameEntry}
 use Rattle.recovery.proofs.Skipped.{entry-left-out, entry-changing, tail-left-out, tail-changing}
 
@@ -48,27 +52,23 @@ pub undone-saved : (e : Entry) → (e .previous ≡ FRESH → ⊥) → entryOf 0
 unfolding undone
 undone-saved e h = rw (ne-eqb (e .previous) FRESH h)
 
--- ---- one turn
+-- ---- one step of the list
 
--- no store, or one, under the name that its run has
-none-went : (rs : List Run) (a : ℕ) (c : List ℕ) → rs ≡ [] → Went (flat rs) a c c (record { count = 0; left = a })
+single-stores : (rs : List Run) (s : Store) → rs ≡ single s → s ∷ [] ≡ flat rs
+single-stores rs s e = sym (ap flat e ∙ flat-single s)
+
+no-stores : (rs : List Run) → rs ≡ [] → [] ≡ flat rs
 unfolding flat
-none-went rs a c e = rw e (record { did = did-none; counted = refl })
-
-one-went : (rs : List Run) (s : Store) (a : ℕ) (c d : List ℕ) (r : ℕ) → rs ≡ single s → Did card (s ∷ []) a c d r
-    → Went (flat rs) a c d (record { count = 1; left = r })
-one-went rs s a c d r e x =
-    let f : flat rs ≡ s ∷ [] = ap flat e ∙ flat-single s in
-    record { did = did-same (sym f) x; counted = sym (ap length f) }
+no-stores rs e = rw e refl
 
 undoable-is : (g : Geometry) (c : List ℕ) (i : ℕ) (e : Entry) (t : Bool) → e ≡ entryAt g c i → t ≡ undoableEntry g c e → undoableAt g c i ≡ t
 unfolding undoableAt usedAt undoableEntry
 undoable-is g c i e t p q = ap (undoableEntry g c) (sym p) ∙ sym q
 
-module _ (g : Geometry) (c : List ℕ) (i : ℕ) (e : Entry) (t : Bool) (a : ℕ) (p : e ≡ entryAt g c i) (q : t ≡ undoableEntry g c e) where
-  pub turn-passed : not t ≡ true → Went (flat (undoRuns g c i)) a c c (record { count = 0; left = a })
-  unfolding undoRuns
-  turn-passed h = none-went _ a c (rw (undoable-is g c i e t p q, not-true t h))
+module _ (g : Geometry) (c : List ℕ) (i : ℕ) (e : Entry) (t : Bool) (p : e ≡ entryAt g c i) (q : t ≡ undoableEntry g c e) where
+  pub step-passed : not t ≡ true → stepStores g i Nothing ≡ flat (undoRuns g c i)
+  unfolding undoRuns stepStores
+  step-passed h = no-stores _ (rw (undoable-is g c i e t p q, not-true t h))
 
   module _ (f : Fitted g c) (b : Bytes c) (l : i < g .blocks) (h : not t ≡ false) (u : Entry) (k : u ≡ undone e) (s : Bool) (m : s ≡ sameEntry e u) where
     runs-are : undoRuns g c i ≡ ifChanging c (entryStore g i (undone (entryAt g c i)))
@@ -78,17 +78,67 @@ module _ (g : Geometry) (c : List ℕ) (i : ℕ) (e : Entry) (t : Bool) (a : ℕ
     same-is : sameEntry (entryAt g c i) (undone (entryAt g c i)) ≡ s
     same-is = ap (λ (x : Entry). sameEntry x (undone x)) (sym p) ∙ ap (sameEntry e) (sym k) ∙ sym m
 
-    pub turn-left-out : s ≡ true → Went (flat (undoRuns g c i)) a c c (record { count = 0; left = a })
-    turn-left-out z = none-went _ a c (runs-are ∙ entry-left-out g c (f .long) b i l (same-is ∙ z))
+    pub step-left-out : s ≡ true → stepStores g i Nothing ≡ flat (undoRuns g c i)
+    unfolding stepStores
+    step-left-out z = no-stores _ (runs-are ∙ entry-left-out g c (f .long) b i l (same-is ∙ z))
 
-    pub turn-made : s ≡ false → (d : List ℕ) (r : ℕ) → Did card (entryStore g i u ∷ []) a c d r
-        → Went (flat (undoRuns g c i)) a c d (record { count = 1; left = r })
-    turn-made z d r x =
-        one-went _ _ a c d r
+    pub step-undone : s ≡ false → stepStores g i (Undo u) ≡ flat (undoRuns g c i)
+    unfolding stepStores
+    step-undone z =
+        single-stores _ _
         (runs-are
         ∙ entry-changing g c (f .long) b i l (same-is ∙ z)
         ∙ ap (λ (y : Entry). single (entryStore g i y)) (ap undone (sym p) ∙ sym k))
-        x
+
+module _ (g : Geometry) (i : ℕ) (c : List ℕ) (b : Bytes c) (n : 128 ≤ length c) (h t : ℕ) (eh : h ≡ headOf c) (et : t ≡ tailOf c) where
+  pub tail-stands : t ≡ h → stepStores g i Nothing ≡ flat (ifChanging c (tailStore (headOf c)))
+  unfolding stepStores
+  tail-stands e = no-stores _ (tail-left-out c n b (sym et ∙ e ∙ eh))
+
+  pub tail-moves : (t ≡ h → ⊥) → stepStores g i (Tail h) ≡ flat (ifChanging c (tailStore (headOf c)))
+  unfolding stepStores
+  tail-moves e = single-stores _ _ (tail-changing c n b (λ q. e (et ∙ q ∙ sym eh)) ∙ ap (λ (v : ℕ). single (tailStore v)) (sym eh))
+
+-- the list's place i is an entry's below N, and Tail's from there on
+at-entry : (g : Geometry) (c : List ℕ) (i : ℕ) → i < g .blocks → runsAt g c i ≡ undoRuns g c i
+unfolding runsAt
+at-entry g c i l = rw (lt-ltb i (g .blocks) l)
+
+at-tail : (g : Geometry) (c : List ℕ) (i : ℕ) → g .blocks ≤ i → runsAt g c i ≡ ifChanging c (tailStore (headOf c))
+unfolding runsAt
+at-tail g c i l = rw (le-ltb i (g .blocks) l)
+
+module _ (g : Geometry) (c : List ℕ) (i : ℕ) (u : Step) where
+  pub listed-entry : i < g .blocks → stepStores g i u ≡ flat (undoRuns g c i) → Listed g c i u
+  listed-entry l e = record { stores = e ∙ ap flat (sym (at-entry g c i l)); fits = λ q. l }
+
+  pub listed-tail : g .blocks ≤ i → (stepStores g i u ≡ flat (ifChanging c (tailStore (headOf c)))) × (undoes u ≡ false) → Listed g c i u
+  listed-tail l e = record { stores = e .0 ∙ ap flat (sym (at-tail g c i l)); fits = λ q. absurd-bool q (e .1) }
+
+-- what making a step does, in each of its three forms
+module _ (g : Geometry) (i a : ℕ) (c : List ℕ) (u : Step) where
+  one-went : (s : Store) → stepStores g i u ≡ s ∷ [] → (d : List ℕ) (r : ℕ) → Did card (s ∷ []) a c d r
+      → Went (stepStores g i u) a c d (record { count = 1; left = r }) × (1 ≤ 1)
+  one-went s e d r x = (record { did = did-same (sym e) x; counted = sym (ap length e) }, omega arith)
+
+  pub nothing-went : u ≡ Nothing → Went (stepStores g i u) a c c (record { count = 0; left = a }) × (0 ≤ 1)
+  unfolding stepStores
+  nothing-went q = (record { did = did-same (sym (ap (stepStores g i) q)) did-none; counted = sym (ap (λ (v : Step). length (stepStores g i v)) q) }, omega arith)
+
+  module _ (d : List ℕ) (r : ℕ) where
+    pub undo-went : (e : Entry) → u ≡ Undo e → Did card (entryStore g i e ∷ []) a c d r
+        → Went (stepStores g i u) a c d (record { count = 1; left = r }) × (1 ≤ 1)
+    unfolding stepStores
+    undo-went e q x = one-went _ (ap (stepStores g i) q) d r x
+
+    pub tail-went : (v : ℕ) → u ≡ Tail v → Did card (wordStore 72 v ∷ []) a c d r
+        → Went (stepStores g i u) a c d (record { count = 1; left = r }) × (1 ≤ 1)
+    unfolding stepStores tailStore
+    tail-went v q x = one-went _ (ap (stepStores g i) q) d r x
+
+pub undo-fits : (g : Geometry) (i : ℕ) (u : Step) (e : Entry) → u ≡ Undo e → (undoes u ≡ true → i < g .blocks) → i < g .blocks
+unfolding undoes
+undo-fits g i u e q h = h (ap undoes q)
 
 -- ---- what the turns leave
 
@@ -120,14 +170,15 @@ turn-confined g c i = go (undoableAt g c i)
         (record { on = refl; from = omega arith; to = omega (arith, length-entry (undone (entryAt g c i))) })
     go false = tt
 
-turns-confined : (g : Geometry) (c : List ℕ) (i : ℕ) → Confined card (128 + 8 * g .slots) (16 * i) (flat (eachBelow (undoRuns g c) i))
+turns-confined : (g : Geometry) (c : List ℕ) (i : ℕ) → i ≤ g .blocks → Confined card (128 + 8 * g .slots) (16 * i) (flat (eachBelow (runsAt g c) i))
 unfolding eachBelow flat
-turns-confined g c zero = tt
-turns-confined g c (suc i) =
-    subst (Confined card (128 + 8 * g .slots) (16 * suc i)) (sym (flat-append (eachBelow (undoRuns g c) i) (undoRuns g c i)))
-    (confined-append (128 + 8 * g .slots) (16 * suc i) (flat (eachBelow (undoRuns g c) i)) (flat (undoRuns g c i))
-    (confined-wide (128 + 8 * g .slots) (16 * i) (16 * suc i) (flat (eachBelow (undoRuns g c) i)) (omega arith) (turns-confined g c i))
-    (turn-confined g c i))
+turns-confined g c zero l = tt
+turns-confined g c (suc i) l =
+    let own = subst (λ (rs : List Run). Confined card (128 + 8 * g .slots) (16 * suc i) (flat rs)) (sym (at-entry g c i (omega arith))) (turn-confined g c i) in
+    subst (Confined card (128 + 8 * g .slots) (16 * suc i)) (sym (flat-append (eachBelow (runsAt g c) i) (runsAt g c i)))
+    (confined-append (128 + 8 * g .slots) (16 * suc i) (flat (eachBelow (runsAt g c) i)) (flat (runsAt g c i))
+    (confined-wide (128 + 8 * g .slots) (16 * i) (16 * suc i) (flat (eachBelow (runsAt g c) i)) (omega arith) (turns-confined g c i (omega arith)))
+    own)
 
 -- a store is left out by what stands at its place
 changing-by : (c d : List ℕ) (s : Store) → part c (s .place) (length (s .bytes)) ≡ part d (s .place) (length (s .bytes))
@@ -137,12 +188,12 @@ changing-by c d s e = ap (λ (bs : List ℕ). cond (sameBytes bs (s .bytes)) [] 
 
 -- c is the card c₀ after i turns, cut anywhere
 module _ (g : Geometry) (c₀ : List ℕ) (i a : ℕ) (c : List ℕ) (n r : ℕ)
-    (x : Went (flat (eachBelow (undoRuns g c₀) i)) a c₀ c (record { count = n; left = r })) where
+    (x : Went (flat (eachBelow (runsAt g c₀) i)) a c₀ c (record { count = n; left = r })) (top : i ≤ g .blocks) where
   kept : (from k : ℕ) → (128 + 8 * g .slots + 16 * i ≤ from) ⊎ (from + k ≤ 128 + 8 * g .slots) → part c from k ≡ part c₀ from k
   kept from k d =
       ap (λ (z : List ℕ). part z from k) (x .did .made)
-      ∙ confined-part card (128 + 8 * g .slots) (16 * i) (take a (flat (eachBelow (undoRuns g c₀) i))) c₀ from k
-      (confined-take card (128 + 8 * g .slots) (16 * i) a (flat (eachBelow (undoRuns g c₀) i)) (turns-confined g c₀ i)) d
+      ∙ confined-part card (128 + 8 * g .slots) (16 * i) (take a (flat (eachBelow (runsAt g c₀) i))) c₀ from k
+      (confined-take card (128 + 8 * g .slots) (16 * i) a (flat (eachBelow (runsAt g c₀) i)) (turns-confined g c₀ i top)) d
 
   head-stays : headOf c ≡ headOf c₀
   unfolding headOf numberAt
@@ -212,60 +263,57 @@ module _ (g : Geometry) (c₀ : List ℕ) (i a : ℕ) (c : List ℕ) (n r : ℕ)
         t)
         []
 
-    pub turn-next : i < g .blocks → (d : List ℕ) (p : Progress) → Went (flat (undoRuns g c i)) r c d p
-        → Went (flat (eachBelow (undoRuns g c₀) (i + 1))) a c₀ d (record { count = n + p .count; left = p .left })
-    turn-next l d p y =
+    place-stays : runsAt g c i ≡ runsAt g c₀ i
+    place-stays = go (below-or-above i (g .blocks))
+      where
+        go : (i < g .blocks) ⊎ (g .blocks ≤ i) → runsAt g c i ≡ runsAt g c₀ i
+        go (inl l) = at-entry g c i l ∙ runs-stay l ∙ sym (at-entry g c₀ i l)
+        go (inr l) = at-tail g c i l ∙ settle-stays ∙ sym (at-tail g c₀ i l)
+
+    pub turn-next : (u : Step) → Listed g c i u → (d : List ℕ) (p : Progress) → Went (stepStores g i u) r c d p
+        → Went (flat (eachBelow (runsAt g c₀) (i + 1))) a c₀ d (record { count = n + p .count; left = p .left })
+    turn-next u k d p y =
+        let same : stepStores g i u ≡ flat (runsAt g c₀ i) = k .stores ∙ ap flat place-stays in
         record {
-          did = did-each (undoRuns g c₀) i (x .did) (did-same (ap flat (runs-stay l)) (y .did));
-          counted =
-              (λ t. x .counted t + (y .counted ∙ ap (λ (rs : List Run). length (flat rs)) (runs-stay l)) t) ∙ sym (length-each (undoRuns g c₀) i);
+          did = did-each (runsAt g c₀) i (x .did) (did-same same (y .did));
+          counted = (λ t. x .counted t + (y .counted ∙ ap length same) t) ∙ sym (length-each (runsAt g c₀) i);
         }
 
 -- before the first turn
-pub turn-first : (g : Geometry) (c : List ℕ) (a : ℕ) → Went (flat (eachBelow (undoRuns g c) 0)) a c c (record { count = 0; left = a })
+pub turn-first : (g : Geometry) (c : List ℕ) (a : ℕ) → Went (flat (eachBelow (runsAt g c) 0)) a c c (record { count = 0; left = a })
 unfolding eachBelow flat
 turn-first g c a = record { did = did-none; counted = refl }
 
-pub turn-last : (g : Geometry) (c : List ℕ) (a : ℕ) (d : List ℕ) (p : Progress) (i n : ℕ) → n ≤ i → i ≤ n → n ≡ g .blocks
-    → Went (flat (eachBelow (undoRuns g c) i)) a c d p → Went (flat (eachBelow (undoRuns g c) (g .blocks))) a c d p
+entries-below : (g : Geometry) (c : List ℕ) (i : ℕ) → i ≤ g .blocks → eachBelow (runsAt g c) i ≡ eachBelow (undoRuns g c) i
+unfolding eachBelow
+entries-below g c zero l = refl
+entries-below g c (suc i) l = λ t. entries-below g c i (omega arith) t ++ at-entry g c i (omega arith) t
+
+-- the places together are recovery's list
+pub list-whole : (g : Geometry) (c : List ℕ) → eachBelow (runsAt g c) (g .blocks + 1) ≡ recoverRuns g c
+unfolding eachBelow recoverRuns
+list-whole g c =
+    rw add-one
+    (ap (λ (rs : List Run). rs ++ runsAt g c (g .blocks)) (entries-below g c (g .blocks) (omega arith))
+    ∙ ap (λ (rs : List Run). eachBelow (undoRuns g c) (g .blocks) ++ rs) (at-tail g c (g .blocks) (omega arith)))
+
+pub turn-last : (g : Geometry) (c : List ℕ) (a : ℕ) (d : List ℕ) (p : Progress) (i n : ℕ) → n < i → i ≤ n + 1 → n ≡ g .blocks
+    → Went (flat (eachBelow (runsAt g c) i)) a c d p → Went (flat (recoverRuns g c)) a c d p
 turn-last g c a d p i n h k e x =
-    let q : i ≡ g .blocks = omega arith in
-    subst (λ (j : ℕ). Went (flat (eachBelow (undoRuns g c) j)) a c d p) q x
+    let q : i ≡ g .blocks + 1 = omega arith in
+    subst (λ (rs : List Run). Went (flat rs) a c d p) (ap (eachBelow (runsAt g c)) q ∙ list-whole g c) x
 
--- ---- Tail's store, after the turns
+pub tail-place-fits : (g : Geometry) (c : List ℕ) → Fitted g c → 72 + 8 ≤ length c
+tail-place-fits g c f = omega (arith, fitted-long g c f)
 
-module _ (c : List ℕ) (b : Bytes c) (n : 128 ≤ length c) (h t a : ℕ) (eh : h ≡ headOf c) (et : t ≡ tailOf c) where
-  pub settle-left-out : t ≡ h → Went (flat (ifChanging c (tailStore (headOf c)))) a c c (record { count = 0; left = a })
-  settle-left-out e = none-went _ a c (tail-left-out c n b (sym et ∙ e ∙ eh))
+-- the place and the count stay small
+pub place-fits : (g : Geometry) (c : List ℕ) (i n : ℕ) → Fitted g c → n ≡ g .blocks → i ≤ n → Fits w64 (i + 1)
+place-fits g c i n f e l = omega (arith, fitted-blocks g c f)
 
-  pub settle-made : (t ≡ h → ⊥) → (d : List ℕ) (r : ℕ) → Did card (wordStore 72 h ∷ []) a c d r
-      → Went (flat (ifChanging c (tailStore (headOf c)))) a c d (record { count = 1; left = r })
-  unfolding tailStore
-  settle-made e d r x =
-      one-went _ _ a c d r (tail-changing c n b (λ q. e (et ∙ q ∙ sym eh)) ∙ ap (λ (v : ℕ). single (tailStore v)) (sym eh)) x
+pub count-fits : (g : Geometry) (c : List ℕ) (i n m k : ℕ) → Fitted g c → n ≡ g .blocks → i ≤ n → m ≤ i → k ≤ 1 → Fits w64 (m + k)
+count-fits g c i n m k f e l h z = omega (arith, fitted-blocks g c f)
 
-pub went-long : (g : Geometry) (c : List ℕ) (ss : List Store) (a : ℕ) (d : List ℕ) (p : Progress) → Fitted g c → Went ss a c d p → 128 ≤ length d
-went-long g c ss a d p f x = omega (arith, fitted-long g c f, did-length (x .did))
-
-pub counts-fit : (g : Geometry) (c : List ℕ) (m n : ℕ) → Fitted g c → m ≤ g .blocks → n ≤ 1 → Fits w64 (m + n)
-counts-fit g c m n f h k = omega (arith, fitted-blocks g c f)
-
--- all stores, counted and answered
-module _ (g : Geometry) (c : List ℕ) (a : ℕ) (d z : List ℕ) (p q : Progress) (x : Went (flat (eachBelow (undoRuns g c) (g .blocks))) a c d p)
-    (y : Went (flat (ifChanging d (tailStore (headOf d)))) (p .left) d z q) where
-  all-went : Went (flat (recoverRuns g c)) a c z (record { count = p .count + q .count; left = q .left })
-  unfolding recoverRuns
-  all-went =
-      let undos = eachBelow (undoRuns g c) (g .blocks) in
-      let last = ifChanging c (tailStore (headOf c)) in
-      let same : flat (ifChanging d (tailStore (headOf d))) ≡ flat last = ap flat (settle-stays g c (g .blocks) a d (p .count) (p .left) x) in
-      record {
-        did = did-same (sym (flat-append undos last)) (did-then (x .did) (did-same same (y .did)));
-        counted =
-            (λ t. x .counted t + (y .counted ∙ ap length same) t)
-            ∙ sym (ap length (flat-append undos last) ∙ length-append (flat undos) (flat last));
-      }
-
-  pub recovered : (r : Answer) → r ≡ cond (ltb a (p .count + q .count)) Cut (Done (p .count + q .count)) → Recovered g a c z r
-  recovered r e =
-      record { made = all-went .did .made; answered = e ∙ ap (λ (m : ℕ). cond (ltb a m) Cut (Done m)) (all-went .counted) }
+pub recovered : (g : Geometry) (c : List ℕ) (a : ℕ) (d : List ℕ) (p : Progress) → Went (flat (recoverRuns g c)) a c d p
+    → (r : Answer) → r ≡ cond (ltb a (p .count)) Cut (Done (p .count)) → Recovered g a c d r
+recovered g c a d p x r e =
+    record { made = x .did .made; answered = e ∙ ap (λ (m : ℕ). cond (ltb a m) Cut (Done m)) (x .counted) }

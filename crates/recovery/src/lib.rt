@@ -5,14 +5,15 @@ use protocol::FRESH;
 use protocol::Geometry;
 use ring::Window;
 ghost use mathlib.Core.Path.{_≡_};
+ghost use mathlib.Core.Bool.{true, false};
 ghost use Prim.Native.Nat.{_≤_, _<_};
 ghost use lib.ListN.{length};
-ghost use Rattle.protocol.specs.Below.{eachBelow};
 ghost use Rattle.protocol.specs.Entry.{undone};
 ghost use Rattle.protocol.specs.Ring.{headOf};
 ghost use Rattle.protocol.specs.Store.{Medium, flat, tailStore, answerOf, afterOn};
-ghost use Rattle.protocol.specs.Recover.{ifChanging, undoRuns, recoverRefusal, recoverWork};
+ghost use Rattle.protocol.specs.Recover.{ifChanging, undoRuns, recoverRuns, recoverRefusal, recoverWork};
 ghost use Rattle.ring.specs.Fitted.{Fitted, Placed, WindowOf};
+ghost use Rattle.recovery.specs.Step.{stepStores, undoes, Listed};
 ghost use Rattle.recovery.specs.Went.{Went, Recovered, sameEntry};
 
 // How far recovery has come: the stores that its list has so far, and what is left of the allowance.
@@ -48,68 +49,97 @@ fn same(a: Entry, b: Entry) -> bool
         & ((a.number == b.number) & ((a.previous == b.previous) & (a.current == b.current)))
 }
 
-// Undoes entry i if it is undoable. A store that would change no byte is left out, which the fields tell as well as the bytes.
-fn undo(g: Geometry, card: &mut [u8], w: Window, i: usize, left: u64) -> Progress
+// What recovery's list has at one place: nothing, the entry there as it becomes, or Tail's new value.
+pub enum Step {
+    Nothing,
+    Undo(Entry),
+    Tail(u64),
+}
+
+// What becomes of entry i: nothing where it is not undoable. A store that would change no byte is left out, which the fields tell as well
+// as the bytes.
+fn undo_step(g: Geometry, card: &[u8], w: Window, i: usize) -> Step
     requires { ⌜ Fitted g (now card) × WindowOf g (now card) w × (i < g .blocks) ⌝ }
-    ensures { λ r. ⌜ Went (flat (undoRuns g (now (card .entry)) i)) left (now (card .entry)) (now (card .exit)) r × (r .count ≤ 1) ⌝ }
+    ensures { λ r. ⌜ stepStores g i r ≡ flat (undoRuns g (now (card .entry)) i) ⌝ }
 {
     let e = checks::entry_of(g, card, i);
     if !checks::undoable(g, card, w, e) {
-        return Progress {
-            count: 0,
-            left: left,
-        };
+        return Step::Nothing;
     }
     let u = undone_of(e);
     if same(e, u) {
-        return Progress {
-            count: 0,
-            left: left,
-        };
+        return Step::Nothing;
     }
-    Progress {
-        count: 1,
-        left: stores::make_entry_at(g, card, i, u, left),
+    Step::Undo(u)
+}
+
+// Tail set to Head, which empties the window.
+fn tail_step(g: Geometry, card: &[u8], i: usize) -> Step
+    requires { ⌜ 128 ≤ length (now card) ⌝ }
+    ensures { λ r. ⌜ (stepStores g i r ≡ flat (ifChanging (now (card .entry)) (tailStore (headOf (now (card .entry)))))) × (undoes r ≡ false) ⌝ }
+{
+    let head = ring::head_of(card);
+    if ring::tail_of(card) == head {
+        Step::Nothing
+    } else {
+        Step::Tail(head)
     }
 }
 
-// Undoes every undoable entry, in ascending order. A store touches its own entry alone, so the others and the window are read as they
-// stood at the start.
-fn undo_all(g: Geometry, card: &mut [u8], w: Window, allowance: u64) -> Progress
+// What recovery's list has at place i: entry i undone, and at place N, the last, Tail's store. Whoever makes these steps in order, and no
+// others, makes recovery's stores.
+pub fn step_at(g: Geometry, card: &[u8], w: Window, i: usize) -> Step
     requires { ⌜ Fitted g (now card) × WindowOf g (now card) w ⌝ }
-    ensures { λ r. ⌜ Went (flat (eachBelow (undoRuns g (now (card .entry))) (g .blocks))) allowance (now (card .entry)) (now (card .exit)) r × (r .count ≤ g .blocks) ⌝ }
+    ensures { λ r. ⌜ Listed g (now (card .entry)) i r ⌝ }
+{
+    if i < g.blocks as usize {
+        undo_step(g, card, w, i)
+    } else {
+        tail_step(g, card, i)
+    }
+}
+
+// Makes the step u of place i, where it is one and the allowance lets it happen.
+pub fn make_step(g: Geometry, card: &mut [u8], i: usize, u: Step, left: u64) -> Progress
+    requires { ⌜ Fitted g (now card) × (undoes u ≡ true → i < g .blocks) ⌝ }
+    ensures { λ r. ⌜ Went (stepStores g i u) left (now (card .entry)) (now (card .exit)) r × (r .count ≤ 1) ⌝ }
+{
+    match u {
+        Step::Nothing => Progress {
+            count: 0,
+            left: left,
+        },
+        Step::Undo(e) => Progress {
+            count: 1,
+            left: stores::make_entry_at(g, card, i, e, left),
+        },
+        Step::Tail(v) => Progress {
+            count: 1,
+            left: stores::make_word(card, 72, v, left),
+        },
+    }
+}
+
+// Makes the whole list. A store touches its own entry alone, so the others and the window are read as they stood at the start.
+fn make_list(g: Geometry, card: &mut [u8], w: Window, allowance: u64) -> Progress
+    requires { ⌜ Fitted g (now card) × WindowOf g (now card) w ⌝ }
+    ensures { λ r. ⌜ Went (flat (recoverRuns g (now (card .entry)))) allowance (now (card .entry)) (now (card .exit)) r ⌝ }
 {
     let n = g.blocks as usize;
     let mut count: u64 = 0;
     let mut left = allowance;
     let mut i: usize = 0;
-    while i < n {
-        let p = undo(g, card, w, i, left);
+    while i <= n {
+        let at = i;
+        i += 1;
+        let u = step_at(g, card, w, at);
+        let p = make_step(g, card, at, u, left);
         count += p.count;
         left = p.left;
-        i += 1;
     }
     Progress {
         count: count,
         left: left,
-    }
-}
-
-// Sets Tail to Head, which empties the window.
-fn settle(card: &mut [u8], left: u64) -> Progress
-    requires { ⌜ 128 ≤ length (now card) ⌝ }
-    ensures { λ r. ⌜ Went (flat (ifChanging (now (card .entry)) (tailStore (headOf (now (card .entry)))))) left (now (card .entry)) (now (card .exit)) r × (r .count ≤ 1) ⌝ }
-{
-    let head = ring::head_of(card);
-    if ring::tail_of(card) == head {
-        return Progress {
-            count: 0,
-            left: left,
-        };
-    }
-    Progress {
-        count: 1,
-        left: stores::make_word(card, 72, head, left),
     }
 }
 
@@ -119,9 +149,8 @@ fn recover_fitted(g: Geometry, card: &mut [u8], allowance: u64) -> Answer
     ensures { λ r. ⌜ Recovered g allowance (now (card .entry)) (now (card .exit)) r ⌝ }
 {
     let w = ring::window_of(g, card);
-    let undone = undo_all(g, card, w, allowance);
-    let settled = settle(card, undone.left);
-    stores::answer(undone.count + settled.count, allowance)
+    let p = make_list(g, card, w, allowance);
+    stores::answer(p.count, allowance)
 }
 
 // 1, 2 and 4 to 6: recovery takes an unsettled card, and no disk.
