@@ -1,16 +1,15 @@
 -- What state counts, entry by entry, and the condition that it comes to. Assumes nothing.
-use Prim.Native.Nat.{ℕ, zero, suc, _+_, _≤_, _<_}
+use Prim.Native.Nat.{ℕ, zero, suc, _+_, _≤_}
 use mathlib.Core.List.{List}
 use mathlib.Core.Bool.{Bool, true, false, cond, _&&_}
 use mathlib.Core.Path.{_≡_, refl, sym, ap, _∙_}
 use native.Mathlib.Omega.{arith}
-use lib.Dec.{eqb, ltb}
+use lib.Dec.{ltb}
 use borrow.Author.Tests.{eq-eqb, ne-eqb, ltb-true}
 use Rattle.protocol.specs.declared.Condition.{Condition}
 use Rattle.protocol.specs.declared.Condition.the-variants.{Settled, Unsettled}
 use Rattle.protocol.specs.declared.Entry.{Entry}
 use Rattle.protocol.specs.declared.Geometry.{Geometry}
-use Rattle.protocol.specs.declared.Reported.{Reported}
 use Rattle.protocol.specs.declared.Reported.the-variants.{Is, Refused}
 use Rattle.protocol.specs.Below.{countBelow}
 use Rattle.protocol.specs.Layout.{geometryOf}
@@ -18,7 +17,7 @@ use Rattle.protocol.specs.Entry.{entryAt, inUse, isModified}
 use Rattle.protocol.specs.Ring.{headOf, tailOf, usedAt, undoableAt, windowOf, isSettled}
 use Rattle.protocol.specs.Check.{refuse, _orElse_, ringFits, fitRefusal, damageRefusal}
 use Rattle.protocol.specs.Read.{modifiedAt, conditionOf, stateRefusal, stateOf}
-use Rattle.protocol.proofs.Below.{and-left, and-right, count-hit, count-miss, count-le}
+use Rattle.protocol.proofs.Below.{and-left, and-right, count-hit, count-miss}
 use Rattle.protocol.proofs.Checks.{orElse-first, orElse-next}
 use Rattle.protocol.proofs.Passed.{first-zero, passed}
 use Rattle.ring.specs.Fitted.{Placed}

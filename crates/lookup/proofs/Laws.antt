@@ -4,15 +4,15 @@ use mathlib.Core.List.{List}
 use mathlib.Core.Bool.{Bool, true, false, cond, not}
 use mathlib.Core.Path.{_≡_, refl, sym, ap, subst, _∙_}
 use native.Mathlib.Omega.{arith}
-use lib.ListN.{getD}
+use lib.ListN.{length, getD}
 use lib.Dec.{ltb}
 use borrow.Author.Tests.{lt-ltb, le-ltb, eq-eqb, ne-eqb, not-true, not-false}
 use Rattle.protocol.specs.declared.Geometry.{Geometry}
 use Rattle.protocol.specs.Below.{firstBelow}
-use Rattle.protocol.specs.Layout.{goodGeometry, geometryOf, blockSize, blockPlace, diskPlace}
+use Rattle.protocol.specs.Layout.{goodGeometry, geometryOf, blockSize, blockPlace, diskPlace, diskLength}
 use Rattle.protocol.specs.Entry.{entryAt}
 use Rattle.protocol.specs.Ring.{usedAt, entryFor, findEntry, cached, currentOf, isSettled}
-use Rattle.protocol.specs.Check.{goodEntryAt, entriesFit, fitRefusal, diskRefusal, damageRefusal, cardRefusal}
+use Rattle.protocol.specs.Check.{diskFits, goodEntryAt, entriesFit, fitRefusal, diskRefusal, damageRefusal, cardRefusal}
 use Rattle.protocol.specs.Load.{pairRefusal}
 use Rattle.protocol.proofs.Allowed.{used-entry}
 use Rattle.protocol.proofs.Below.{all-at, first-found}
@@ -29,7 +29,7 @@ use Rattle.checks.specs.declared.Verdict.{Verdict}
 use Rattle.checks.proofs.Find.{find-listed}
 use Rattle.lookup.specs.declared.Found.{Found}
 use Rattle.lookup.specs.declared.Found.the-variants.{Refused, Outside, Card, Disk}
-use Rattle.lookup.specs.Place.{placeIn, foundBy, soughtAt, foundAt, Listed}
+use Rattle.lookup.specs.Place.{placeIn, foundBy, lengthRefusal, foundIn, soughtAt, foundAt, Listed}
 
 pub few-numbers : (g : Geometry) (c ids cs : List ℕ) (b : ℕ) → Listed g c ids cs → b < g .disk → Fits w32 b
 few-numbers g c ids cs b h l = let f : Limits g = limits g (h .fitted .good) in record { fits = omega arith }
@@ -139,25 +139,37 @@ module _ (g : Geometry) (c ids cs : List ℕ) (b : ℕ) (v : Verdict) (s : Inspe
 
 -- ---- checks 1 to 3 before those
 
-module _ (c d : List ℕ) (b f : ℕ) (fe : f ≡ fitRefusal c) where
-  pub find-unfit : (f ≡ 0 → ⊥) → Refused f ≡ foundAt c d b
-  unfolding foundAt pairRefusal
-  find-unfit h = found-refused (geometryOf c) c b (pairRefusal c d) f (orElse-first f (fitRefusal c) _ fe h) h
+module _ (c : List ℕ) (n b f : ℕ) (fe : f ≡ fitRefusal c) where
+  pub find-unfit : (f ≡ 0 → ⊥) → Refused f ≡ foundIn c n b
+  unfolding foundIn
+  find-unfit h = found-refused (geometryOf c) c b _ f (orElse-first f (fitRefusal c) _ fe h) h
 
-  module _ (z : f ≡ 0) (g : Geometry) (ge : g ≡ geometryOf c) (r : ℕ) (re : r ≡ diskRefusal g d) where
-    pub find-no-disk : (r ≡ 0 → ⊥) → Refused r ≡ foundAt c d b
-    unfolding foundAt pairRefusal
+  module _ (z : f ≡ 0) (g : Geometry) (ge : g ≡ geometryOf c) (r : ℕ) (re : r ≡ diskLength g) where
+    own-length : r ≡ diskLength (geometryOf c)
+    own-length = re ∙ ap diskLength ge
+
+    pub find-no-disk : (n ≡ r → ⊥) → Refused 3 ≡ foundIn c n b
+    unfolding foundIn lengthRefusal
     find-no-disk h =
-        found-refused (geometryOf c) c b (pairRefusal c d) r
-        (orElse-next r (fitRefusal c) _ (sym z ∙ fe)
-        (orElse-first r (diskRefusal (geometryOf c) d) _ (re ∙ ap (λ (y : Geometry). diskRefusal y d) ge) h))
-        h
+        found-refused (geometryOf c) c b _ 3
+        (orElse-next 3 (fitRefusal c) _ (sym z ∙ fe)
+        (orElse-first 3 (lengthRefusal (geometryOf c) n) _
+        (refuse-failed 3 _ (ne-eqb n (diskLength (geometryOf c)) (λ e. h (e ∙ sym own-length))))
+        (λ e. omega arith)))
+        (λ e. omega arith)
 
-    pub find-sought : (p : Found) → r ≡ 0 → p ≡ soughtAt g c b → p ≡ foundAt c d b
-    unfolding foundAt soughtAt pairRefusal
+    pub find-sought : (p : Found) → n ≡ r → p ≡ soughtAt g c b → p ≡ foundIn c n b
+    unfolding foundIn soughtAt lengthRefusal
     find-sought p y q =
         q
         ∙ ap (λ (x : Geometry). foundBy x c b (cardRefusal x c)) ge
         ∙ ap (foundBy (geometryOf c) c b)
         (orElse-next (cardRefusal (geometryOf c) c) (fitRefusal c) _ (sym z ∙ fe)
-        (orElse-next (cardRefusal (geometryOf c) c) (diskRefusal (geometryOf c) d) _ (sym y ∙ re ∙ ap (λ (x : Geometry). diskRefusal x d) ge) refl))
+        (orElse-next (cardRefusal (geometryOf c) c) (lengthRefusal (geometryOf c) n) _
+        (refuse-passed 3 _ (eq-eqb n (diskLength (geometryOf c)) (y ∙ own-length)))
+        refl))
+
+-- a disk is looked at for its length alone
+pub find-by-length : (c d : List ℕ) (b : ℕ) → foundIn c (length d) b ≡ foundAt c d b
+unfolding foundIn foundAt lengthRefusal pairRefusal diskRefusal diskFits
+find-by-length c d b = refl

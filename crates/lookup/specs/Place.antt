@@ -7,9 +7,9 @@ use Rattle.numbers.specs.Bytes.{part}
 use mathlib.Core.Path.{_≡_}
 use lib.Dec.{eqb, ltb}
 use Rattle.protocol.specs.declared.Geometry.{Geometry}
-use Rattle.protocol.specs.Layout.{geometryOf, blockSize, blockPlace, diskPlace}
+use Rattle.protocol.specs.Layout.{geometryOf, blockSize, blockPlace, diskPlace, diskLength}
 use Rattle.protocol.specs.Ring.{cached, currentOf}
-use Rattle.protocol.specs.Check.{entriesFit, cardRefusal}
+use Rattle.protocol.specs.Check.{refuse, _orElse_, fitRefusal, entriesFit, cardRefusal}
 use Rattle.protocol.specs.Load.{pairRefusal}
 use Rattle.protocol.specs.Read.{readRefusal}
 use Rattle.ring.specs.Fitted.{Fitted}
@@ -28,6 +28,15 @@ foundBy g c b r = cond (eqb r 0) (cond (ltb b (g .disk)) (placeIn g c b) (Outsid
 -- by checks 4 to 7
 unfoldable pub soughtAt : Geometry → List ℕ → ℕ → Found
 soughtAt g c b = foundBy g c b (cardRefusal g c)
+
+-- 3, of a disk of n bytes
+unfoldable pub lengthRefusal : Geometry → ℕ → ℕ
+lengthRefusal g n = refuse 3 (eqb n (diskLength g))
+
+-- by checks 1 to 7 of a card over a disk of n bytes
+unfoldable pub foundIn : List ℕ → ℕ → ℕ → Found
+foundIn c n b =
+    foundBy (geometryOf c) c b (fitRefusal c orElse lengthRefusal (geometryOf c) n orElse cardRefusal (geometryOf c) c)
 
 -- by checks 1 to 7
 unfoldable pub foundAt : List ℕ → List ℕ → ℕ → Found

@@ -11,7 +11,7 @@ ghost use Prim.Native.Nat.{_+_, _≤_, _<_};
 ghost use lib.ListN.{length};
 ghost use Rattle.protocol.specs.Layout.{goodGeometry, blockSize};
 ghost use Rattle.protocol.specs.Read.{heldBy, outputAfter, lookedAt, conditionOf, stateOf};
-ghost use Rattle.lookup.specs.Place.{Listed, Copied, placeIn, soughtAt, foundAt, fetchedAt};
+ghost use Rattle.lookup.specs.Place.{Listed, Copied, placeIn, soughtAt, foundIn, foundAt, fetchedAt};
 ghost use Rattle.ring.specs.Fitted.{Fitted, Placed, WindowOf};
 ghost use Rattle.lookup.specs.Counted.{counted};
 ghost use Rattle.protocol.specs.Below.{countBelow};
@@ -73,20 +73,27 @@ fn seek(g: Geometry, card: &[u8], b: u64) -> Found
     locate(g, card, &ids, &currents, b)
 }
 
-// Where disk block b lies.
-pub fn find(card: &[u8], disk: &[u8], b: u64) -> Found
-    ensures { λ r. ⌜ r ≡ foundAt (now (card .entry)) (now (disk .entry)) b ⌝ }
+// Where disk block b lies, of a card over a disk of `long` bytes. No byte of the disk is looked at, so that a program can read the one block
+// of a disk that it does not hold in memory.
+pub fn find_in(card: &[u8], long: u64, b: u64) -> Found
+    ensures { λ r. ⌜ r ≡ foundIn (now (card .entry)) long b ⌝ }
 {
     let f = ring::fit_refusal(card);
     if f != 0 {
         return Found::Refused(f);
     }
     let g = ring::geometry_of(card);
-    let d = ring::disk_refusal(g, disk);
-    if d != 0 {
-        return Found::Refused(d);
+    if long != ring::disk_length(g) {
+        return Found::Refused(3);
     }
     seek(g, card, b)
+}
+
+// Where disk block b lies.
+pub fn find(card: &[u8], disk: &[u8], b: u64) -> Found
+    ensures { λ r. ⌜ r ≡ foundAt (now (card .entry)) (now (disk .entry)) b ⌝ }
+{
+    find_in(card, disk.len() as u64, b)
 }
 
 // Hands back disk block b as a part of the card or of the disk, without copying; an empty part where it is refused.
