@@ -9,14 +9,11 @@ use mathlib.Core.Logic.{_⊎_, inl, inr}
 use native.Mathlib.Omega.{arith}
 use native.Mathlib.Numerals.{add-one}
 use lib.ListN.{length, take}
-use lib.Dec.{ltb}
 use borrow.Author.Tests.{eq-eqb, ne-eqb, lt-ltb, le-ltb, not-true, not-false}
 use mir.Syntax.{w64}
 use mir.Val.{Fits}
 use Rattle.numbers.specs.Bytes.{be, part, numberAt, Bytes}
 use Rattle.numbers.proofs.Laws.{length-bytes}
-use Rattle.protocol.specs.declared.Answer.{Answer}
-use Rattle.protocol.specs.declared.Answer.the-variants.{Done, Cut}
 use Rattle.protocol.specs.declared.Entry.{Entry}
 use Rattle.protocol.specs.declared.Geometry.{Geometry}
 use Rattle.protocol.specs.Below.{eachBelow}
@@ -39,7 +36,7 @@ use Rattle.recovery.specs.declared.Progress.{Progress}
 use Rattle.recovery.specs.declared.Step.{Step}
 use Rattle.recovery.specs.declared.Step.the-variants.{Nothing, Undo, Tail}
 use Rattle.recovery.specs.Step.{runsAt, stepStores, undoes, Listed}
-use Rattle.recovery.specs.Went.{Went, Recovered, sameEntry}
+use Rattle.recovery.specs.Went.{Went, sameEntry}
 use Rattle.recovery.proofs.Skipped.{entry-left-out, entry-changing, tail-left-out, tail-changing}
 
 -- ---- what an entry becomes
@@ -312,8 +309,3 @@ place-fits g c i n f e l = omega (arith, fitted-blocks g c f)
 
 pub count-fits : (g : Geometry) (c : List ℕ) (i n m k : ℕ) → Fitted g c → n ≡ g .blocks → i ≤ n → m ≤ i → k ≤ 1 → Fits w64 (m + k)
 count-fits g c i n m k f e l h z = omega (arith, fitted-blocks g c f)
-
-pub recovered : (g : Geometry) (c : List ℕ) (a : ℕ) (d : List ℕ) (p : Progress) → Went (flat (recoverRuns g c)) a c d p
-    → (r : Answer) → r ≡ cond (ltb a (p .count)) Cut (Done (p .count)) → Recovered g a c d r
-recovered g c a d p x r e =
-    record { made = x .did .made; answered = e ∙ ap (λ (m : ℕ). cond (ltb a m) Cut (Done m)) (x .counted) }

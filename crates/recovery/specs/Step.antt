@@ -3,11 +3,17 @@ use Prim.Native.Nat.{ℕ, _<_}
 use mathlib.Core.List.{List, [], _∷_}
 use mathlib.Core.Bool.{Bool, true, false, cond}
 use mathlib.Core.Path.{_≡_}
-use lib.Dec.{ltb}
+use lib.Dec.{eqb, ltb}
+use Rattle.numbers.specs.Bytes.{part}
 use Rattle.protocol.specs.declared.Geometry.{Geometry}
 use Rattle.protocol.specs.Ring.{headOf}
 use Rattle.protocol.specs.Store.{Run, Store, flat, entryStore, tailStore}
-use Rattle.protocol.specs.Recover.{ifChanging, undoRuns}
+use Rattle.protocol.specs.Recover.{ifChanging, undoRuns, recoverRefusal}
+use Rattle.protocol.specs.Layout.{geometryOf}
+use Rattle.ring.specs.Fitted.{Fitted, WindowOf}
+use Rattle.stores.specs.Did.{cardStore}
+use Rattle.recovery.specs.declared.Spelled.{Spelled}
+use Rattle.recovery.specs.declared.Checked.{Checked}
 use Rattle.recovery.specs.declared.Step.{Step}
 use Rattle.recovery.specs.declared.Step.the-variants.{Nothing, Undo, Tail}
 
@@ -27,7 +33,18 @@ undoes Nothing = false
 undoes (Undo e) = true
 undoes (Tail v) = false
 
+-- the stores that a spelled step stands for: none where it has no bytes
+unfoldable pub spelledStores : Spelled → List Store
+spelledStores s = cond (eqb (s .size) 0) [] (cardStore (s .place) (part (s .bytes) 0 (s .size)) ∷ [])
+
 -- the step u is what the list of the card c has at place i
 pub record Listed (g : Geometry) (c : List ℕ) (i : ℕ) (u : Step) : Type 0 where
   pub stores : stepStores g i u ≡ flat (runsAt g c i)
   pub fits : undoes u ≡ true → i < g .blocks
+
+-- what recovery finds first: its refusal, or where there is none a card that fits, its geometry and its window
+pub record Examined (c : List ℕ) (s : Checked) : Type 0 where
+  pub refusal-is : s .refusal ≡ recoverRefusal c
+  pub own : s .refusal ≡ 0 → s .geometry ≡ geometryOf c
+  pub fitted : s .refusal ≡ 0 → Fitted (s .geometry) c
+  pub window : s .refusal ≡ 0 → WindowOf (s .geometry) c (s .window)

@@ -1,16 +1,12 @@
 -- What a part of recovery did, and when it leaves a store out.
 use Prim.Native.Nat.{ℕ}
 use mathlib.Core.List.{List}
-use mathlib.Core.Bool.{Bool, cond, _&&_}
+use mathlib.Core.Bool.{Bool, _&&_}
 use mathlib.Core.Path.{_≡_}
-use lib.ListN.{length, take}
-use lib.Dec.{eqb, ltb}
+use lib.ListN.{length}
+use lib.Dec.{eqb}
 use Rattle.protocol.specs.declared.Entry.{Entry}
-use Rattle.protocol.specs.declared.Geometry.{Geometry}
-use Rattle.protocol.specs.declared.Answer.{Answer}
-use Rattle.protocol.specs.declared.Answer.the-variants.{Done, Cut}
-use Rattle.protocol.specs.Store.{card, Store, madeOn, flat}
-use Rattle.protocol.specs.Recover.{recoverRuns}
+use Rattle.protocol.specs.Store.{card, Store}
 use Rattle.stores.specs.Did.{Did}
 use Rattle.recovery.specs.declared.Progress.{Progress}
 
@@ -18,11 +14,6 @@ use Rattle.recovery.specs.declared.Progress.{Progress}
 pub record Went (ss : List Store) (a : ℕ) (c d : List ℕ) (p : Progress) : Type 0 where
   pub did : Did card ss a c d (p .left)
   pub counted : p .count ≡ length ss
-
--- all of recovery's stores were made as far as the allowance went, and answered
-pub record Recovered (g : Geometry) (a : ℕ) (c d : List ℕ) (r : Answer) : Type 0 where
-  pub made : d ≡ madeOn card (take a (flat (recoverRuns g c))) c
-  pub answered : r ≡ cond (ltb a (length (flat (recoverRuns g c)))) Cut (Done (length (flat (recoverRuns g c))))
 
 -- two entries are the same, field by field
 unfoldable pub sameEntry : Entry → Entry → Bool

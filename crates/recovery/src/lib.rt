@@ -8,13 +8,15 @@ ghost use mathlib.Core.Path.{_≡_};
 ghost use mathlib.Core.Bool.{true, false};
 ghost use Prim.Native.Nat.{_≤_, _<_};
 ghost use lib.ListN.{length};
-ghost use Rattle.protocol.specs.Entry.{undone};
+ghost use Rattle.numbers.specs.Bytes.{bytesBE, part};
+ghost use Rattle.protocol.specs.Layout.{goodGeometry};
+ghost use Rattle.protocol.specs.Entry.{undone, entryBytes};
 ghost use Rattle.protocol.specs.Ring.{headOf};
 ghost use Rattle.protocol.specs.Store.{Medium, flat, tailStore, answerOf, afterOn};
-ghost use Rattle.protocol.specs.Recover.{ifChanging, undoRuns, recoverRuns, recoverRefusal, recoverWork};
-ghost use Rattle.ring.specs.Fitted.{Fitted, Placed, WindowOf};
-ghost use Rattle.recovery.specs.Step.{stepStores, undoes, Listed};
-ghost use Rattle.recovery.specs.Went.{Went, Recovered, sameEntry};
+ghost use Rattle.protocol.specs.Recover.{ifChanging, undoRuns, recoverRuns, recoverWork};
+ghost use Rattle.ring.specs.Fitted.{Fitted, WindowOf};
+ghost use Rattle.recovery.specs.Step.{stepStores, undoes, spelledStores, Listed, Examined};
+ghost use Rattle.recovery.specs.Went.{Went, sameEntry};
 
 // How far recovery has come: the stores that its list has so far, and what is left of the allowance.
 pub struct Progress {
@@ -120,6 +122,53 @@ pub fn make_step(g: Geometry, card: &mut [u8], i: usize, u: Step, left: u64) -> 
     }
 }
 
+// A step's store as bytes: where they go, how many of the sixteen they are.
+pub struct Spelled {
+    pub place: u32,
+    pub size: usize,
+    pub bytes: [u8; 16],
+}
+
+fn entry_bytes(e: Entry) -> [u8; 16]
+    ensures { λ r. ⌜ part r 0 16 ≡ entryBytes e ⌝ }
+{
+    let mut bytes = [0u8; 16];
+    codec::put_entry(&mut bytes, 0, e);
+    bytes
+}
+
+fn word_bytes(v: u64) -> [u8; 16]
+    ensures { λ r. ⌜ part r 0 8 ≡ bytesBE 8 v ⌝ }
+{
+    let mut bytes = [0u8; 16];
+    numbers::put(&mut bytes, 0, 8, v);
+    bytes
+}
+
+// The step u of place i, spelled for whoever stores it elsewhere than in memory.
+pub fn spell(g: Geometry, i: usize, u: Step) -> Spelled
+    requires { ⌜ (goodGeometry g ≡ true) × (undoes u ≡ true → i < g .blocks) ⌝ }
+    ensures { λ r. ⌜ spelledStores r ≡ stepStores g i u ⌝ }
+{
+    match u {
+        Step::Nothing => Spelled {
+            place: 0,
+            size: 0,
+            bytes: [0; 16],
+        },
+        Step::Undo(e) => Spelled {
+            place: stores::entry_place(g, i) as u32,
+            size: 16,
+            bytes: entry_bytes(e),
+        },
+        Step::Tail(v) => Spelled {
+            place: 72,
+            size: 8,
+            bytes: word_bytes(v),
+        },
+    }
+}
+
 // Makes the whole list. A store touches its own entry alone, so the others and the window are read as they stood at the start.
 fn make_list(g: Geometry, card: &mut [u8], w: Window, allowance: u64) -> Progress
     requires { ⌜ Fitted g (now card) × WindowOf g (now card) w ⌝ }
@@ -143,25 +192,46 @@ fn make_list(g: Geometry, card: &mut [u8], w: Window, allowance: u64) -> Progres
     }
 }
 
-// Recovery of a card that passed its checks.
-fn recover_fitted(g: Geometry, card: &mut [u8], allowance: u64) -> Answer
-    requires { ⌜ Fitted g (now card) × Placed g (now card) ⌝ }
-    ensures { λ r. ⌜ Recovered g allowance (now (card .entry)) (now (card .exit)) r ⌝ }
+// What recovery finds first: its refusal, and of a card that is not refused the geometry and the window.
+pub struct Checked {
+    pub refusal: u8,
+    pub geometry: Geometry,
+    pub window: Window,
+}
+
+fn refused(refusal: u8) -> Checked
+    ensures { λ r. ⌜ r .refusal ≡ refusal ⌝ }
 {
-    let w = ring::window_of(g, card);
-    let p = make_list(g, card, w, allowance);
-    stores::answer(p.count, allowance)
+    Checked {
+        refusal: refusal,
+        geometry: Geometry {
+            k: 0,
+            slots: 0,
+            blocks: 0,
+            disk: 0,
+        },
+        window: Window { tail: 0, count: 0 },
+    }
 }
 
 // 1, 2 and 4 to 6: recovery takes an unsettled card, and no disk.
-fn recover_refusal(card: &[u8]) -> u8
-    ensures { λ r. ⌜ r ≡ recoverRefusal (now (card .entry)) ⌝ }
+pub fn examine(card: &[u8]) -> Checked
+    ensures { λ r. ⌜ Examined (now (card .entry)) r ⌝ }
 {
     let fit = ring::fit_refusal(card);
     if fit != 0 {
-        return fit;
+        return refused(fit);
     }
-    checks::damage_refusal(ring::geometry_of(card), card)
+    let g = ring::geometry_of(card);
+    let damage = checks::damage_refusal(g, card);
+    if damage != 0 {
+        return refused(damage);
+    }
+    Checked {
+        refusal: 0,
+        geometry: g,
+        window: ring::window_of(g, card),
+    }
 }
 
 // Undoes what a cut left half made: each undoable entry becomes what it was, and Tail is set to Head. The service desk's undo of a
@@ -170,9 +240,10 @@ pub fn recover(card: &mut [u8], allowance: u64) -> Answer
     ensures answer { λ r. ⌜ r ≡ answerOf allowance (recoverWork (now (card .entry))) ⌝ }
     ensures after { λ r. ⌜ now (card .exit) ≡ afterOn Medium.card allowance (recoverWork (now (card .entry))) (now (card .entry)) ⌝ }
 {
-    let refusal = recover_refusal(card);
-    if refusal != 0 {
-        return Answer::Refused(refusal);
+    let s = examine(card);
+    if s.refusal != 0 {
+        return Answer::Refused(s.refusal);
     }
-    recover_fitted(ring::geometry_of(card), card, allowance)
+    let p = make_list(s.geometry, card, s.window, allowance);
+    stores::answer(p.count, allowance)
 }

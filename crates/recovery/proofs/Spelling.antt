@@ -1,0 +1,50 @@
+-- A step's bytes: what was put at the front of sixteen is read there. Assumes nothing.
+use Prim.Native.Nat.{ℕ, _≤_, _<_}
+use mathlib.Core.List.{List, [], _∷_}
+use mathlib.Core.Bool.{true}
+use mathlib.Core.Path.{_≡_, sym, ap, _∙_}
+use native.Mathlib.Omega.{arith}
+use lib.ListN.{length}
+use mir.Syntax.{w32}
+use mir.Val.{Fits}
+use Rattle.numbers.specs.Bytes.{bytesBE, part, patch}
+use Rattle.numbers.proofs.Laws.{length-bytes, part-patch-same}
+use Rattle.protocol.specs.declared.Entry.{Entry}
+use Rattle.protocol.specs.declared.Geometry.{Geometry}
+use Rattle.protocol.specs.Layout.{goodGeometry, entryPlace}
+use Rattle.protocol.specs.Entry.{entryBytes}
+use Rattle.protocol.specs.Store.{card, entryStore, tailStore, wordStore}
+use Rattle.protocol.proofs.Checks.{Limits, limits}
+use Rattle.protocol.proofs.Codec.{length-entry}
+use Rattle.recovery.specs.declared.Step.{Step}
+use Rattle.recovery.specs.declared.Step.the-variants.{Nothing, Undo, Tail}
+use Rattle.recovery.specs.Step.{stepStores, undoes, spelledStores}
+use Rattle.recovery.proofs.Turns.{undo-fits}
+
+pub entry-spelled : (e : Entry) (xs bs : List ℕ) → length xs ≡ 16 → bs ≡ patch xs 0 (entryBytes e) → part bs 0 16 ≡ entryBytes e
+entry-spelled e xs bs l q = ap (λ (z : List ℕ). part z 0 16) q ∙ part-patch-same xs 0 (entryBytes e) 16 (length-entry e) (omega arith)
+
+pub word-spelled : (v : ℕ) (xs bs : List ℕ) → length xs ≡ 16 → bs ≡ patch xs 0 (bytesBE 8 v) → part bs 0 8 ≡ bytesBE 8 v
+word-spelled v xs bs l q = ap (λ (z : List ℕ). part z 0 8) q ∙ part-patch-same xs 0 (bytesBE 8 v) 8 (length-bytes 8 v) (omega arith)
+
+module _ (g : Geometry) (i : ℕ) (u : Step) (bs : List ℕ) where
+  pub spelled-nothing : u ≡ Nothing → spelledStores (record { place = 0; size = 0; bytes = bs }) ≡ stepStores g i u
+  unfolding spelledStores stepStores
+  spelled-nothing q = sym (ap (stepStores g i) q)
+
+  pub spelled-undo : (e : Entry) (at : ℕ) → u ≡ Undo e → at ≡ entryPlace g i → part bs 0 16 ≡ entryBytes e
+      → spelledStores (record { place = at; size = 16; bytes = bs }) ≡ stepStores g i u
+  unfolding spelledStores stepStores entryStore
+  spelled-undo e at q p b = (λ t. record { medium = card; place = p t; bytes = b t } ∷ []) ∙ sym (ap (stepStores g i) q)
+
+  pub spelled-tail : (v : ℕ) → u ≡ Tail v → part bs 0 8 ≡ bytesBE 8 v
+      → spelledStores (record { place = 72; size = 8; bytes = bs }) ≡ stepStores g i u
+  unfolding spelledStores stepStores tailStore wordStore
+  spelled-tail v q b = (λ t. record { medium = card; place = 72; bytes = b t } ∷ []) ∙ sym (ap (stepStores g i) q)
+
+pub undo-placed : (g : Geometry) (i : ℕ) (u : Step) (e : Entry) → u ≡ Undo e → (undoes u ≡ true → i < g .blocks) → i ≤ g .blocks
+undo-placed g i u e q h = omega (arith, undo-fits g i u e q h)
+
+pub place-narrow : (g : Geometry) (i r : ℕ) → goodGeometry g ≡ true → i < g .blocks → r ≡ entryPlace g i → Fits w32 r
+unfolding entryPlace
+place-narrow g i r h l e = let m : Limits g = limits g h in omega arith
