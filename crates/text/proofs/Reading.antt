@@ -1,5 +1,5 @@
--- A number read from the left, digit after digit: what the digits that are left spell after the value so far is what all spell. A value once
--- past 2^64 stays past it. Assumes nothing.
+-- A number read from the left, digit after digit: what the digits that are left spell after the value so far is what all spell. A value
+-- once past 2^64 stays past it. Assumes nothing.
 use Prim.Native.Nat.{ℕ, zero, suc, _+_, _*_, _-_, _/_, _^_, _≤_, _<_}
 use mathlib.Core.List.{List, [], _∷_}
 use mathlib.Core.Bool.{Bool, true, false, not, _&&_}

@@ -1,4 +1,4 @@
--- An argument as a number: only decimal digits, at least one, and the number fits 64 bits.
+-- Numbers from arguments: only decimal digits, at least one, and the number fits 64 bits.
 use Prim.Native.Nat.{ℕ, _+_, _*_, _-_, _^_}
 use mathlib.Core.List.{List, [], _∷_}
 use mathlib.Core.Bool.{Bool, cond, _&&_}
@@ -26,5 +26,6 @@ valueFrom acc (b ∷ bs) = valueFrom (acc * 10 + (b - 48)) bs
 unfoldable pub isNumber : List ℕ → Bool
 isNumber bs = ltb 0 (length bs) && (allBelow (digitAt bs) (length bs) && ltb (valueFrom 0 bs) (2 ^ 64))
 
+-- an argument as a number, or wrong
 unfoldable pub parsed : List ℕ → Parsed
 parsed bs = cond (isNumber bs) (Number (valueFrom 0 bs)) Wrong

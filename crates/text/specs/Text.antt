@@ -11,20 +11,25 @@ unfoldable pub row : (ℕ → ℕ) → ℕ → List ℕ
 row f zero = []
 row f (suc n) = row f n ++ (f n ∷ [])
 
--- ---- marks of their own
+-- ---- characters
 
+-- the line feed
 abbrev pub LINE-FEED : ℕ
 LINE-FEED = 10
 
+-- the space
 abbrev pub SPACE : ℕ
 SPACE = 32
 
+-- the comma
 abbrev pub COMMA : ℕ
 COMMA = 44
 
+-- the full stop
 abbrev pub STOP : ℕ
 STOP = 46
 
+-- the bar
 abbrev pub BAR : ℕ
 BAR = 124
 

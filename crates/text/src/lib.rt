@@ -1,8 +1,9 @@
-// The characters that a program prints: numbers in groups of three, bytes in hexadecimal, lines of a listing; and a number read from an argument.
+// The characters that a program prints: numbers in groups of three, bytes in hexadecimal, lines of a listing; and an argument as a number.
 ghost use mathlib.Core.Path.{_≡_};
 ghost use Prim.Native.Nat.{_/_, _^_, _<_};
 ghost use Rattle.protocol.specs.Below.{firstBelow};
-ghost use Rattle.text.specs.Text.{decimalMark, numberMark, numberField, markedAt, glyph, hexMark, hexField, shown, placeMark, byteMark, listMark, listLine};
+ghost use Rattle.text.specs.Text.{decimalMark, numberMark, numberField, markedAt, glyph, hexMark, hexField};
+ghost use Rattle.text.specs.Text.{shown, placeMark, byteMark, listMark, listLine};
 ghost use Rattle.text.specs.Parsed.{isDigit, parsed};
 
 // The powers of ten that a u64 holds.

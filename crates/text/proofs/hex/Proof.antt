@@ -12,38 +12,17 @@ Inv-loop bytes out₀ j₀ out j = (j ≤ 32) × Filled (hexMark bytes) 32 j out
 abbrev μ-loop : tie.MeasureT-loop
 μ-loop bytes out₀ j₀ out j = 32 - j
 
-loop-holds : tie.Need-loop-holds Inv-loop μ-loop
-loop-holds c = search (row-start, needs)
-
-hex-mark-requires : tie.Need-hex-mark-requires Inv-loop μ-loop
-hex-mark-requires c κs = search needs
-
-array-write-out : tie.Need-array-write-out Inv-loop μ-loop
-array-write-out c = search needs
-
-add-j : tie.Need-add-j Inv-loop μ-loop
-add-j c = search needs
-
-loop-less : tie.Need-loop-less Inv-loop μ-loop
-loop-less c = search needs
-
-loop-again : tie.Need-loop-again Inv-loop μ-loop
-loop-again c = search (row-turn, needs)
-
-returns : tie.Need-returns Inv-loop μ-loop
-unfolding hexField
-returns c = search (row-end, needs)
-
 pub hex-spec : {M : Type 1} → statement M
+unfolding hexField
 hex-spec =
     tie.close
     (tie.spec
     Inv-loop
     μ-loop
-    loop-holds
-    hex-mark-requires
-    array-write-out
-    add-j
-    loop-less
-    loop-again
-    returns)
+    (λ c. search (row-start, needs))
+    (λ c κs. search needs)
+    (λ c. search needs)
+    (λ c. search needs)
+    (λ c. search needs)
+    (λ c. search (row-turn, needs))
+    (λ c. search (row-end, needs)))

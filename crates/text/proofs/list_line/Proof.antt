@@ -12,38 +12,17 @@ Inv-loop bytes at out₀ j₀ out j = (j ≤ 75) × Filled (listMark at bytes) 7
 abbrev μ-loop : tie.MeasureT-loop
 μ-loop bytes at out₀ j₀ out j = 75 - j
 
-loop-holds : tie.Need-loop-holds Inv-loop μ-loop
-loop-holds c = search (row-start, needs)
-
-list-mark-requires : tie.Need-list-mark-requires Inv-loop μ-loop
-list-mark-requires c κs = search needs
-
-array-write-out : tie.Need-array-write-out Inv-loop μ-loop
-array-write-out c = search needs
-
-add-j : tie.Need-add-j Inv-loop μ-loop
-add-j c = search needs
-
-loop-less : tie.Need-loop-less Inv-loop μ-loop
-loop-less c = search needs
-
-loop-again : tie.Need-loop-again Inv-loop μ-loop
-loop-again c = search (row-turn, needs)
-
-returns : tie.Need-returns Inv-loop μ-loop
-unfolding listLine
-returns c = search (row-end, needs)
-
 pub list-line-spec : {M : Type 1} → statement M
+unfolding listLine
 list-line-spec =
     tie.close
     (tie.spec
     Inv-loop
     μ-loop
-    loop-holds
-    list-mark-requires
-    array-write-out
-    add-j
-    loop-less
-    loop-again
-    returns)
+    (λ c. search (row-start, needs))
+    (λ c κs. search needs)
+    (λ c. search needs)
+    (λ c. search needs)
+    (λ c. search needs)
+    (λ c. search (row-turn, needs))
+    (λ c. search (row-end, needs)))

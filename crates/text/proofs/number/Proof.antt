@@ -12,42 +12,18 @@ Inv-loop n out₀ j₀ out j = (j ≤ 26) × Filled (λ i. numberMark n (25 - i)
 abbrev μ-loop : tie.MeasureT-loop
 μ-loop n out₀ j₀ out j = 26 - j
 
-loop-holds : tie.Need-loop-holds Inv-loop μ-loop
-loop-holds c = search (row-start, needs)
-
-sub-number-mark : tie.Need-sub-number-mark Inv-loop μ-loop
-sub-number-mark c = search needs
-
-number-mark-requires : tie.Need-number-mark-requires Inv-loop μ-loop
-number-mark-requires c κs = search needs
-
-array-write-out : tie.Need-array-write-out Inv-loop μ-loop
-array-write-out c = search needs
-
-add-j : tie.Need-add-j Inv-loop μ-loop
-add-j c = search needs
-
-loop-less : tie.Need-loop-less Inv-loop μ-loop
-loop-less c = search needs
-
-loop-again : tie.Need-loop-again Inv-loop μ-loop
-loop-again c = search (row-turn, needs)
-
-returns : tie.Need-returns Inv-loop μ-loop
-unfolding numberField
-returns c = search (row-end, needs)
-
 pub number-spec : {M : Type 1} → statement M
+unfolding numberField
 number-spec =
     tie.close
     (tie.spec
     Inv-loop
     μ-loop
-    loop-holds
-    sub-number-mark
-    number-mark-requires
-    array-write-out
-    add-j
-    loop-less
-    loop-again
-    returns)
+    (λ c. search (row-start, needs))
+    (λ c. search needs)
+    (λ c κs. search needs)
+    (λ c. search needs)
+    (λ c. search needs)
+    (λ c. search needs)
+    (λ c. search (row-turn, needs))
+    (λ c. search (row-end, needs)))
