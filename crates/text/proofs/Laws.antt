@@ -3,7 +3,7 @@
 use Prim.Native.Nat.{ℕ, zero, suc, _+_, _*_, _-_, _/_, _%_, _^_, _≤_, _<_}
 use mathlib.Core.List.{List, [], _∷_, _++_}
 use mathlib.Core.Bool.{Bool, true, false, cond, not, _&&_}
-use mathlib.Core.Path.{_≡_, refl, sym, ap, subst, _∙_}
+use mathlib.Core.Path.{_≡_, refl, sym, ap, _∙_}
 use mathlib.Core.Logic.{⊎-elim}
 use native.Mathlib.Nat.{not-suc-le-zero, one-le-pow, pow-suc, mul-suc}
 use native.Mathlib.Numerals.{add-one}
@@ -11,7 +11,7 @@ use native.Mathlib.Omega.{arith}
 use lib.ListN.{length, getD, take, set, replicate, length-append, length-set, length-replicate, List·getD-append}
 use lib.Seq.{take-all, take-suc-set, getD-at}
 use lib.Pow.{pow-add}
-use lib.Dec.{ltb, leb, eqb}
+use lib.Dec.{ltb, leb}
 use borrow.Author.Tests.{leb-true, eq-eqb, ne-eqb, lt-ltb, le-ltb}
 use Rattle.protocol.specs.Below.{firstBelow}
 use Rattle.protocol.proofs.Below.{and-left, and-right, last-or-before, first-at, first-none}
@@ -62,7 +62,7 @@ length-row f zero = refl
 length-row f (suc n) = omega (arith, length-append (row f n) (f n ∷ []), length-row f n)
 
 -- a table that lists what f gives: its rule at each place
-pub row-at : (f : ℕ → ℕ) (n i : ℕ) → i < n → getD (row f n) i 0 ≡ f i
+row-at : (f : ℕ → ℕ) (n i : ℕ) → i < n → getD (row f n) i 0 ≡ f i
 unfolding row
 row-at f zero i l = absurd (not-suc-le-zero l)
 row-at f (suc n) i l =
@@ -102,11 +102,11 @@ number-digit n k x h e = passed _ _ _ _ (ne-eqb (k % 4) 3 h) e
 
 -- ---- blank columns
 
-pub mark-space : (field : List ℕ) (j : ℕ) → getD field j 0 ≡ SPACE → markedAt field j ≡ false
+mark-space : (field : List ℕ) (j : ℕ) → getD field j 0 ≡ SPACE → markedAt field j ≡ false
 unfolding markedAt
 mark-space field j e = ap not (eq-eqb (getD field j 0) SPACE e)
 
-pub mark-other : (field : List ℕ) (j : ℕ) → (getD field j 0 ≡ SPACE → ⊥) → markedAt field j ≡ true
+mark-other : (field : List ℕ) (j : ℕ) → (getD field j 0 ≡ SPACE → ⊥) → markedAt field j ≡ true
 unfolding markedAt
 mark-other field j e = ap not (ne-eqb (getD field j 0) SPACE e)
 

@@ -2,7 +2,6 @@
 use mathlib.Core.Path.{refl}
 use Rattle.protocol.specs.Layout.{between}
 use Rattle.text.specs.Parsed.{isDigit}
-use borrow.Author.Needs.{needs}
 use Rattle.text.proofs.is_digit.Statement.{statement}
 use Rattle.text.proofs.is_digit.Tie as tie
 
