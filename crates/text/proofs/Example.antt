@@ -3,7 +3,7 @@ use mathlib.Core.Path.{refl}
 use Rattle.protocol.proofs.Computing.{computing}
 use Rattle.text.specs.Text.{row, decimalMark, numberMark, numberField, glyph, hexMark, hexField}
 use Rattle.text.specs.Text.{shown, placeMark, byteMark, listMark, listLine}
-use Rattle.text.specs.Parsed.{isDigit, digitAt, valueFrom, isNumber, parsed}
+use Rattle.text.specs.Text.{isDigit, digitAt, valueFrom, isNumber, parsed}
 use Rattle.text.specs.Example.{Fields, Arguments}
 
 pub fields : Fields

@@ -15,7 +15,7 @@ use Rattle.protocol.specs.Below.{allBelow}
 use Rattle.protocol.specs.Layout.{between}
 use Rattle.protocol.proofs.Below.{and-both, and-fails, all-more, all-fails, all-done}
 use Rattle.text.specs.declared.Parsed.the-variants.{Number, Wrong}
-use Rattle.text.specs.Parsed.{isDigit, digitAt, valueFrom, isNumber, parsed}
+use Rattle.text.specs.Text.{isDigit, digitAt, valueFrom, isNumber, parsed}
 use Rattle.text.proofs.Laws.{chosen, passed, within-low, within-high}
 
 -- more digits make no number smaller

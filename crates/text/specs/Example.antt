@@ -5,8 +5,7 @@ use mathlib.Core.Path.{_≡_}
 use lib.ListN.{replicate}
 use Rattle.protocol.specs.Table.{bytes3}
 use Rattle.text.specs.declared.Parsed.the-variants.{Number, Wrong}
-use Rattle.text.specs.Text.{numberField, hexField, listLine}
-use Rattle.text.specs.Parsed.{parsed}
+use Rattle.text.specs.Text.{numberField, hexField, listLine, parsed}
 
 -- marks behind n spaces
 abbrev pub behind : ℕ → List ℕ → List ℕ

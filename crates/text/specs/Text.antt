@@ -1,10 +1,14 @@
 -- The characters that a program prints, as ASCII numbers in rows of fixed length: a number, bytes in hexadecimal, a line of a listing.
+-- An argument as a number.
 use Prim.Native.Nat.{ℕ, zero, suc, _+_, _*_, _-_, _/_, _%_, _^_}
 use mathlib.Core.List.{List, [], _∷_, _++_}
 use mathlib.Core.Bool.{Bool, cond, not, _&&_, _||_}
-use lib.ListN.{getD}
+use lib.ListN.{length, getD}
 use lib.Dec.{ltb, eqb}
+use Rattle.protocol.specs.Below.{allBelow}
 use Rattle.protocol.specs.Layout.{between}
+use Rattle.text.specs.declared.Parsed.{Parsed}
+use Rattle.text.specs.declared.Parsed.the-variants.{Number, Wrong}
 
 -- the characters that f gives in columns 0 to n - 1
 unfoldable pub row : (ℕ → ℕ) → ℕ → List ℕ
@@ -93,3 +97,26 @@ listMark at bs j =
 -- sixteen bytes as a line of 75 columns, the first of them at the place `at`
 unfoldable pub listLine : ℕ → List ℕ → List ℕ
 listLine at bs = row (listMark at bs) 75
+
+-- ---- an argument as a number
+
+-- b is one of the characters 0 to 9
+unfoldable pub isDigit : ℕ → Bool
+isDigit b = between 48 57 b
+
+-- character i is a digit
+unfoldable pub digitAt : List ℕ → ℕ → Bool
+digitAt bs i = isDigit (getD bs i 0)
+
+-- the number that the digits spell after acc
+unfoldable pub valueFrom : ℕ → List ℕ → ℕ
+valueFrom acc [] = acc
+valueFrom acc (b ∷ bs) = valueFrom (acc * 10 + (b - 48)) bs
+
+-- the characters are a number: at least one, each a digit, and the value below 2^64
+unfoldable pub isNumber : List ℕ → Bool
+isNumber bs = ltb 0 (length bs) && (allBelow (digitAt bs) (length bs) && ltb (valueFrom 0 bs) (2 ^ 64))
+
+-- an argument as a number: only decimal digits, at least one, and the number fits 64 bits
+unfoldable pub parsed : List ℕ → Parsed
+parsed bs = cond (isNumber bs) (Number (valueFrom 0 bs)) Wrong

@@ -3,8 +3,7 @@ ghost use mathlib.Core.Path.{_≡_};
 ghost use Prim.Native.Nat.{_/_, _^_, _<_};
 ghost use Rattle.protocol.specs.Below.{firstBelow};
 ghost use Rattle.text.specs.Text.{decimalMark, numberMark, numberField, markedAt, glyph, hexMark, hexField};
-ghost use Rattle.text.specs.Text.{shown, placeMark, byteMark, listMark, listLine};
-ghost use Rattle.text.specs.Parsed.{isDigit, parsed};
+ghost use Rattle.text.specs.Text.{shown, placeMark, byteMark, listMark, listLine, isDigit, parsed};
 
 // The powers of ten that a u64 holds.
 const POWERS: [u64; 20] = [

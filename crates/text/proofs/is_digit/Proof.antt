@@ -1,7 +1,7 @@
 -- `is_digit` answers its definition, by computing it.
 use mathlib.Core.Path.{refl}
 use Rattle.protocol.specs.Layout.{between}
-use Rattle.text.specs.Parsed.{isDigit}
+use Rattle.text.specs.Text.{isDigit}
 use Rattle.text.proofs.is_digit.Statement.{statement}
 use Rattle.text.proofs.is_digit.Tie as tie
 
