@@ -267,10 +267,14 @@ module _ (g : Geometry) (c₀ : List ℕ) (i a : ℕ) (c : List ℕ) (n r : ℕ)
         go (inl l) = at-entry g c i l ∙ runs-stay l ∙ sym (at-entry g c₀ i l)
         go (inr l) = at-tail g c i l ∙ settle-stays ∙ sym (at-tail g c₀ i l)
 
+    -- what the list has at this place now it had at the start
+    pub step-stays : (u : Step) → Listed g c i u → stepStores g i u ≡ flat (runsAt g c₀ i)
+    step-stays u k = k .stores ∙ ap flat place-stays
+
     pub turn-next : (u : Step) → Listed g c i u → (d : List ℕ) (p : Progress) → Went (stepStores g i u) r c d p
         → Went (flat (eachBelow (runsAt g c₀) (i + 1))) a c₀ d (record { count = n + p .count; left = p .left })
     turn-next u k d p y =
-        let same : stepStores g i u ≡ flat (runsAt g c₀ i) = k .stores ∙ ap flat place-stays in
+        let same = step-stays u k in
         record {
           did = did-each (runsAt g c₀) i (x .did) (did-same same (y .did));
           counted = (λ t. x .counted t + (y .counted ∙ ap length same) t) ∙ sym (length-each (runsAt g c₀) i);

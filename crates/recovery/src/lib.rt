@@ -148,7 +148,7 @@ fn word_bytes(v: u64) -> [u8; 16]
 // The step u of place i, spelled for whoever stores it elsewhere than in memory.
 pub fn spell(g: Geometry, i: usize, u: Step) -> Spelled
     requires { ⌜ (goodGeometry g ≡ true) × (undoes u ≡ true → i < g .blocks) ⌝ }
-    ensures { λ r. ⌜ spelledStores r ≡ stepStores g i u ⌝ }
+    ensures { λ r. ⌜ (spelledStores r ≡ stepStores g i u) × (r .size ≤ 16) ⌝ }
 {
     match u {
         Step::Nothing => Spelled {

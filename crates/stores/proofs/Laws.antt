@@ -61,15 +61,17 @@ pub did-start : (f : ℕ → List Run) {m : Medium} {a : ℕ} {xs : List ℕ} �
 unfolding eachBelow flat
 did-start f = did-none
 
+pub flat-each : (f : ℕ → List Run) (i : ℕ) → flat (eachBelow f (i + 1)) ≡ flat (eachBelow f i) ++ flat (f i)
+unfolding eachBelow
+flat-each f i = rw add-one (flat-append (eachBelow f i) (f i))
+
 pub did-each : (f : ℕ → List Run) (i : ℕ) {m : Medium} {a : ℕ} {xs ys zs : List ℕ} {r q : ℕ} → Did m (flat (eachBelow f i)) a xs ys r
     → Did m (flat (f i)) r ys zs q → Did m (flat (eachBelow f (i + 1))) a xs zs q
-unfolding eachBelow
-did-each f i x y = rw add-one (did-same (sym (flat-append (eachBelow f i) (f i))) (did-then x y))
+did-each f i x y = did-same (sym (flat-each f i)) (did-then x y)
 
 -- the stores of one more turn are so many more
 pub length-each : (f : ℕ → List Run) (i : ℕ) → length (flat (eachBelow f (i + 1))) ≡ length (flat (eachBelow f i)) + length (flat (f i))
-unfolding eachBelow
-length-each f i = rw add-one (ap length (flat-append (eachBelow f i) (f i)) ∙ length-append (flat (eachBelow f i)) (flat (f i)))
+length-each f i = ap length (flat-each f i) ∙ length-append (flat (eachBelow f i)) (flat (f i))
 
 -- ---- one store
 

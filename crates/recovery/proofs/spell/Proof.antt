@@ -27,13 +27,13 @@ word-bytes-requires : tie.Need-word-bytes-requires
 word-bytes-requires c κs = search needs
 
 returns : tie.Need-returns
-returns c = spelled-nothing _ _ _ _ (c .enum-told .given .1)
+returns c = (spelled-nothing _ _ _ _ (c .enum-told .given .1), search needs)
 
 returns-2 : tie.Need-returns-2
-returns-2 c = search (spelled-undo, needs)
+returns-2 c = (search (spelled-undo, needs), search needs)
 
 returns-3 : tie.Need-returns-3
-returns-3 c = search (spelled-tail, needs)
+returns-3 c = (search (spelled-tail, needs), search needs)
 
 pub spell-spec : {M : Type 1} → statement M
 spell-spec =
