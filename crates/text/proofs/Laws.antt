@@ -15,7 +15,7 @@ use lib.Dec.{ltb, leb}
 use borrow.Author.Tests.{leb-true, eq-eqb, ne-eqb, lt-ltb, le-ltb}
 use Rattle.protocol.specs.Below.{firstBelow}
 use Rattle.protocol.proofs.Below.{and-left, and-right, last-or-before, first-at, first-none}
-use Rattle.text.specs.Text.{row, SPACE, COMMA, decimalMark, numberMark, markedAt, glyph, hexMark, placeMark}
+use Rattle.text.specs.Text.{row, SPACE, COMMA, decimalMark, numberMark, plainMark, markedAt, glyph, hexMark, placeMark}
 
 -- ---- choices
 
@@ -99,6 +99,14 @@ module _ (n k p : ℕ) (q : p ≡ 10 ^ (3 * (k / 4) + 3)) (r : k % 4 ≡ 3) wher
 pub number-digit : (n k x : ℕ) → (k % 4 ≡ 3 → ⊥) → x ≡ decimalMark n (k - k / 4) → x ≡ numberMark n k
 unfolding numberMark
 number-digit n k x h e = passed _ _ _ _ (ne-eqb (k % 4) 3 h) e
+
+pub plain-digit : (n k x : ℕ) → k < 20 → x ≡ decimalMark n k → x ≡ plainMark n k
+unfolding plainMark
+plain-digit n k x h e = chosen _ _ _ _ (lt-ltb k 20 h) e
+
+pub plain-gap : (n k : ℕ) → 20 ≤ k → SPACE ≡ plainMark n k
+unfolding plainMark
+plain-gap n k h = passed _ _ _ _ (le-ltb k 20 h) refl
 
 -- ---- blank columns
 

@@ -5,7 +5,7 @@ use mathlib.Core.Path.{_≡_}
 use lib.ListN.{replicate}
 use Rattle.protocol.specs.Table.{bytes3}
 use Rattle.text.specs.declared.Parsed.the-variants.{Number, Wrong}
-use Rattle.text.specs.Text.{numberField, hexField, listLine, parsed}
+use Rattle.text.specs.Text.{numberField, plainField, hexField, listLine, parsed}
 
 -- marks behind n spaces
 abbrev pub behind : ℕ → List ℕ → List ℕ
@@ -27,6 +27,8 @@ pub record Fields : Type 0 where
   pub most : numberField 0xFFFFFFFFFFFFFFFF
       ≡ 49 ∷ 56 ∷ 44 ∷ 52 ∷ 52 ∷ 54 ∷ 44 ∷ 55 ∷ 52 ∷ 52 ∷ 44 ∷ 48 ∷ 55 ∷ 51 ∷ 44 ∷ 55 ∷ 48 ∷ 57 ∷ 44
       ∷ 53 ∷ 53 ∷ 49 ∷ 44 ∷ 54 ∷ 49 ∷ 53 ∷ []
+  -- "1001"
+  pub plain : plainField 1001 ≡ behind 22 (49 ∷ 48 ∷ 48 ∷ 49 ∷ [])
   -- "83000000000003E9FFFFFFFF00000002"
   pub entry : hexField bytes3
       ≡ 56 ∷ 51 ∷ replicate 10 48 ++ (48 ∷ 51 ∷ 69 ∷ 57 ∷ replicate 8 70 ++ replicate 7 48 ++ (50 ∷ []))

@@ -51,6 +51,14 @@ numberMark n k = cond (eqb (k % 4) 3) (cond (ltb n (10 ^ (3 * (k / 4) + 3))) SPA
 unfoldable pub numberField : ℕ → List ℕ
 numberField n = row (λ j. numberMark n (25 - j)) 26
 
+-- a block number, as 1001: the mark in column k from its right end
+unfoldable pub plainMark : ℕ → ℕ → ℕ
+plainMark n k = cond (ltb k 20) (decimalMark n k) SPACE
+
+-- n without commas, at the right end of a field of the same length
+unfoldable pub plainField : ℕ → List ℕ
+plainField n = row (λ j. plainMark n (25 - j)) 26
+
 -- column j of a field holds a mark
 unfoldable pub markedAt : List ℕ → ℕ → Bool
 markedAt field j = not (eqb (getD field j 0) SPACE)

@@ -2,7 +2,7 @@
 ghost use mathlib.Core.Path.{_≡_};
 ghost use Prim.Native.Nat.{_/_, _^_, _<_};
 ghost use Rattle.protocol.specs.Below.{firstBelow};
-ghost use Rattle.text.specs.Text.{decimalMark, numberMark, numberField, markedAt, glyph, hexMark, hexField};
+ghost use Rattle.text.specs.Text.{decimalMark, numberMark, numberField, plainMark, plainField, markedAt, glyph, hexMark, hexField};
 ghost use Rattle.text.specs.Text.{shown, placeMark, byteMark, listMark, listLine, isDigit, parsed};
 
 // The powers of ten that a u64 holds.
@@ -86,6 +86,27 @@ pub fn number(n: u64) -> [u8; 26]
     let mut j: usize = 0;
     while j < 26 {
         out[j] = number_mark(n, 25 - j);
+        j += 1;
+    }
+    out
+}
+
+// Column k of a number without commas, counted from its right end.
+fn plain_mark(n: u64, k: usize) -> u8
+    requires { ⌜ k < 26 ⌝ }
+    ensures { λ r. ⌜ r ≡ plainMark n k ⌝ }
+{
+    if k < 20 { decimal_mark(n, k) } else { b' ' }
+}
+
+// A number without commas, at the right end of its field.
+pub fn plain(n: u64) -> [u8; 26]
+    ensures { λ r. ⌜ r ≡ plainField n ⌝ }
+{
+    let mut out = [0u8; 26];
+    let mut j: usize = 0;
+    while j < 26 {
+        out[j] = plain_mark(n, 25 - j);
         j += 1;
     }
     out
