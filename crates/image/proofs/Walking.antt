@@ -9,7 +9,7 @@ use native.Mathlib.Omega.{arith}
 use lib.ListN.{length, take, length-append}
 use lib.Seq.{length-take-le, take-all, take-append-le}
 use lib.Dec.{leb}
-use borrow.Author.Tests.{ne-eqb, leb-true, leb-false}
+use borrow.Author.Tests.{leb-true, leb-false}
 use mir.Syntax.{w64}
 use mir.Val.{Fits}
 use Rattle.io.specs.Counts.{Counts}
@@ -23,9 +23,8 @@ use Rattle.ring.specs.Fitted.{Fitted, WindowOf}
 use Rattle.ring.specs.declared.Window.{Window}
 use Rattle.ring.proofs.Laws.{fitted-blocks}
 use Rattle.recovery.specs.declared.Progress.{Progress}
-use Rattle.recovery.specs.declared.Spelled.{Spelled}
 use Rattle.recovery.specs.declared.Step.{Step}
-use Rattle.recovery.specs.Step.{runsAt, stepStores, spelledStores, Listed}
+use Rattle.recovery.specs.Step.{runsAt, stepStores, Listed}
 use Rattle.recovery.specs.Went.{Went}
 use Rattle.recovery.proofs.Turns.{fitted-stays, window-stays, step-stays, list-whole}
 use Rattle.protocol.specs.Recover.{recoverRuns}
@@ -36,15 +35,6 @@ use Rattle.image.specs.Walked.{Walked}
 
 pub sixteen-counts : (n : ℕ) (xs : List ℕ) → n ≤ 16 → length xs ≡ 16 → Counts n xs
 sixteen-counts n xs h l = let k : n ≤ length xs = omega arith in (k, sym (length-take-le n xs k))
-
-module _ (s : Spelled) (ts : List Store) (e : spelledStores s ≡ ts) where
-  pub no-store : s .size ≡ 0 → ts ≡ []
-  unfolding spelledStores
-  no-store z = sym e ∙ rw z refl
-
-  pub one-store : (s .size ≡ 0 → ⊥) → length ts ≡ 1
-  unfolding spelledStores
-  one-store h = sym (ap length e) ∙ rw (ne-eqb (s .size) 0 h) refl
 
 -- ---- one step more
 

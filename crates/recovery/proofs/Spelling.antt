@@ -2,9 +2,10 @@
 use Prim.Native.Nat.{ℕ, _≤_, _<_}
 use mathlib.Core.List.{List, [], _∷_}
 use mathlib.Core.Bool.{true}
-use mathlib.Core.Path.{_≡_, sym, ap, _∙_}
+use mathlib.Core.Path.{_≡_, refl, sym, ap, _∙_}
 use native.Mathlib.Omega.{arith}
 use lib.ListN.{length}
+use borrow.Author.Tests.{ne-eqb}
 use mir.Syntax.{w32}
 use mir.Val.{Fits}
 use Rattle.numbers.specs.Bytes.{bytesBE, part, patch}
@@ -13,9 +14,10 @@ use Rattle.protocol.specs.declared.Entry.{Entry}
 use Rattle.protocol.specs.declared.Geometry.{Geometry}
 use Rattle.protocol.specs.Layout.{goodGeometry, entryPlace}
 use Rattle.protocol.specs.Entry.{entryBytes}
-use Rattle.protocol.specs.Store.{card, entryStore, tailStore, wordStore}
+use Rattle.protocol.specs.Store.{Store, card, entryStore, tailStore, wordStore}
 use Rattle.protocol.proofs.Checks.{Limits, limits}
 use Rattle.protocol.proofs.Codec.{length-entry}
+use Rattle.recovery.specs.declared.Spelled.{Spelled}
 use Rattle.recovery.specs.declared.Step.{Step}
 use Rattle.recovery.specs.declared.Step.the-variants.{Nothing, Undo, Tail}
 use Rattle.recovery.specs.Step.{stepStores, undoes, spelledStores}
@@ -48,3 +50,13 @@ undo-placed g i u e q h = omega (arith, undo-fits g i u e q h)
 pub place-narrow : (g : Geometry) (i r : ℕ) → goodGeometry g ≡ true → i < g .blocks → r ≡ entryPlace g i → Fits w32 r
 unfolding entryPlace
 place-narrow g i r h l e = let m : Limits g = limits g h in omega arith
+
+-- how many stores a spelled step stands for
+module _ (s : Spelled) (ts : List Store) (e : spelledStores s ≡ ts) where
+  pub no-store : s .size ≡ 0 → ts ≡ []
+  unfolding spelledStores
+  no-store z = sym e ∙ rw z refl
+
+  pub one-store : (s .size ≡ 0 → ⊥) → length ts ≡ 1
+  unfolding spelledStores
+  one-store h = sym (ap length e) ∙ rw (ne-eqb (s .size) 0 h) refl

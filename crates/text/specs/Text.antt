@@ -128,3 +128,13 @@ isNumber bs = ltb 0 (length bs) && (allBelow (digitAt bs) (length bs) && ltb (va
 -- an argument as a number: only decimal digits, at least one, and the number fits 64 bits
 unfoldable pub parsed : List ℕ → Parsed
 parsed bs = cond (isNumber bs) (Number (valueFrom 0 bs)) Wrong
+
+-- ---- words
+
+-- two texts have the same character at place i
+unfoldable pub sameAt : List ℕ → List ℕ → ℕ → Bool
+sameAt a b i = eqb (getD a i 0) (getD b i 0)
+
+-- two texts are the same
+unfoldable pub sameText : List ℕ → List ℕ → Bool
+sameText a b = eqb (length a) (length b) && allBelow (sameAt a b) (length a)

@@ -3,7 +3,7 @@ ghost use mathlib.Core.Path.{_≡_};
 ghost use Prim.Native.Nat.{_/_, _^_, _<_};
 ghost use Rattle.protocol.specs.Below.{firstBelow};
 ghost use Rattle.text.specs.Text.{decimalMark, numberMark, numberField, plainMark, plainField, markedAt, glyph, hexMark, hexField};
-ghost use Rattle.text.specs.Text.{shown, placeMark, byteMark, listMark, listLine, isDigit, parsed};
+ghost use Rattle.text.specs.Text.{shown, placeMark, byteMark, listMark, listLine, isDigit, parsed, sameText};
 
 // The powers of ten that a u64 holds.
 const POWERS: [u64; 20] = [
@@ -263,4 +263,21 @@ pub fn parse(text: &[u8]) -> Parsed
         i += 1;
     }
     Parsed::Number(value)
+}
+
+// Whether two texts are the same.
+pub fn same(a: &[u8], b: &[u8]) -> bool
+    ensures { λ r. ⌜ r ≡ sameText (now (a .entry)) (now (b .entry)) ⌝ }
+{
+    if a.len() != b.len() {
+        return false;
+    }
+    let mut i: usize = 0;
+    while i < a.len() {
+        if a[i] != b[i] {
+            return false;
+        }
+        i += 1;
+    }
+    true
 }

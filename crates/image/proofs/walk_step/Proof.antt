@@ -1,6 +1,7 @@
 -- `walk_step` takes what has come so far one step further: one law for each way through it.
 use borrow.Author.Needs.{needs}
-use Rattle.image.proofs.Walking.{sixteen-counts, no-store, one-store, walk-nothing, walk-left, walk-failed, walk-made, count-fits, made-fits}
+use Rattle.recovery.proofs.Spelling.{no-store, one-store}
+use Rattle.image.proofs.Walking.{sixteen-counts, walk-nothing, walk-left, walk-failed, walk-made, count-fits, made-fits}
 use Rattle.image.proofs.walk_step.Statement.{statement}
 use Rattle.image.proofs.walk_step.Tie as tie
 
