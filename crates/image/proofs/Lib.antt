@@ -1,3 +1,4 @@
--- How stores that may fail come together.
+-- How stores that may fail come together, and that the front of a file is enough.
+pub mod Front
 pub mod Repairing
 pub mod Walking

@@ -1,0 +1,89 @@
+-- A file's front, one byte longer than the largest card, is answered as the whole file is: where the file is longer than its front,
+-- both have the same header and both are longer than every card. Assumes nothing.
+use Prim.Native.Nat.{ℕ, zero, suc, _+_, _≤_, _<_}
+use mathlib.Core.List.{List}
+use mathlib.Core.Bool.{Bool, true, false, cond, _&&_}
+use mathlib.Core.Logic.{⊎-elim}
+use mathlib.Core.Path.{_≡_, refl, sym, ap, _∙_}
+use native.Mathlib.Omega.{arith}
+use lib.ListN.{length, take}
+use lib.Seq.{take-all, length-take-le, getD-take}
+use Rattle.numbers.specs.Bytes.{be, part, numberAt}
+use Rattle.numbers.proofs.Laws.{part-part}
+use Rattle.protocol.specs.Below.{allBelow}
+use Rattle.protocol.specs.Layout.{goodGeometry, cardLength, geometryOf, zeroFrom, goodHeader}
+use Rattle.protocol.specs.Check.{headerFits, fitRefusal}
+use Rattle.protocol.specs.Recover.{recoverRefusal}
+use Rattle.protocol.proofs.Below.{below-or-above, same-or-other}
+use Rattle.protocol.proofs.Checks.{limits, orElse-first}
+use Rattle.ring.proofs.Laws.{header-end, header-geometry, fit-header, fit-length, fit-fitted}
+use Rattle.image.specs.Front.{readFront}
+
+-- no card is longer
+largest : (c : List ℕ) → goodGeometry (geometryOf c) ≡ true → cardLength (geometryOf c) ≤ 528512
+unfolding cardLength
+largest c h = let l = limits (geometryOf c) h in omega arith
+
+-- so a longer row is refused, by its header alone
+too-long : (c : List ℕ) → 528512 < length c → fitRefusal c ≡ cond (goodHeader c) 2 1
+too-long c l = go (goodHeader c) refl
+  where
+    go : (b : Bool) → goodHeader c ≡ b → fitRefusal c ≡ cond b 2 1
+    go true e =
+        let h : true ≡ headerFits c = header-end c true (omega arith) (sym e) in
+        let m = largest c (header-geometry c true (geometryOf c) h refl refl) in
+        sym (fit-length c true (geometryOf c) (cardLength (geometryOf c)) h refl refl refl (λ q. omega arith))
+    go false e = sym (fit-header c false (header-end c false (omega arith) (sym e)) refl)
+
+all-cong : (p q : ℕ → Bool) (n : ℕ) → ((i : ℕ) → i < n → p i ≡ q i) → allBelow p n ≡ allBelow q n
+unfolding allBelow
+all-cong p q zero h = refl
+all-cong p q (suc n) h = λ t. all-cong p q n (λ i l. h i (omega arith)) t && h n (omega arith) t
+
+-- a front that holds the header has the same one
+number-same : (n : ℕ) (f : List ℕ) (at w : ℕ) → at + w ≤ n → numberAt (take n f) at w ≡ numberAt f (0 + at) w
+unfolding numberAt part
+number-same n f at w l = ap be (part-part f 0 n at w l)
+
+header-same : (n : ℕ) (f : List ℕ) → 64 ≤ n → goodHeader (take n f) ≡ goodHeader f
+unfolding goodHeader geometryOf zeroFrom
+header-same n f l =
+    let b = getD-take n f in
+    let w = number-same n f in
+    let zeros = all-cong (zeroFrom (take n f) 16) (zeroFrom f 16) 48 (λ i h. cc (b (16 + i) 0 (omega arith))) in
+    cc (b 4 0 (omega arith), b 5 0 (omega arith), w 0 4 (omega arith), w 6 2 (omega arith), w 8 4 (omega arith), w 12 4 (omega arith))
+
+fit-same : (n : ℕ) (f : List ℕ) → 528512 < n → fitRefusal (take n f) ≡ fitRefusal f
+fit-same n f l =
+    ⊎-elim
+    (λ (b : n < length f).
+    let e : length (take n f) ≡ n = length-take-le n f (omega arith) in
+    too-long (take n f) (omega arith) ∙ ap (λ (x : Bool). cond x 2 1) (header-same n f (omega arith)) ∙ sym (too-long f (omega arith)))
+    (λ (b : length f ≤ n). ap fitRefusal (take-all n f b))
+    (below-or-above n (length f))
+
+-- a file's front is refused with 1 and 2 as the whole file is
+pub front-fit : (f : List ℕ) → fitRefusal (readFront f) ≡ fitRefusal f
+unfolding readFront
+front-fit f = fit-same 528513 f (omega arith)
+
+-- and where the file is not refused so, the front is the whole file
+pub front-whole : (f : List ℕ) → fitRefusal f ≡ 0 → readFront f ≡ f
+unfolding readFront
+front-whole f z =
+    let u = fit-fitted f (geometryOf f) (fitRefusal f) refl z refl in
+    take-all 528513 f (omega (arith, largest f (u .good)))
+
+-- every answer that starts from checks 1 and 2 is the same
+pub front-same : {A : Type 0} (answer : List ℕ → A) (refused : ℕ → A)
+    → ((c : List ℕ) → (fitRefusal c ≡ 0 → ⊥) → answer c ≡ refused (fitRefusal c)) → (f : List ℕ) → answer (readFront f) ≡ answer f
+front-same answer refused h f =
+    ⊎-elim
+    (λ (z : fitRefusal f ≡ 0). ap answer (front-whole f z))
+    (λ (z : fitRefusal f ≡ 0 → ⊥). h (readFront f) (λ e. z (sym (front-fit f) ∙ e)) ∙ ap refused (front-fit f) ∙ sym (h f z))
+    (same-or-other (fitRefusal f) 0)
+
+-- so recovery's refusal is the same
+pub front-refusal : (f : List ℕ) → recoverRefusal (readFront f) ≡ recoverRefusal f
+unfolding recoverRefusal
+front-refusal = front-same recoverRefusal (λ r. r) (λ c h. sym (orElse-first (fitRefusal c) (fitRefusal c) _ refl h))
