@@ -1,0 +1,208 @@
+// A card as it stands, on standard output: as much of it as can be told.
+use libc::STDOUT_FILENO;
+use marks::count;
+use marks::plain;
+use marks::say;
+use protocol::Condition;
+use protocol::Entry;
+use protocol::FRESH;
+use protocol::Reported;
+use survey::Block;
+use survey::Fault;
+use survey::Field;
+use survey::Line;
+use survey::Slot;
+
+fn out(s: &[u8]) {
+    say(STDOUT_FILENO, s);
+}
+
+fn field(name: &[u8], f: Field) {
+    out(name);
+    match f {
+        Field::Is(n) => count(STDOUT_FILENO, n, 8),
+        Field::Missing => out(b"       -"),
+    }
+    out(b"\n");
+}
+
+fn header(card: &[u8]) {
+    out(b"\nheader\n");
+    field(b"  length   ", survey::field_in(card, 0, 4));
+    field(b"  version  ", survey::field_in(card, 4, 1));
+    field(b"  k        ", survey::field_in(card, 5, 1));
+    field(b"  S        ", survey::field_in(card, 6, 2));
+    field(b"  N        ", survey::field_in(card, 8, 4));
+    field(b"  D        ", survey::field_in(card, 12, 4));
+    field(b"  Head     ", survey::field_in(card, 64, 8));
+    field(b"  Tail     ", survey::field_in(card, 72, 8));
+}
+
+fn slot(p: u64, n: u64) {
+    plain(STDOUT_FILENO, p, 6);
+    plain(STDOUT_FILENO, n, 8);
+    out(b"\n");
+}
+
+// The window's slots, from Tail on.
+fn window(card: &[u8]) {
+    out(b"\nwindow\n  slot  number\n");
+    let mut j: u64 = 0;
+    while j < 256 {
+        match survey::slot_of(card, j) {
+            Slot::At(p, n) => slot(p, n),
+            Slot::Missing => return,
+        }
+        j += 1;
+    }
+}
+
+// An entry's bytes as document 01 writes them: flag byte and number, previous, current.
+fn bytes(e: Entry) {
+    let mut raw = [0u8; 16];
+    codec::put_entry(&mut raw, 0, e);
+    let hex = text::hex(&raw);
+    out(b"  ");
+    out(&hex[0..16]);
+    out(b" ");
+    out(&hex[16..24]);
+    out(b" ");
+    out(&hex[24..32]);
+}
+
+fn flag(set: bool, letter: &[u8]) {
+    if set {
+        out(letter);
+    } else {
+        out(b" -");
+    }
+}
+
+fn wide(x: u32) -> u64 {
+    x as u64
+}
+
+fn data_block(p: u32, none: &[u8]) {
+    if p == FRESH {
+        out(none);
+    } else {
+        plain(STDOUT_FILENO, wide(p), 10);
+    }
+}
+
+fn fields(i: u64, e: Entry) {
+    plain(STDOUT_FILENO, i, 7);
+    bytes(e);
+    out(b" ");
+    flag(codec::in_use(e), b" V");
+    flag(codec::is_modified(e), b" M");
+    flag(codec::has_log_role(e), b" R");
+    plain(STDOUT_FILENO, e.number, 8);
+    data_block(e.previous, b"     FRESH");
+    plain(STDOUT_FILENO, wide(e.current), 9);
+}
+
+fn known(undoable: bool, settled: u32) {
+    if undoable {
+        out(b"       yes");
+    } else {
+        out(b"        no");
+    }
+    data_block(settled, b"      none");
+}
+
+// Every entry that is not all zero.
+fn entries(card: &[u8]) {
+    out(
+        b"\nentries\n  place  bytes                               flags  number  previous  current  undoable   settled\n",
+    );
+    let mut i: u64 = 0;
+    while i < 128 {
+        match survey::line_of(card, i) {
+            Line::Missing => return,
+            Line::Unused => {}
+            Line::Raw(e) => {
+                fields(i, e);
+                out(b"\n");
+            }
+            Line::Full(e, undoable, settled) => {
+                fields(i, e);
+                known(undoable, settled);
+                out(b"\n");
+            }
+        }
+        i += 1;
+    }
+}
+
+// The free data blocks, in ascending order.
+fn free(card: &[u8]) {
+    out(b"\nfree data blocks\n ");
+    let mut p: u64 = 0;
+    while p < 128 {
+        match survey::block_of(card, p) {
+            Block::Free => plain(STDOUT_FILENO, p, 4),
+            Block::Taken => {}
+            Block::Missing => {}
+        }
+        p += 1;
+    }
+    out(b"\n");
+}
+
+fn told(c: Condition) {
+    match c {
+        Condition::Settled { used, modified } => {
+            out(b"settled, entries in use ");
+            count(STDOUT_FILENO, used, 0);
+            out(b", modified ");
+            count(STDOUT_FILENO, modified, 0);
+        }
+        Condition::Unsettled { undoable, window } => {
+            out(b"unsettled, undoable entries ");
+            count(STDOUT_FILENO, undoable, 0);
+            out(b", slots in the window ");
+            count(STDOUT_FILENO, window, 0);
+        }
+    }
+    out(b"\n");
+}
+
+// The card's condition; nothing of a refused card.
+pub fn condition(card: &[u8]) {
+    match lookup::state(card) {
+        Reported::Is(s) => {
+            let c = s.condition;
+            out(b"condition  ");
+            told(c);
+        }
+        Reported::Refused(_) => {}
+    }
+}
+
+fn is_sound(f: Fault) -> bool {
+    survey::refusal_of(f) == 0
+}
+
+// All that can be told of the card.
+pub fn card(name: &[u8], card: &[u8]) {
+    out(name);
+    out(b": ");
+    count(STDOUT_FILENO, card.len() as u64, 0);
+    out(b" bytes\n");
+    header(card);
+    if survey::ring_known(card) {
+        window(card);
+    }
+    let f = survey::fault_of(card);
+    if survey::refusal_of(f) != 1 {
+        entries(card);
+    }
+    out(b"\n");
+    if is_sound(f) {
+        free(card);
+        condition(card);
+    } else {
+        sentence::fault(STDOUT_FILENO, f);
+    }
+}
