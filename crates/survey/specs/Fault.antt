@@ -80,6 +80,10 @@ ringFault g c =
     Tail)
     Head
 
+-- 5: previous "below N or FRESH"
+unfoldable pub goodPrevious : ℕ → ℕ → Bool
+goodPrevious n p = ltb p n || eqb p FRESH
+
 -- 5: what is wrong with the entry e at place i, with N data blocks and D disk blocks: its first wrong field in the entry's order
 unfoldable pub entryFaultOf : ℕ → ℕ → ℕ → Entry → Fault
 entryFaultOf n d i e =
@@ -87,7 +91,7 @@ entryFaultOf n d i e =
     (cond (eqb (e .flags) 0) (NotZero i)
     (cond (allowedFlags (e .flags))
     (cond (ltb (e .number) d)
-    (cond (ltb (e .previous) n || eqb (e .previous) FRESH) (cond (ltb (e .current) n) Sound (Current i)) (Previous i))
+    (cond (goodPrevious n (e .previous)) (cond (ltb (e .current) n) Sound (Current i)) (Previous i))
     (Number i))
     (Flags i)))
 

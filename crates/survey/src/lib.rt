@@ -6,7 +6,7 @@ use ring::Window;
 ghost use mathlib.Core.Path.{_≡_};
 ghost use mathlib.Core.Bool.{cond};
 ghost use Prim.Native.Nat.{_≤_, _<_};
-ghost use Rattle.protocol.specs.Below.{firstBelow};
+ghost use lib.Dec.{ltb};
 ghost use Rattle.protocol.specs.Layout.{geometryOf, entryPlace};
 ghost use Rattle.protocol.specs.Entry.{entryAt, allowedFlags, isUnused};
 ghost use Rattle.protocol.specs.Ring.{settledBlock};
@@ -14,8 +14,8 @@ ghost use Rattle.protocol.specs.Search.{takenBy, isFree};
 ghost use Rattle.protocol.specs.Check.{goodEntryAt, apart};
 ghost use Rattle.ring.specs.Fitted.{Fitted, Placed, WindowOf};
 ghost use Rattle.survey.specs.Raw.{fieldIn, ringKnown, slotOf, lineIn, lineOf, blockOf};
-ghost use Rattle.survey.specs.Fault.{geometryFault, headerFault, firstMisfit, ringFault, entryFaultOf, firstBad, entryFault, sameSettled};
-ghost use Rattle.survey.specs.Fault.{pairFaultOf, firstAlike, firstPaired, pairFault, damageFault, faultOf};
+ghost use Rattle.survey.specs.Fault.{geometryFault, headerFault, firstMisfit, ringFault, goodPrevious, entryFaultOf, firstBad};
+ghost use Rattle.survey.specs.Fault.{entryFault, sameSettled, pairFaultOf, firstAlike, firstPaired, pairFault, damageFault, faultOf};
 
 // A number on the card, where it can be read.
 pub enum Field {
@@ -246,9 +246,6 @@ fn geometry_fault(g: Geometry) -> Fault
 fn header_fault(card: &[u8]) -> Fault
     ensures { λ r. ⌜ r ≡ headerFault (now (card .entry)) ⌝ }
 {
-    if ring::header_fits(card) {
-        return Fault::Sound;
-    }
     if card.len() < 128 {
         return Fault::Short;
     }
@@ -262,7 +259,11 @@ fn header_fault(card: &[u8]) -> Fault
     if !codec::good_geometry(g) {
         return geometry_fault(g);
     }
-    Fault::Reserved
+    if ring::header_fits(card) {
+        Fault::Sound
+    } else {
+        Fault::Reserved
+    }
 }
 
 // 4: the first slot of the window whose number is not below D, counted from Tail; the window's length where there is none.
@@ -301,6 +302,25 @@ fn ring_fault(g: Geometry, card: &[u8]) -> Fault
     }
 }
 
+fn below(x: u32, n: u64) -> bool
+    ensures { λ r. ⌜ r ≡ ltb x n ⌝ }
+{
+    (x as u64) < n
+}
+
+// 5: whether a previous block is below N or FRESH.
+fn good_previous(n: u64, p: u32) -> bool
+    ensures { λ r. ⌜ r ≡ goodPrevious n p ⌝ }
+{
+    below(p, n) | (p == FRESH)
+}
+
+fn allowed_flags(f: u8) -> bool
+    ensures { λ r. ⌜ r ≡ allowedFlags f ⌝ }
+{
+    (f == 0x80) | ((f == 0x82) | (f == 0x83))
+}
+
 // 5: the first wrong field of the entry e at place i.
 fn entry_fault_of(n: u64, d: u64, i: u64, e: Entry) -> Fault
     ensures { λ r. ⌜ r ≡ entryFaultOf n d i e ⌝ }
@@ -317,19 +337,13 @@ fn entry_fault_of(n: u64, d: u64, i: u64, e: Entry) -> Fault
     if e.number >= d {
         return Fault::Number(i);
     }
-    if (wide(e.previous) >= n) & (e.previous != FRESH) {
+    if !good_previous(n, e.previous) {
         return Fault::Previous(i);
     }
-    if wide(e.current) >= n {
+    if !below(e.current, n) {
         return Fault::Current(i);
     }
     Fault::Sound
-}
-
-fn allowed_flags(f: u8) -> bool
-    ensures { λ r. ⌜ r ≡ allowedFlags f ⌝ }
-{
-    (f == 0x80) | ((f == 0x82) | (f == 0x83))
 }
 
 // Whether entry i is one that check 5 allows.
