@@ -70,28 +70,27 @@ all-first p n =
     ⊎-elim
     (λ (e : allBelow p n ≡ true).
       let q : firstBelow (fails p) n ≡ n = first-none (fails p) n (λ i l. ap not (all-at p n i e l)) in
-      le-ltb _ _ (omega arith) ∙ sym (ap not e))
+      le-ltb (firstBelow (fails p) n) n (omega arith) ∙ sym (ap not e))
     (λ (e : allBelow p n ≡ false). lt-ltb _ _ (first-short p n e) ∙ sym (ap not e))
     (either (allBelow p n))
 
 -- what is said of the first index that fails comes under k
 refusal-first : (p : ℕ → Bool) (n k : ℕ) (f : Fault) → (allBelow p n ≡ false → refusalOf f ≡ k)
     → refusalOf (cond (ltb (firstBelow (fails p) n) n) f Sound) ≡ refuse k (allBelow p n)
+unfolding refusalOf refuse
 refusal-first p n k f h = ap (λ (b : Bool). refusalOf (cond b f Sound)) (all-first p n) ∙ go (allBelow p n) h
   where
     go : (b : Bool) → (b ≡ false → refusalOf f ≡ k) → refusalOf (cond (not b) f Sound) ≡ refuse k b
-    unfolding refusalOf refuse
     go true h = refl
     go false h = h refl
 
 -- ---- 1 and 2
 
 pub geometry-refusal : (g : Geometry) → refusalOf (geometryFault g) ≡ refuse 1 (goodGeometry g)
-unfolding geometryFault goodGeometry
+unfolding geometryFault goodGeometry refusalOf refuse
 geometry-refusal g = go (goodK (g .k)) (goodSlots (g .slots)) (goodBlocks (g .blocks)) (goodDisk (g .disk))
   where
     go : (k s n d : Bool) → refusalOf (cond k (cond s (cond n (cond d Sound Disk) Blocks) Slots) K) ≡ refuse 1 (k && (s && (n && d)))
-    unfolding refusalOf refuse
     go false s n d = refl
     go true false n d = refl
     go true true false d = refl
@@ -99,26 +98,24 @@ geometry-refusal g = go (goodK (g .k)) (goodSlots (g .slots)) (goodBlocks (g .bl
     go true true true true = refl
 
 pub header-refusal : (c : List ℕ) → refusalOf (headerFault c) ≡ refuse 1 (headerFits c)
-unfolding headerFault headerFits goodHeader
+unfolding headerFault headerFits goodHeader refusalOf refuse _orElse_
 header-refusal c =
     let z : Bool = allBelow (zeroFrom c 16) 48 in
     let rest = refusal-next (geometryFault (geometryOf c)) (cond z Sound Reserved) _ _ (geometry-refusal (geometryOf c)) (refusal-unless z Reserved 1 unit) in
     go (ltb (length c) 128) (eqb (numberAt c 0 4) 64) (eqb (getD c 4 0) 1) (goodGeometry (geometryOf c)) z _ rest
   where
     unit : refusalOf Reserved ≡ 1
-    unfolding refusalOf
     unit = refl
 
     go : (s l v ok z : Bool) (f : Fault) → refusalOf f ≡ refuse 1 ok orElse refuse 1 z
         → refusalOf (cond s Short (cond l (cond v f Version) HeaderLength)) ≡ refuse 1 (not s && (l && (v && (ok && z))))
-    unfolding refusalOf refuse _orElse_
     go true l v ok z f e = refl
     go false false v ok z f e = refl
     go false true false ok z f e = refl
     go false true true true z f e = e
     go false true true false z f e = e
 
-fit-refusal : (c : List ℕ) → refusalOf (fitFault c) ≡ fitRefusal c
+pub fit-refusal : (c : List ℕ) → refusalOf (fitFault c) ≡ fitRefusal c
 unfolding fitFault fitRefusal lengthFault refusalOf
 fit-refusal c =
     refusal-next (headerFault c) (lengthFault (geometryOf c) c) _ _ (header-refusal c)
@@ -128,29 +125,26 @@ fit-refusal c =
 
 module _ (g : Geometry) (c : List ℕ) where
   pub ring-refusal : refusalOf (ringFault g c) ≡ refuse 4 (ringFits g c)
-  unfolding ringFault ringFits firstMisfit refusalOf
+  unfolding ringFault ringFits firstMisfit refusalOf refuse
   ring-refusal =
       go (ltb (headOf c) (g .slots)) (ltb (tailOf c) (g .slots)) _ _ (refusal-first (windowNumberFits g c) (windowOf g c) 4 _ (λ e. refl))
     where
       go : (h t a : Bool) (f : Fault) → refusalOf f ≡ refuse 4 a → refusalOf (cond h (cond t f Tail) Head) ≡ refuse 4 (h && (t && a))
-      unfolding refusalOf refuse
       go false t a f e = refl
       go true false a f e = refl
       go true true a f e = e
 
 entry-of-refusal : (n d i : ℕ) (e : Entry) → refusalOf (entryFaultOf n d i e) ≡ refuse 5 (goodEntry n d e)
-unfolding entryFaultOf goodEntry goodPrevious
+unfolding entryFaultOf goodEntry goodPrevious allowedFlags refusalOf refuse
 entry-of-refusal n d i e =
     go (isUnused e) (eqb (e .flags) 0) (allowedFlags (e .flags)) (ltb (e .number) d) (goodPrevious n (e .previous)) (ltb (e .current) n) zero-flags
   where
     zero-flags : eqb (e .flags) 0 ≡ true → allowedFlags (e .flags) ≡ false
-    unfolding allowedFlags
     zero-flags h = ap allowedFlags (eqb-true (e .flags) 0 h)
 
     go : (u z f b p q : Bool) → (z ≡ true → f ≡ false)
         → refusalOf (cond u Sound (cond z (NotZero i) (cond f (cond b (cond p (cond q Sound (Current i)) (Previous i)) (Number i)) (Flags i))))
         ≡ refuse 5 (u || (f && (b && (q && p))))
-    unfolding refusalOf refuse
     go true z f b p q h = refl
     go false true f b p q h = rw (h refl)
     go false false false b p q h = refl
@@ -161,13 +155,12 @@ entry-of-refusal n d i e =
     go false false true true true false h = refl
 
 pair-of-refusal : (g : Geometry) (c : List ℕ) (i j : ℕ) → apart g c i j ≡ false → refusalOf (pairFaultOf g c i j) ≡ 6
-unfolding apart alike pairFaultOf sameSettled
+unfolding apart alike pairFaultOf sameSettled refusalOf
 pair-of-refusal g c i j h =
     go (eqb (entryAt g c i .number) (entryAt g c j .number)) (eqb (entryAt g c i .current) (entryAt g c j .current)) (sameSettled g c i j)
     (and-right (usedAt g c j) _ (and-right (usedAt g c i) (usedAt g c j && alike g c i j) (not-false _ h)))
   where
     go : (a b s : Bool) → a || (b || s) ≡ true → refusalOf (cond a (SameNumber i j) (cond b (SameCurrent i j) (cond s (SameSettled i j) Sound))) ≡ 6
-    unfolding refusalOf
     go true b s e = refl
     go false true s e = refl
     go false false true e = refl
@@ -175,13 +168,12 @@ pair-of-refusal g c i j h =
 
 module _ (g : Geometry) (c : List ℕ) where
   pub entry-refusal : refusalOf (entryFault g c) ≡ refuse 5 (entriesFit g c)
-  unfolding entryFault entriesFit firstBad
+  unfolding entryFault entriesFit firstBad goodEntryAt refuse
   entry-refusal =
       refusal-first (goodEntryAt g c) (g .blocks) 5 _
       (λ e. entry-of-refusal (g .blocks) (g .disk) _ _ ∙ failed (firstBelow (fails (goodEntryAt g c)) (g .blocks)) (first-fails (goodEntryAt g c) (g .blocks) e))
     where
       failed : (i : ℕ) → goodEntryAt g c i ≡ false → refuse 5 (goodEntry (g .blocks) (g .disk) (entryAt g c i)) ≡ 5
-      unfolding goodEntryAt refuse
       failed i h = ap (refuse 5) h
 
   pub pair-refusal : refusalOf (pairFault g c) ≡ refuse 6 (entriesApart g c)
@@ -194,7 +186,7 @@ module _ (g : Geometry) (c : List ℕ) where
   damage-refusal : refusalOf (damageFault g c) ≡ damageRefusal g c
   unfolding damageFault damageRefusal
   damage-refusal =
-      refusal-next (ringFault g c) (entryFault g c orNext pairFault g c) _ _ ring-refusal
+      refusal-next (ringFault g c) (entryFault g c orNext pairFault g c) _ _ (ring-refusal g c)
       (refusal-next (entryFault g c) (pairFault g c) _ _ entry-refusal pair-refusal)
 
 -- the fault that is named has the number of the card's refusal
