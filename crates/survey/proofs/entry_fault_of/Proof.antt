@@ -39,11 +39,11 @@ below-requires c κs = search needs
 
 returns-6 : tie.Need-returns-6
 unfolding entryFaultOf
-returns-6 c = search (on-eq, off-eq, on-lt, off-lt, on-yes, off-no, on-not, off-not, needs)
+returns-6 c = search (on-eq, off-eq, on-lt, off-lt, on-yes, off-no, on-not, off-not, needs) depth 16
 
 returns-7 : tie.Need-returns-7
 unfolding entryFaultOf
-returns-7 c = search (on-eq, off-eq, on-lt, off-lt, on-yes, off-no, on-not, off-not, needs)
+returns-7 c = search (on-eq, off-eq, on-lt, off-lt, on-yes, off-no, on-not, off-not, needs) depth 16
 
 pub entry-fault-of-spec : {M : Type 1} → statement M
 entry-fault-of-spec =

@@ -35,7 +35,10 @@ loop-less : tie.Need-loop-less Inv-loop μ-loop
 loop-less c = search needs
 
 loop-again : tie.Need-loop-again Inv-loop μ-loop
-loop-again c = search (any-more, holds-at, window-number-fits, needs)
+loop-again c =
+    let n = c .before .before in
+    let fits = window-number-fits _ _ _ _ (n .window-number .ensures) (c .if1 .left) in
+    (search needs, any-more _ _ (n .before .before .loop .inv .1) (holds-at _ _ fits))
 
 returns-2 : tie.Need-returns-2 Inv-loop μ-loop
 returns-2 c = search (misfit-none, needs)

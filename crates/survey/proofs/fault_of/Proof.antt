@@ -1,0 +1,42 @@
+-- `fault_of` names the fault of the check that refused, of 1, 2 and 4 to 6 in their order.
+use Rattle.survey.proofs.Named.{fault-header, fault-long, fault-good, fault-length, fault-fitted, fault-damage}
+use borrow.Author.Needs.{needs}
+use Rattle.survey.proofs.fault_of.Statement.{statement}
+use Rattle.survey.proofs.fault_of.Tie as tie
+
+fit-refusal-requires : tie.Need-fit-refusal-requires
+fit-refusal-requires c κs = search needs
+
+header-fault-requires : tie.Need-header-fault-requires
+header-fault-requires c κs = search needs
+
+returns : tie.Need-returns
+returns c = search (fault-header, needs)
+
+geometry-of-requires : tie.Need-geometry-of-requires
+geometry-of-requires c κs = search (fault-long, needs)
+
+card-length-requires : tie.Need-card-length-requires
+card-length-requires c κs = search (fault-good, needs)
+
+returns-2 : tie.Need-returns-2
+returns-2 c = search (fault-length, needs)
+
+damage-fault-requires : tie.Need-damage-fault-requires
+damage-fault-requires c κs = search (fault-fitted, needs)
+
+returns-3 : tie.Need-returns-3
+returns-3 c = search (fault-damage, needs)
+
+pub fault-of-spec : {M : Type 1} → statement M
+fault-of-spec =
+    tie.close
+    (tie.spec
+    fit-refusal-requires
+    header-fault-requires
+    returns
+    geometry-of-requires
+    card-length-requires
+    returns-2
+    damage-fault-requires
+    returns-3)
