@@ -21,10 +21,31 @@ use Rattle.protocol.specs.Recover.{recoverRefusal}
 use Rattle.protocol.proofs.Below.{absurd-bool, either, below-or-above, same-or-other, and-right, all-at, all-of, first-none, first-found, first-missed}
 use Rattle.protocol.proofs.Checks.{orElse-first, orElse-next}
 use Rattle.survey.specs.declared.Fault.{Fault}
-use Rattle.survey.specs.declared.Fault.the-variants.{Sound, Short, HeaderLength, Version, K, Slots, Blocks, Disk, Reserved, Length, Head, Tail,
-  WindowNumber, Flags, NotZero, Number, Current, Previous, SameNumber, SameCurrent, SameSettled}
-use Rattle.survey.specs.Fault.{refusalOf, _orNext_, fails, geometryFault, headerFault, lengthFault, firstMisfit, ringFault, goodPrevious}
-use Rattle.survey.specs.Fault.{entryFaultOf, firstBad, entryFault, sameSettled, pairFaultOf, firstAlike, firstPaired, pairFault}
+use Rattle.survey.specs.declared.Fault.the-variants.{
+  Sound,
+  Short,
+  HeaderLength,
+  Version,
+  K,
+  Slots,
+  Blocks,
+  Disk,
+  Reserved,
+  Length,
+  Head,
+  Tail,
+  WindowNumber,
+  Flags,
+  NotZero,
+  Number,
+  Current,
+  Previous,
+  SameNumber,
+  SameCurrent,
+  SameSettled,
+}
+use Rattle.survey.specs.Fault.{refusalOf, _orNext_, fails, geometryFault, headerFault, lengthFault, firstMisfit, windowFault, ringFault}
+use Rattle.survey.specs.Fault.{goodPrevious, entryFaultOf, firstBad, entryFault, sameSettled, pairFaultOf, firstAlike, firstPaired, pairFault}
 use Rattle.survey.specs.Fault.{damageFault, fitFault, faultOf}
 use Rattle.survey.proofs.Laws.{pick-true, pick-false}
 
@@ -69,8 +90,8 @@ unfolding fails
 all-first p n =
     ⊎-elim
     (λ (e : allBelow p n ≡ true).
-      let q : firstBelow (fails p) n ≡ n = first-none (fails p) n (λ i l. ap not (all-at p n i e l)) in
-      le-ltb (firstBelow (fails p) n) n (omega arith) ∙ sym (ap not e))
+    let q : firstBelow (fails p) n ≡ n = first-none (fails p) n (λ i l. ap not (all-at p n i e l)) in
+    le-ltb (firstBelow (fails p) n) n (omega arith) ∙ sym (ap not e))
     (λ (e : allBelow p n ≡ false). lt-ltb _ _ (first-short p n e) ∙ sym (ap not e))
     (either (allBelow p n))
 
@@ -125,7 +146,7 @@ fit-refusal c =
 
 module _ (g : Geometry) (c : List ℕ) where
   pub ring-refusal : refusalOf (ringFault g c) ≡ refuse 4 (ringFits g c)
-  unfolding ringFault ringFits firstMisfit refusalOf refuse
+  unfolding ringFault ringFits windowFault firstMisfit refusalOf refuse
   ring-refusal =
       go (ltb (headOf c) (g .slots)) (ltb (tailOf c) (g .slots)) _ _ (refusal-first (windowNumberFits g c) (windowOf g c) 4 _ (λ e. refl))
     where
@@ -181,7 +202,7 @@ module _ (g : Geometry) (c : List ℕ) where
   pair-refusal =
       refusal-first (apartBefore g c) (g .blocks) 6 _
       (λ e. let i : ℕ = firstBelow (fails (apartBefore g c)) (g .blocks) in
-        pair-of-refusal g c i _ (first-fails (apart g c i) i (first-fails (apartBefore g c) (g .blocks) e)))
+      pair-of-refusal g c i _ (first-fails (apart g c i) i (first-fails (apartBefore g c) (g .blocks) e)))
 
   damage-refusal : refusalOf (damageFault g c) ≡ damageRefusal g c
   unfolding damageFault damageRefusal

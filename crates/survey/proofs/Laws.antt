@@ -27,8 +27,9 @@ use Rattle.survey.specs.declared.Field.the-variants.{Missing as NoField,
 use Rattle.survey.specs.declared.Slot.the-variants.{Missing as NoSlot, At}
 use Rattle.survey.specs.declared.Line.{Line}
 use Rattle.survey.specs.declared.Line.the-variants.{Missing as NoLine, Unused, Raw, Full}
+use Rattle.survey.specs.declared.Block.{Block}
 use Rattle.survey.specs.declared.Block.the-variants.{Missing as NoBlock, Free, Taken}
-use Rattle.survey.specs.Raw.{fieldIn, ringKnown, slotIn, slotOf, reaches, lineIn, lineOf, blockOf}
+use Rattle.survey.specs.Raw.{fieldIn, ringKnown, slotIn, slotOf, reaches, lineIn, lineOf, blockIn, blockOf}
 
 -- ---- a choice by a test
 
@@ -192,17 +193,17 @@ module _ (c : List ℕ) (r : Bool) (g : Geometry) (e : r ≡ headerFits c) (h : 
 
 -- ---- a data block
 
-pub free-not : (g : Geometry) (c : List ℕ) (p i n : ℕ) (hit : Bool) → hit ≡ takenBy g c p i → hit ≡ true → n ≡ g .blocks → i < n → false ≡ isFree g c p
-unfolding isFree
-free-not g c p i n hit e t m l = ap not (sym (any-found (takenBy g c p) (g .blocks) i (rw m at l) (sym e ∙ t)))
+module _ (g : Geometry) (c : List ℕ) (p i : ℕ) (hit : Bool) (none : anyBelow (takenBy g c p) i ≡ false) where
+  pub block-taken : hit ≡ takenBy g c p i → hit ≡ true → i < g .blocks → Taken ≡ blockIn g c p
+  unfolding blockIn isFree
+  block-taken e t l = pick-false (isFree g c p) _ _ (ap not (any-found (takenBy g c p) (g .blocks) i l (sym e ∙ t)))
 
-pub free-more : (g : Geometry) (c : List ℕ) (p i : ℕ) (hit : Bool) → anyBelow (takenBy g c p) i ≡ false → hit ≡ takenBy g c p i → hit ≡ false
-    → anyBelow (takenBy g c p) (i + 1) ≡ false
-free-more g c p i hit h e t = any-more (takenBy g c p) i h (sym e ∙ t)
+  pub block-more : hit ≡ takenBy g c p i → hit ≡ false → anyBelow (takenBy g c p) (i + 1) ≡ false
+  block-more e t = any-more (takenBy g c p) i none (sym e ∙ t)
 
-pub free-end : (g : Geometry) (c : List ℕ) (p i n : ℕ) → anyBelow (takenBy g c p) i ≡ false → n ≡ g .blocks → n ≤ i → i ≤ n → true ≡ isFree g c p
-unfolding isFree
-free-end g c p i n h m a b = ap not (sym (any-done (takenBy g c p) (g .blocks) i h (rw m at a) (rw m at b)))
+pub block-free : (g : Geometry) (c : List ℕ) (p i : ℕ) → anyBelow (takenBy g c p) i ≡ false → g .blocks ≤ i → i ≤ g .blocks → Free ≡ blockIn g c p
+unfolding blockIn isFree
+block-free g c p i none a b = pick-true (isFree g c p) _ _ (ap not (any-done (takenBy g c p) (g .blocks) i none a b))
 
 pub block-unfit : (c : List ℕ) (p f : ℕ) → f ≡ fitRefusal c → (f ≡ 0 → ⊥) → NoBlock ≡ blockOf c p
 unfolding blockOf
@@ -213,16 +214,10 @@ module _ (c : List ℕ) (p : ℕ) (g : Geometry) (q : g ≡ geometryOf c) where
   unfolding blockOf
   block-past l = pick-false (eqb (fitRefusal c) 0 && ltb p (geometryOf c .blocks)) _ _ (and-fails (eqb (fitRefusal c) 0) _ (le-ltb p _ (rw q at l)))
 
-  module _ (f : ℕ) (r : Bool) (e : f ≡ fitRefusal c) (z : f ≡ 0) (l : p < g .blocks) (free : r ≡ isFree g c p) where
-    block-told : cond r Free Taken ≡ blockOf c p
-    unfolding blockOf
-    block-told =
-        ap (λ (b : Bool). cond b Free Taken) (free ∙ ap (λ (y : Geometry). isFree y c p) q)
-        ∙ pick-true (eqb (fitRefusal c) 0 && ltb p (geometryOf c .blocks)) _ _
-        (and-both (eq-eqb (fitRefusal c) 0 (sym e ∙ z)) (lt-ltb p _ (rw q at l)))
-
-    pub block-free : r ≡ true → Free ≡ blockOf c p
-    block-free t = pick-true r _ _ t ∙ block-told
-
-    pub block-taken : r ≡ false → Taken ≡ blockOf c p
-    block-taken t = pick-false r _ _ t ∙ block-told
+  pub block-there : (f : ℕ) (r : Block) → f ≡ fitRefusal c → f ≡ 0 → p < g .blocks → r ≡ blockIn g c p → r ≡ blockOf c p
+  unfolding blockOf
+  block-there f r e z l h =
+      h
+      ∙ ap (λ (y : Geometry). blockIn y c p) q
+      ∙ pick-true (eqb (fitRefusal c) 0 && ltb p (geometryOf c .blocks)) _ _
+      (and-both (eq-eqb (fitRefusal c) 0 (sym e ∙ z)) (lt-ltb p _ (rw q at l)))

@@ -1,8 +1,8 @@
 -- What each search for a fault names, by the tests that lead to each answer. Assumes nothing.
-use Prim.Native.Nat.{ℕ, zero, suc, _≤_, _<_}
+use Prim.Native.Nat.{ℕ, zero, suc, _+_, _≤_, _<_}
 use mathlib.Core.List.{List}
 use mathlib.Core.Bool.{Bool, true, false, cond, not, _&&_}
-use mathlib.Core.Path.{_≡_, refl, sym, ap, _∙_}
+use mathlib.Core.Path.{_≡_, refl, sym, ap, _∙_, subst}
 use native.Mathlib.Omega.{arith}
 use lib.ListN.{length, getD}
 use lib.Dec.{eqb, ltb}
@@ -11,20 +11,21 @@ use Rattle.numbers.specs.Bytes.{numberAt}
 use Rattle.numbers.specs.Post.{Number}
 use Rattle.protocol.specs.declared.Geometry.{Geometry}
 use Rattle.protocol.specs.declared.Entry.{Entry}
-use Rattle.protocol.specs.Below.{allBelow, anyBelow, around}
+use Rattle.protocol.specs.Below.{allBelow, anyBelow, firstBelow, around}
 use Rattle.protocol.specs.Layout.{goodGeometry, geometryOf, zeroFrom, goodHeader, cardLength}
-use Rattle.protocol.specs.Entry.{entryAt}
-use Rattle.protocol.specs.Ring.{headOf, tailOf, windowOf}
-use Rattle.protocol.specs.Check.{refuse, _orElse_, headerFits, cardFits, windowNumberFits, ringFits, entriesFit, apart, apartBefore, entriesApart}
+use Rattle.protocol.specs.Entry.{entryAt, goodEntry}
+use Rattle.protocol.specs.Ring.{headOf, tailOf, windowOf, windowNumber}
+use Rattle.protocol.specs.Check.{refuse, _orElse_, headerFits, cardFits, windowNumberFits, ringFits, goodEntryAt, entriesFit, apart, apartBefore, entriesApart}
 use Rattle.protocol.specs.Check.{fitRefusal, damageRefusal}
-use Rattle.protocol.proofs.Below.{and-left, and-right, first-le}
+use Rattle.protocol.proofs.Below.{absurd-bool, and-left, and-right, any-more}
+use Rattle.protocol.proofs.Checks.{refuse-none}
 use Rattle.ring.specs.declared.Window.{Window}
-use Rattle.ring.specs.Fitted.{Fitted, Placed, WindowOf}
-use Rattle.ring.proofs.Laws.{header-long, header-geometry, fit-fitted}
+use Rattle.ring.specs.Fitted.{Placed, WindowOf}
+use Rattle.ring.proofs.Laws.{header-long, header-geometry, window-number-fits, window-number-misfits}
 use Rattle.checks.proofs.Find.{first-here, first-nowhere}
 use Rattle.survey.specs.declared.Fault.{Fault}
 use Rattle.survey.specs.declared.Fault.the-variants.{Sound, Short, HeaderLength, Version, Reserved, Length, Head, Tail, WindowNumber, SameNumber, SameCurrent, SameSettled}
-use Rattle.survey.specs.Fault.{refusalOf, _orNext_, fails, geometryFault, headerFault, lengthFault, firstMisfit, ringFault}
+use Rattle.survey.specs.Fault.{refusalOf, _orNext_, fails, geometryFault, headerFault, lengthFault, firstMisfit, windowFault, ringFault}
 use Rattle.survey.specs.Fault.{entryFaultOf, firstBad, entryFault, sameSettled, pairFaultOf, firstAlike, firstPaired, pairFault}
 use Rattle.survey.specs.Fault.{damageFault, fitFault, faultOf}
 use Rattle.survey.proofs.Laws.{pick-true, pick-false}
@@ -58,21 +59,30 @@ module _ (x y z : Fault) where
     pub off-not : not r ≡ true → z ≡ y → z ≡ cond b x y
     off-not h e = off-no (not-true r h) e
 
--- ---- one index of a search
+-- ---- a search for the first index that fails: f is what is said of it
 
-pub fails-at : (p : ℕ → Bool) (i : ℕ) → p i ≡ false → fails p i ≡ true
-unfolding fails
-fails-at p i e = ap not e
+not-same : (a b : Bool) → not a ≡ not b → a ≡ b
+not-same true true e = refl
+not-same true false e = absurd-bool e refl
+not-same false true e = absurd-bool refl e
+not-same false false e = refl
 
-pub holds-at : (p : ℕ → Bool) (i : ℕ) → p i ≡ true → fails p i ≡ false
-unfolding fails
-holds-at p i e = ap not e
+module _ (p : ℕ → Bool) (n i : ℕ) (none : anyBelow (fails p) i ≡ false) where
+  named-here : (say : ℕ → Fault) (f : Fault) → i < n → p i ≡ false → f ≡ say i
+      → f ≡ cond (ltb (firstBelow (fails p) n) n) (say (firstBelow (fails p) n)) Sound
+  unfolding fails
+  named-here say f l e q =
+      let s : i ≡ firstBelow (fails p) n = first-here (fails p) n i none l (ap not e) in
+      q ∙ ap say s ∙ pick-true (ltb (firstBelow (fails p) n) n) _ _ (lt-ltb _ _ (subst (λ (x : ℕ). x < n) s l))
 
-pub fails-told : (p : ℕ → Bool) (i : ℕ) (r : Bool) → r ≡ p i → not r ≡ true → fails p i ≡ true
-fails-told p i r e h = fails-at p i (sym e ∙ not-true r h)
+  named-nowhere : (x : Fault) → n ≤ i → Sound ≡ cond (ltb (firstBelow (fails p) n) n) x Sound
+  named-nowhere x l =
+      let s : n ≡ firstBelow (fails p) n = first-nowhere (fails p) n i none l in
+      pick-false (ltb (firstBelow (fails p) n) n) _ _ (le-ltb (firstBelow (fails p) n) n (omega arith))
 
-pub holds-told : (p : ℕ → Bool) (i : ℕ) (r : Bool) → r ≡ p i → not r ≡ false → fails p i ≡ false
-holds-told p i r e h = holds-at p i (sym e ∙ not-false r h)
+  passed-one : p i ≡ true → anyBelow (fails p) (i + 1) ≡ false
+  unfolding fails
+  passed-one e = any-more (fails p) i none (ap not e)
 
 -- ---- 1
 
@@ -139,14 +149,21 @@ module _ (c : List ℕ) (r : ℕ) (long : 128 ≤ length c) (n : Number c 0 4 r)
 
 -- ---- 4
 
-module _ (g : Geometry) (c : List ℕ) (w : Window) (j : ℕ) (win : WindowOf g c w) where
-  pub misfit-here : anyBelow (fails (windowNumberFits g c)) j ≡ false → j < w .count → windowNumberFits g c j ≡ false → j ≡ firstMisfit g c
-  unfolding firstMisfit
-  misfit-here h l e = first-here (fails (windowNumberFits g c)) (windowOf g c) j h (rw (win .count) at l) (fails-at (windowNumberFits g c) j e)
+module _ (g : Geometry) (c : List ℕ) (j : ℕ) (none : anyBelow (fails (windowNumberFits g c)) j ≡ false) where
+  pub window-fault : (w : Window) (r x : ℕ) → WindowOf g c w → r ≡ windowNumber g c j → j < w .count → g .disk ≤ r → x ≡ around (g .slots) (w .tail) j
+      → WindowNumber x ≡ windowFault g c
+  unfolding windowFault firstMisfit
+  window-fault w r x win e l m q =
+      named-here (windowNumberFits g c) (windowOf g c) j none (λ k. WindowNumber (around (g .slots) (tailOf c) k)) _ (rw (win .count) at l)
+      (window-number-misfits g c j r e m)
+      (ap WindowNumber (q ∙ ap (λ (t : ℕ). around (g .slots) t j) (win .tail)))
 
-  pub misfit-none : anyBelow (fails (windowNumberFits g c)) j ≡ false → w .count ≤ j → w .count ≡ firstMisfit g c
-  unfolding firstMisfit
-  misfit-none h l = win .count ∙ first-nowhere (fails (windowNumberFits g c)) (windowOf g c) j h (rw (win .count) at l)
+  pub window-next : (r : ℕ) → r ≡ windowNumber g c j → r < g .disk → anyBelow (fails (windowNumberFits g c)) (j + 1) ≡ false
+  window-next r e l = passed-one (windowNumberFits g c) 0 j none (window-number-fits g c j r e l)
+
+  pub window-sound : (w : Window) → WindowOf g c w → w .count ≤ j → Sound ≡ windowFault g c
+  unfolding windowFault firstMisfit
+  window-sound w win l = named-nowhere (windowNumberFits g c) (windowOf g c) j none _ (rw (win .count) at l)
 
 module _ (g : Geometry) (c : List ℕ) (h : ℕ) (eh : h ≡ headOf c) where
   pub head-fault : g .slots ≤ h → Head ≡ ringFault g c
@@ -159,38 +176,32 @@ module _ (g : Geometry) (c : List ℕ) (h : ℕ) (eh : h ≡ headOf c) where
     tail-fault l =
         pick-false (ltb (tailOf c) (g .slots)) _ _ (le-ltb _ _ (rw et at l)) ∙ pick-true (ltb (headOf c) (g .slots)) _ _ (lt-ltb _ _ (rw eh at lh))
 
-    module _ (w : Window) (j : ℕ) (lt : t < g .slots) (win : WindowOf g c w) (first : j ≡ firstMisfit g c) where
-      window-past : (f : Fault)
-          → f ≡ cond (ltb (firstMisfit g c) (windowOf g c)) (WindowNumber (around (g .slots) (tailOf c) (firstMisfit g c))) Sound → f ≡ ringFault g c
-      unfolding ringFault
-      window-past f e =
-          e ∙ pick-true (ltb (tailOf c) (g .slots)) _ _ (lt-ltb _ _ (rw et at lt)) ∙ pick-true (ltb (headOf c) (g .slots)) _ _ (lt-ltb _ _ (rw eh at lh))
-
-      misfit-told : ltb j (w .count) ≡ ltb (firstMisfit g c) (windowOf g c)
-      misfit-told = λ t. ltb (first t) (win .count t)
-
-      pub window-fault : (x : ℕ) → j < w .count → x ≡ around (g .slots) (w .tail) j → WindowNumber x ≡ ringFault g c
-      window-fault x l e =
-          ap WindowNumber (e ∙ (λ t. around (g .slots) (win .tail t) (first t)))
-          ∙ window-past _ (pick-true (ltb (firstMisfit g c) (windowOf g c)) _ _ (sym misfit-told ∙ lt-ltb j (w .count) l))
-
-      pub window-sound : w .count ≤ j → Sound ≡ ringFault g c
-      window-sound l = window-past Sound (pick-false (ltb (firstMisfit g c) (windowOf g c)) _ _ (sym misfit-told ∙ le-ltb j (w .count) l))
+    pub ring-told : (f : Fault) → t < g .slots → f ≡ windowFault g c → f ≡ ringFault g c
+    unfolding ringFault
+    ring-told f lt q =
+        q ∙ pick-true (ltb (tailOf c) (g .slots)) _ _ (lt-ltb _ _ (rw et at lt)) ∙ pick-true (ltb (headOf c) (g .slots)) _ _ (lt-ltb _ _ (rw eh at lh))
 
 -- ---- 5
 
-module _ (g : Geometry) (c : List ℕ) (i : ℕ) (first : i ≡ firstBad g c) where
-  pub entry-sound : g .blocks ≤ i → Sound ≡ entryFault g c
-  unfolding entryFault
-  entry-sound l = pick-false (ltb (firstBad g c) (g .blocks)) _ _ (le-ltb _ _ (rw first at l))
+module _ (g : Geometry) (c : List ℕ) (i : ℕ) (none : anyBelow (fails (goodEntryAt g c)) i ≡ false) where
+  module _ (e : Entry) (ok : Bool) (is : e ≡ entryAt g c i) (good : ok ≡ goodEntry (g .blocks) (g .disk) e) where
+    good-told : (b : Bool) → ok ≡ b → goodEntryAt g c i ≡ b
+    unfolding goodEntryAt
+    good-told b h = ap (goodEntry (g .blocks) (g .disk)) (sym is) ∙ sym good ∙ h
 
-  pub entry-told : (e : Entry) (f : Fault) → i < g .blocks → e ≡ entryAt g c i → f ≡ entryFaultOf (g .blocks) (g .disk) i e → f ≡ entryFault g c
-  unfolding entryFault
-  entry-told e f l p q =
-      q
-      ∙ ap (entryFaultOf (g .blocks) (g .disk) i) p
-      ∙ ap (λ (x : ℕ). entryFaultOf (g .blocks) (g .disk) x (entryAt g c x)) first
-      ∙ pick-true (ltb (firstBad g c) (g .blocks)) _ _ (lt-ltb _ _ (rw first at l))
+    pub entry-named : (f : Fault) → i < g .blocks → not ok ≡ true → f ≡ entryFaultOf (g .blocks) (g .disk) i e → f ≡ entryFault g c
+    unfolding entryFault firstBad
+    entry-named f l h q =
+        named-here (goodEntryAt g c) (g .blocks) i none (λ x. entryFaultOf (g .blocks) (g .disk) x (entryAt g c x)) f l
+        (good-told false (not-true ok h))
+        (q ∙ ap (entryFaultOf (g .blocks) (g .disk) i) is)
+
+    pub entry-next : not ok ≡ false → anyBelow (fails (goodEntryAt g c)) (i + 1) ≡ false
+    entry-next h = passed-one (goodEntryAt g c) 0 i none (good-told true (not-false ok h))
+
+  pub entry-sound : g .blocks ≤ i → Sound ≡ entryFault g c
+  unfolding entryFault firstBad
+  entry-sound l = named-nowhere (goodEntryAt g c) (g .blocks) i none _ l
 
 -- ---- 6
 
@@ -203,35 +214,37 @@ unfolding pairFaultOf
 pair-told g c i j a b f p q e =
     e
     ∙ (λ t. cond (eqb (p t .number) (q t .number)) (SameNumber i j)
-      (cond (eqb (p t .current) (q t .current)) (SameCurrent i j) (cond (sameSettled g c i j) (SameSettled i j) Sound)))
+    (cond (eqb (p t .current) (q t .current)) (SameCurrent i j) (cond (sameSettled g c i j) (SameSettled i j) Sound)))
 
-module _ (g : Geometry) (c : List ℕ) (i j : ℕ) (first : j ≡ firstAlike g c i) where
-  alike-told : ltb j i ≡ fails (apartBefore g c) i
-  unfolding firstAlike fails apartBefore
-  alike-told = ap (λ (x : ℕ). ltb x i) first ∙ all-first _ i
+module _ (g : Geometry) (c : List ℕ) (i j : ℕ) (r : Bool) (is : r ≡ apart g c i j) where
+  pub alike-here : anyBelow (fails (apart g c i)) j ≡ false → j < i → not r ≡ true → j ≡ firstAlike g c i
+  unfolding firstAlike fails
+  alike-here h l k = first-here (fails (apart g c i)) i j h l (ap not (sym is) ∙ k)
 
-  pub paired-yes : j < i → fails (apartBefore g c) i ≡ true
-  paired-yes l = sym alike-told ∙ lt-ltb j i l
+  pub alike-next : anyBelow (fails (apart g c i)) j ≡ false → not r ≡ false → anyBelow (fails (apart g c i)) (j + 1) ≡ false
+  alike-next h k = passed-one (apart g c i) 0 j h (sym is ∙ not-false r k)
 
-  pub paired-no : i ≤ j → fails (apartBefore g c) i ≡ false
-  paired-no l = sym alike-told ∙ le-ltb j i l
+pub alike-none : (g : Geometry) (c : List ℕ) (i j : ℕ) → anyBelow (fails (apart g c i)) j ≡ false → i ≤ j → i ≡ firstAlike g c i
+unfolding firstAlike
+alike-none g c i j h l = first-nowhere (fails (apart g c i)) i j h l
 
-  pub alike-below : i < g .blocks → j < g .blocks
-  unfolding firstAlike
-  alike-below l = let k : firstAlike g c i ≤ i = first-le (fails (apart g c i)) i in omega arith
+module _ (g : Geometry) (c : List ℕ) (i j : ℕ) (none : anyBelow (fails (apartBefore g c)) i ≡ false) (first : j ≡ firstAlike g c i) where
+  alike-told : (b : Bool) → ltb j i ≡ not b → apartBefore g c i ≡ b
+  unfolding firstAlike apartBefore
+  alike-told b h = not-same (apartBefore g c i) b (sym (all-first (apart g c i) i) ∙ ap (λ (x : ℕ). ltb x i) (sym first) ∙ h)
 
-module _ (g : Geometry) (c : List ℕ) (i : ℕ) (first : i ≡ firstPaired g c) where
-  pub pair-sound : g .blocks ≤ i → Sound ≡ pairFault g c
-  unfolding pairFault
-  pair-sound l = pick-false (ltb (firstPaired g c) (g .blocks)) _ _ (le-ltb _ _ (rw first at l))
+  pub pair-named : (f : Fault) → i < g .blocks → j < i → f ≡ pairFaultOf g c i j → f ≡ pairFault g c
+  unfolding pairFault firstPaired
+  pair-named f l m q =
+      named-here (apartBefore g c) (g .blocks) i none (λ x. pairFaultOf g c x (firstAlike g c x)) f l (alike-told false (lt-ltb j i m))
+      (q ∙ ap (pairFaultOf g c i) first)
 
-  pub pair-found : (j : ℕ) (f : Fault) → i < g .blocks → j ≡ firstAlike g c i → f ≡ pairFaultOf g c i j → f ≡ pairFault g c
-  unfolding pairFault
-  pair-found j f l p q =
-      q
-      ∙ ap (pairFaultOf g c i) p
-      ∙ ap (λ (x : ℕ). pairFaultOf g c x (firstAlike g c x)) first
-      ∙ pick-true (ltb (firstPaired g c) (g .blocks)) _ _ (lt-ltb _ _ (rw first at l))
+  pub pair-next : i ≤ j → anyBelow (fails (apartBefore g c)) (i + 1) ≡ false
+  pair-next m = passed-one (apartBefore g c) 0 i none (alike-told true (le-ltb j i m))
+
+pub pair-sound : (g : Geometry) (c : List ℕ) (i : ℕ) → anyBelow (fails (apartBefore g c)) i ≡ false → g .blocks ≤ i → Sound ≡ pairFault g c
+unfolding pairFault firstPaired
+pair-sound g c i none l = named-nowhere (apartBefore g c) (g .blocks) i none _ l
 
 -- ---- the checks in their order: which one a number comes from
 
@@ -241,10 +254,10 @@ passed-on k r s true e h l = (refl, e)
 passed-on zero r s false e h l = absurd (omega arith)
 passed-on (suc k) r s false e h l = absurd (h e)
 
-passed-last : (k r : ℕ) (a : Bool) → r ≡ refuse k a → (r ≡ k → ⊥) → (a ≡ true) × (r ≡ 0)
+refused-last : (k r : ℕ) (a : Bool) → r ≡ refuse k a → (r ≡ 0 → ⊥) → a ≡ false
 unfolding refuse
-passed-last k r true e h = (refl, e)
-passed-last k r false e h = absurd (h e)
+refused-last k r true e h = absurd (h e)
+refused-last k r false e h = refl
 
 refused-four : (a b d : Bool) → 4 ≡ refuse 4 a orElse (refuse 5 b orElse refuse 6 d) → a ≡ false
 unfolding refuse _orElse_
@@ -264,11 +277,6 @@ unfolding refuse _orElse_
 refused-one false b e = refl
 refused-one true false e = absurd (omega arith)
 refused-one true true e = absurd (omega arith)
-
-refused-two : (b : Bool) → 2 ≡ refuse 2 b → b ≡ false
-unfolding refuse
-refused-two false e = refl
-refused-two true e = absurd (omega arith)
 
 -- a part whose check failed or passed
 part-failed : (f : Fault) (k : ℕ) (ok : Bool) → 0 < k → refusalOf f ≡ refuse k ok → ok ≡ false → refusalOf f ≡ 0 → ⊥
@@ -310,8 +318,7 @@ module _ (g : Geometry) (c : List ℕ) (r : ℕ) (e : r ≡ damageRefusal g c) w
   damage-sound z =
       let h : r ≡ 4 → ⊥ = λ q. omega arith in
       let k : r ≡ 5 → ⊥ = λ q. omega arith in
-      let l : r ≡ 6 → ⊥ = λ q. omega arith in
-      let all : entriesApart g c ≡ true = passed-last 6 r (entriesApart g c) (entries-passed h k .1) l .0 in
+      let all : entriesApart g c ≡ true = refuse-none 6 (entriesApart g c) (omega arith) (sym (entries-passed h k .1) ∙ z) in
       damage-pair Sound h k (pick-false (ltb (firstPaired g c) (g .blocks)) _ _ (all-first (apartBefore g c) (g .blocks) ∙ ap not all))
 
   pub damage-placed : (r ≡ 4 → ⊥) → Placed g c
@@ -324,45 +331,38 @@ module _ (g : Geometry) (c : List ℕ) (r : ℕ) (e : r ≡ damageRefusal g c) w
       }
 
 module _ (c : List ℕ) (r : ℕ) (e : r ≡ fitRefusal c) where
-  fault-fit : (f : Fault) → (r ≡ 0 → ⊥) → f ≡ fitFault c → f ≡ faultOf c
+  pub fault-damage : (g : Geometry) (f : Fault) → r ≡ 0 → g ≡ geometryOf c → f ≡ damageFault g c → f ≡ faultOf c
   unfolding faultOf
-  fault-fit f h p = p ∙ next-first (fitFault c) _ (λ z. h (e ∙ sym (fit-refusal c) ∙ z))
+  fault-damage g f z q p = p ∙ ap (λ (y : Geometry). damageFault y c) q ∙ next-on (fitFault c) _ (fit-refusal c ∙ sym e ∙ z)
 
-  pub fault-header : (f : Fault) → r ≡ 1 → f ≡ headerFault c → f ≡ faultOf c
-  unfolding fitFault fitRefusal
-  fault-header f h p =
-      let bad : headerFits c ≡ false = refused-one _ _ (sym h ∙ e) in
-      fault-fit f (λ z. omega arith) (p ∙ next-first (headerFault c) _ (part-failed _ 1 (headerFits c) (omega arith) (header-refusal c) bad))
+  module _ (some : r ≡ 0 → ⊥) where
+    fault-fit : (f : Fault) → f ≡ fitFault c → f ≡ faultOf c
+    unfolding faultOf
+    fault-fit f p = p ∙ next-first (fitFault c) _ (λ z. some (e ∙ sym (fit-refusal c) ∙ z))
 
-  module _ (h : r ≡ 1 → ⊥) where
-    header-passed : (headerFits c ≡ true) × (r ≡ refuse 2 (cardFits (geometryOf c) c))
-    unfolding fitRefusal
-    header-passed = passed-on 1 r _ (headerFits c) e h (omega arith)
+    pub fault-header : (f : Fault) → r ≡ 1 → f ≡ headerFault c → f ≡ faultOf c
+    unfolding fitFault fitRefusal
+    fault-header f h p =
+        let bad : headerFits c ≡ false = refused-one _ _ (sym h ∙ e) in
+        fault-fit f (p ∙ next-first (headerFault c) _ (part-failed _ 1 (headerFits c) (omega arith) (header-refusal c) bad))
 
-    pub fault-long : 128 ≤ length c
-    fault-long = header-long c true (sym (header-passed .0)) refl
+    module _ (h : r ≡ 1 → ⊥) where
+      header-passed : (headerFits c ≡ true) × (r ≡ refuse 2 (cardFits (geometryOf c) c))
+      unfolding fitRefusal
+      header-passed = passed-on 1 r _ (headerFits c) e h (omega arith)
 
-    module _ (g : Geometry) (q : g ≡ geometryOf c) where
-      pub fault-good : goodGeometry g ≡ true
-      fault-good = header-geometry c true g (sym (header-passed .0)) refl q
+      pub fault-long : 128 ≤ length c
+      fault-long = header-long c true (sym (header-passed .0)) refl
 
-      pub fault-length : (n : ℕ) → r ≡ 2 → n ≡ cardLength g → Length n ≡ faultOf c
-      unfolding fitFault lengthFault
-      fault-length n k p =
-          let bad : cardFits (geometryOf c) c ≡ false = refused-two _ (sym k ∙ header-passed .1) in
-          fault-fit (Length n) (λ z. omega arith)
-          (ap Length (p ∙ ap cardLength q)
-          ∙ pick-false (cardFits (geometryOf c) c) _ _ bad
-          ∙ next-on (headerFault c) _ (part-passed _ 1 (headerFits c) (header-refusal c) (header-passed .0)))
+      module _ (g : Geometry) (q : g ≡ geometryOf c) where
+        pub fault-good : goodGeometry g ≡ true
+        fault-good = header-geometry c true g (sym (header-passed .0)) refl q
 
-      module _ (k : r ≡ 2 → ⊥) where
-        fit-passed : r ≡ 0
-        fit-passed = passed-last 2 r (cardFits (geometryOf c) c) (header-passed .1) k .1
-
-        pub fault-fitted : Fitted g c
-        fault-fitted = fit-fitted c g r e fit-passed q
-
-        pub fault-damage : (f : Fault) → f ≡ damageFault g c → f ≡ faultOf c
-        unfolding faultOf
-        fault-damage f p =
-            p ∙ ap (λ (y : Geometry). damageFault y c) q ∙ next-on (fitFault c) _ (fit-refusal c ∙ sym e ∙ fit-passed)
+        pub fault-length : (n : ℕ) → n ≡ cardLength g → Length n ≡ faultOf c
+        unfolding fitFault lengthFault
+        fault-length n p =
+            let bad : cardFits (geometryOf c) c ≡ false = refused-last 2 r _ (header-passed .1) some in
+            fault-fit (Length n)
+            (ap Length (p ∙ ap cardLength q)
+            ∙ pick-false (cardFits (geometryOf c) c) _ _ bad
+            ∙ next-on (headerFault c) _ (part-passed _ 1 (headerFits c) (header-refusal c) (header-passed .0)))

@@ -14,8 +14,29 @@ use Rattle.protocol.specs.Entry.{FRESH, entryAt, allowedFlags, isUnused}
 use Rattle.protocol.specs.Ring.{headOf, tailOf, windowOf, settledBlock}
 use Rattle.protocol.specs.Check.{cardFits, windowNumberFits, goodEntryAt, apart, apartBefore}
 use Rattle.survey.specs.declared.Fault.{Fault}
-use Rattle.survey.specs.declared.Fault.the-variants.{Sound, Short, HeaderLength, Version, K, Slots, Blocks, Disk, Reserved, Length, Head, Tail,
-  WindowNumber, Flags, NotZero, Number, Current, Previous, SameNumber, SameCurrent, SameSettled}
+use Rattle.survey.specs.declared.Fault.the-variants.{
+  Sound,
+  Short,
+  HeaderLength,
+  Version,
+  K,
+  Slots,
+  Blocks,
+  Disk,
+  Reserved,
+  Length,
+  Head,
+  Tail,
+  WindowNumber,
+  Flags,
+  NotZero,
+  Number,
+  Current,
+  Previous,
+  SameNumber,
+  SameCurrent,
+  SameSettled,
+}
 
 -- the refusal that a fault comes under, 0 for none
 unfoldable pub refusalOf : Fault → ℕ
@@ -71,14 +92,15 @@ lengthFault g c = cond (cardFits g c) Sound (Length (cardLength g))
 unfoldable pub firstMisfit : Geometry → List ℕ → ℕ
 firstMisfit g c = firstBelow (fails (windowNumberFits g c)) (windowOf g c)
 
--- 4: Head or Tail, or the position of that slot
+-- 4: the position of that slot
+unfoldable pub windowFault : Geometry → List ℕ → Fault
+windowFault g c =
+    cond (ltb (firstMisfit g c) (windowOf g c)) (WindowNumber (around (g .slots) (tailOf c) (firstMisfit g c))) Sound
+
+-- 4: Head or Tail that is not below S, or that slot
 unfoldable pub ringFault : Geometry → List ℕ → Fault
 ringFault g c =
-    cond (ltb (headOf c) (g .slots))
-    (cond (ltb (tailOf c) (g .slots))
-    (cond (ltb (firstMisfit g c) (windowOf g c)) (WindowNumber (around (g .slots) (tailOf c) (firstMisfit g c))) Sound)
-    Tail)
-    Head
+    cond (ltb (headOf c) (g .slots)) (cond (ltb (tailOf c) (g .slots)) (windowFault g c) Tail) Head
 
 -- 5: previous "below N or FRESH"
 unfoldable pub goodPrevious : ℕ → ℕ → Bool

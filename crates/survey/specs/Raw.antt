@@ -55,6 +55,9 @@ unfoldable pub lineOf : List ℕ → ℕ → Line
 lineOf c i = cond (reaches c i) (lineIn (geometryOf c) c i) NoLine
 
 -- whether data block p is free
+unfoldable pub blockIn : Geometry → List ℕ → ℕ → Block
+blockIn g c p = cond (isFree g c p) Free Taken
+
+-- the same where the card passes checks 1 and 2 and has a data block p
 unfoldable pub blockOf : List ℕ → ℕ → Block
-blockOf c p =
-    cond (eqb (fitRefusal c) 0 && ltb p (geometryOf c .blocks)) (cond (isFree (geometryOf c) c p) Free Taken) NoBlock
+blockOf c p = cond (eqb (fitRefusal c) 0 && ltb p (geometryOf c .blocks)) (blockIn (geometryOf c) c p) NoBlock

@@ -10,12 +10,12 @@ ghost use lib.Dec.{ltb};
 ghost use Rattle.protocol.specs.Layout.{geometryOf, entryPlace};
 ghost use Rattle.protocol.specs.Entry.{entryAt, allowedFlags, isUnused};
 ghost use Rattle.protocol.specs.Ring.{settledBlock};
-ghost use Rattle.protocol.specs.Search.{takenBy, isFree};
-ghost use Rattle.protocol.specs.Check.{goodEntryAt, apart};
+ghost use Rattle.protocol.specs.Search.{takenBy};
+ghost use Rattle.protocol.specs.Check.{apart};
 ghost use Rattle.ring.specs.Fitted.{Fitted, Placed, WindowOf};
-ghost use Rattle.survey.specs.Raw.{fieldIn, ringKnown, slotOf, lineIn, lineOf, blockOf};
-ghost use Rattle.survey.specs.Fault.{geometryFault, headerFault, firstMisfit, ringFault, goodPrevious, entryFaultOf, firstBad};
-ghost use Rattle.survey.specs.Fault.{entryFault, sameSettled, pairFaultOf, firstAlike, firstPaired, pairFault, damageFault, faultOf};
+ghost use Rattle.survey.specs.Raw.{fieldIn, ringKnown, slotOf, lineIn, lineOf, blockIn, blockOf};
+ghost use Rattle.survey.specs.Fault.{geometryFault, headerFault, windowFault, ringFault, goodPrevious, entryFaultOf, entryFault};
+ghost use Rattle.survey.specs.Fault.{sameSettled, pairFaultOf, firstAlike, pairFault, damageFault, faultOf};
 
 // A number on the card, where it can be read.
 pub enum Field {
@@ -189,20 +189,20 @@ fn taken_by(g: Geometry, card: &[u8], p: u64, i: usize) -> bool
     codec::in_use(e) & (wide(e.current) == p)
 }
 
-// Whether data block p is no in-use entry's current block.
-fn is_free(g: Geometry, card: &[u8], p: u64) -> bool
+// Whether data block p, below N, is free.
+fn block_in(g: Geometry, card: &[u8], p: u64) -> Block
     requires { ⌜ Fitted g (now card) ⌝ }
-    ensures { λ r. ⌜ r ≡ isFree g (now (card .entry)) p ⌝ }
+    ensures { λ r. ⌜ r ≡ blockIn g (now (card .entry)) p ⌝ }
 {
     let n = g.blocks as usize;
     let mut i: usize = 0;
     while i < n {
         if taken_by(g, card, p, i) {
-            return false;
+            return Block::Taken;
         }
         i += 1;
     }
-    true
+    Block::Free
 }
 
 // Whether data block p is free.
@@ -216,11 +216,7 @@ pub fn block_of(card: &[u8], p: u64) -> Block
     if g.blocks <= p {
         return Block::Missing;
     }
-    if is_free(g, card, p) {
-        Block::Free
-    } else {
-        Block::Taken
-    }
+    block_in(g, card, p)
 }
 
 // 1: the first of k, S, N and D that is outside its limits.
@@ -266,23 +262,23 @@ fn header_fault(card: &[u8]) -> Fault
     }
 }
 
-// 4: the first slot of the window whose number is not below D, counted from Tail; the window's length where there is none.
-fn first_misfit(g: Geometry, card: &[u8], w: Window) -> u64
+// 4: the position of the first slot of the window, counted from Tail, whose number is not below D.
+fn window_fault(g: Geometry, card: &[u8], w: Window) -> Fault
     requires { ⌜ Fitted g (now card) × WindowOf g (now card) w ⌝ }
-    ensures { λ r. ⌜ r ≡ firstMisfit g (now (card .entry)) ⌝ }
+    ensures { λ r. ⌜ r ≡ windowFault g (now (card .entry)) ⌝ }
 {
     let count = w.count;
     let mut j: u64 = 0;
     while j < count {
         if ring::window_number(g, card, w, j) >= g.disk {
-            return j;
+            return Fault::WindowNumber(ring::forward(g.slots, w.tail, j));
         }
         j += 1;
     }
-    count
+    Fault::Sound
 }
 
-// 4: Head, Tail, or the position of that slot.
+// 4: Head or Tail that is not below S, or that slot.
 fn ring_fault(g: Geometry, card: &[u8]) -> Fault
     requires { ⌜ Fitted g (now card) ⌝ }
     ensures { λ r. ⌜ r ≡ ringFault g (now (card .entry)) ⌝ }
@@ -293,13 +289,7 @@ fn ring_fault(g: Geometry, card: &[u8]) -> Fault
     if ring::tail_of(card) >= g.slots {
         return Fault::Tail;
     }
-    let w = ring::window_of(g, card);
-    let j = first_misfit(g, card, w);
-    if j < w.count {
-        Fault::WindowNumber(ring::forward(g.slots, w.tail, j))
-    } else {
-        Fault::Sound
-    }
+    window_fault(g, card, ring::window_of(g, card))
 }
 
 fn below(x: u32, n: u64) -> bool
@@ -346,40 +336,21 @@ fn entry_fault_of(n: u64, d: u64, i: u64, e: Entry) -> Fault
     Fault::Sound
 }
 
-// Whether entry i is one that check 5 allows.
-fn good_entry_at(g: Geometry, card: &[u8], i: usize) -> bool
-    requires { ⌜ Fitted g (now card) × (i < g .blocks) ⌝ }
-    ensures { λ r. ⌜ r ≡ goodEntryAt g (now (card .entry)) i ⌝ }
-{
-    codec::good_entry(g.blocks, g.disk, checks::entry_of(g, card, i))
-}
-
-// 5: the place of the first entry that check 5 forbids, N where there is none.
-fn first_bad(g: Geometry, card: &[u8]) -> usize
-    requires { ⌜ Fitted g (now card) ⌝ }
-    ensures { λ r. ⌜ r ≡ firstBad g (now (card .entry)) ⌝ }
-{
-    let n = g.blocks as usize;
-    let mut i: usize = 0;
-    while i < n {
-        if !good_entry_at(g, card, i) {
-            return i;
-        }
-        i += 1;
-    }
-    n
-}
-
-// 5: that entry's fault.
+// 5: what is wrong with the first entry that check 5 forbids.
 fn entry_fault(g: Geometry, card: &[u8]) -> Fault
     requires { ⌜ Fitted g (now card) ⌝ }
     ensures { λ r. ⌜ r ≡ entryFault g (now (card .entry)) ⌝ }
 {
-    let i = first_bad(g, card);
-    if i as u64 >= g.blocks {
-        return Fault::Sound;
+    let n = g.blocks as usize;
+    let mut i: usize = 0;
+    while i < n {
+        let e = checks::entry_of(g, card, i);
+        if !codec::good_entry(g.blocks, g.disk, e) {
+            return entry_fault_of(g.blocks, g.disk, i as u64, e);
+        }
+        i += 1;
     }
-    entry_fault_of(g.blocks, g.disk, i as u64, checks::entry_of(g, card, i))
+    Fault::Sound
 }
 
 // The settled block of entry i.
@@ -408,7 +379,8 @@ fn is_apart(g: Geometry, card: &[u8], w: Window, i: usize, j: usize) -> bool
 {
     let a = checks::entry_of(g, card, i);
     let b = checks::entry_of(g, card, j);
-    let alike = (a.number == b.number) | ((a.current == b.current) | same_settled(g, card, w, i, j));
+    let alike = (a.number == b.number)
+        | ((a.current == b.current) | same_settled(g, card, w, i, j));
     !(codec::in_use(a) & (codec::in_use(b) & alike))
 }
 
@@ -425,22 +397,6 @@ fn first_alike(g: Geometry, card: &[u8], w: Window, i: usize) -> usize
         j += 1;
     }
     i
-}
-
-// 6: the first entry that has one, N where there is none.
-fn first_paired(g: Geometry, card: &[u8], w: Window) -> usize
-    requires { ⌜ Fitted g (now card) × WindowOf g (now card) w ⌝ }
-    ensures { λ r. ⌜ r ≡ firstPaired g (now (card .entry)) ⌝ }
-{
-    let n = g.blocks as usize;
-    let mut i: usize = 0;
-    while i < n {
-        if first_alike(g, card, w, i) < i {
-            return i;
-        }
-        i += 1;
-    }
-    n
 }
 
 // 6: in which way entries i and j are alike.
@@ -462,17 +418,22 @@ fn pair_fault_of(g: Geometry, card: &[u8], w: Window, i: usize, j: usize) -> Fau
     Fault::Sound
 }
 
-// 6: the first such pair.
+// 6: the first entry that is alike to one before it, and the first such one.
 fn pair_fault(g: Geometry, card: &[u8]) -> Fault
     requires { ⌜ Fitted g (now card) × Placed g (now card) ⌝ }
     ensures { λ r. ⌜ r ≡ pairFault g (now (card .entry)) ⌝ }
 {
     let w = ring::window_of(g, card);
-    let i = first_paired(g, card, w);
-    if i as u64 >= g.blocks {
-        return Fault::Sound;
+    let n = g.blocks as usize;
+    let mut i: usize = 0;
+    while i < n {
+        let j = first_alike(g, card, w, i);
+        if j < i {
+            return pair_fault_of(g, card, w, i, j);
+        }
+        i += 1;
     }
-    pair_fault_of(g, card, w, i, first_alike(g, card, w, i))
+    Fault::Sound
 }
 
 // 4 to 6: a damaged card. A fault is searched where its check has refused.
@@ -498,12 +459,12 @@ pub fn fault_of(card: &[u8]) -> Fault
     ensures { λ r. ⌜ r ≡ faultOf (now (card .entry)) ⌝ }
 {
     let refusal = ring::fit_refusal(card);
+    if refusal == 0 {
+        return damage_fault(ring::geometry_of(card), card);
+    }
     if refusal == 1 {
-        return header_fault(card);
+        header_fault(card)
+    } else {
+        Fault::Length(codec::card_length(ring::geometry_of(card)))
     }
-    let g = ring::geometry_of(card);
-    if refusal == 2 {
-        return Fault::Length(codec::card_length(g));
-    }
-    damage_fault(g, card)
 }

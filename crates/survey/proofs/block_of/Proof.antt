@@ -1,6 +1,6 @@
 -- `block_of` answers its definition: one law for each way out.
 use Rattle.ring.proofs.Laws.{fit-long, fit-fitted}
-use Rattle.survey.proofs.Laws.{block-unfit, block-past, block-free, block-taken}
+use Rattle.survey.proofs.Laws.{block-unfit, block-past, block-there}
 use borrow.Author.Needs.{needs}
 use Rattle.survey.proofs.block_of.Statement.{statement}
 use Rattle.survey.proofs.block_of.Tie as tie
@@ -17,14 +17,11 @@ geometry-of-requires c κs = search (fit-long, needs)
 returns-2 : tie.Need-returns-2
 returns-2 c = search (block-past, needs)
 
-is-free-requires : tie.Need-is-free-requires
-is-free-requires c κs = search (fit-fitted, needs)
+block-in-requires : tie.Need-block-in-requires
+block-in-requires c κs = search (fit-fitted, needs)
 
 returns-3 : tie.Need-returns-3
-returns-3 c = search (block-free, needs)
-
-returns-4 : tie.Need-returns-4
-returns-4 c = search (block-taken, needs)
+returns-3 c = search (block-there, needs)
 
 pub block-of-spec : {M : Type 1} → statement M
 block-of-spec =
@@ -34,6 +31,5 @@ block-of-spec =
     returns
     geometry-of-requires
     returns-2
-    is-free-requires
-    returns-3
-    returns-4)
+    block-in-requires
+    returns-3)

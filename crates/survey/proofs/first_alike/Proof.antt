@@ -4,10 +4,8 @@ use mathlib.Core.Bool.{false}
 use mathlib.Core.Path.{_≡_}
 use Rattle.protocol.specs.Below.{anyBelow}
 use Rattle.protocol.specs.Check.{apart}
-use Rattle.protocol.proofs.Below.{any-more}
-use Rattle.checks.proofs.Find.{first-here, first-nowhere}
-use Rattle.survey.specs.Fault.{fails, firstAlike}
-use Rattle.survey.proofs.Named.{fails-told, holds-told}
+use Rattle.survey.specs.Fault.{fails}
+use Rattle.survey.proofs.Named.{alike-here, alike-next, alike-none}
 use borrow.Author.Needs.{needs}
 use Rattle.survey.proofs.first_alike.Statement.{statement}
 use Rattle.survey.proofs.first_alike.Tie as tie
@@ -26,8 +24,7 @@ is-apart-requires : tie.Need-is-apart-requires Inv-loop μ-loop
 is-apart-requires c κs = search needs
 
 returns : tie.Need-returns Inv-loop μ-loop
-unfolding firstAlike
-returns c = search (first-here, fails-told, needs)
+returns c = search (alike-here, needs)
 
 add-j : tie.Need-add-j Inv-loop μ-loop
 add-j c = search needs
@@ -36,11 +33,10 @@ loop-less : tie.Need-loop-less Inv-loop μ-loop
 loop-less c = search needs
 
 loop-again : tie.Need-loop-again Inv-loop μ-loop
-loop-again c = search (any-more, holds-told, needs)
+loop-again c = search (alike-next, needs)
 
 returns-2 : tie.Need-returns-2 Inv-loop μ-loop
-unfolding firstAlike
-returns-2 c = search (first-nowhere, needs)
+returns-2 c = search (alike-none, needs)
 
 pub first-alike-spec : {M : Type 1} → statement M
 first-alike-spec =

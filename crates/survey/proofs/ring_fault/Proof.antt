@@ -1,6 +1,6 @@
 -- `ring_fault` names Head, Tail or the first slot whose number is wrong: one law for each way out.
-use Rattle.ring.proofs.Laws.{fitted-long, window-on-ring}
-use Rattle.survey.proofs.Named.{head-fault, tail-fault, window-fault, window-sound}
+use Rattle.ring.proofs.Laws.{fitted-long}
+use Rattle.survey.proofs.Named.{head-fault, tail-fault, ring-told}
 use borrow.Author.Needs.{needs}
 use Rattle.survey.proofs.ring_fault.Statement.{statement}
 use Rattle.survey.proofs.ring_fault.Tie as tie
@@ -20,17 +20,11 @@ returns-2 c = search (tail-fault, needs)
 window-of-requires : tie.Need-window-of-requires
 window-of-requires c κs = search needs
 
-first-misfit-requires : tie.Need-first-misfit-requires
-first-misfit-requires c κs = search needs
-
-forward-requires : tie.Need-forward-requires
-forward-requires c κs = let w = c .before .before .before in window-on-ring _ _ _ _ (search needs) (w .window-of .ensures) (c .if3 .taken)
+window-fault-requires : tie.Need-window-fault-requires
+window-fault-requires c κs = search needs
 
 returns-3 : tie.Need-returns-3
-returns-3 c = search (window-fault, needs)
-
-returns-4 : tie.Need-returns-4
-returns-4 c = search (window-sound, needs)
+returns-3 c = search (ring-told, needs)
 
 pub ring-fault-spec : {M : Type 1} → statement M
 ring-fault-spec =
@@ -41,7 +35,5 @@ ring-fault-spec =
     tail-of-requires
     returns-2
     window-of-requires
-    first-misfit-requires
-    forward-requires
-    returns-3
-    returns-4)
+    window-fault-requires
+    returns-3)
