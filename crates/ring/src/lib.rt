@@ -54,7 +54,7 @@ fn good_header(card: &[u8]) -> bool
     long & (version & (codec::good_geometry(geometry_of(card)) & zeros(card, 16, 48)))
 }
 
-fn header_fits(card: &[u8]) -> bool
+pub fn header_fits(card: &[u8]) -> bool
     ensures { λ r. ⌜ r ≡ headerFits (now (card .entry)) ⌝ }
 {
     if card.len() < 128 {
@@ -133,7 +133,7 @@ pub fn window_of(g: Geometry, card: &[u8]) -> Window
 }
 
 // The slot j places forward from `tail`, going round at s.
-fn forward(s: u64, tail: u64, j: u64) -> u64
+pub fn forward(s: u64, tail: u64, j: u64) -> u64
     requires { ⌜ (tail < s) × (j < s) × (s ≤ 256) ⌝ }
     ensures { λ r. ⌜ (r ≡ around s tail j) × (r < s) ⌝ }
 {
@@ -142,7 +142,7 @@ fn forward(s: u64, tail: u64, j: u64) -> u64
 }
 
 // The number in the window's slot j, counted from Tail.
-fn window_number(g: Geometry, card: &[u8], w: Window, j: u64) -> u64
+pub fn window_number(g: Geometry, card: &[u8], w: Window, j: u64) -> u64
     requires { ⌜ Fitted g (now card) × WindowOf g (now card) w × (j < w .count) ⌝ }
     ensures { λ r. ⌜ r ≡ windowNumber g (now (card .entry)) j ⌝ }
 {

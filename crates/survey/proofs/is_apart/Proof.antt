@@ -1,0 +1,37 @@
+-- `is_apart` answers its definition, from the two entries that were read.
+use Rattle.protocol.specs.Ring.{usedAt}
+use Rattle.protocol.specs.Check.{alike, apart}
+use Rattle.survey.specs.Fault.{sameSettled}
+use borrow.Author.Needs.{needs}
+use Rattle.survey.proofs.is_apart.Statement.{statement}
+use Rattle.survey.proofs.is_apart.Tie as tie
+
+entry-of-requires : tie.Need-entry-of-requires
+entry-of-requires c κs = search needs
+
+entry-of-requires-2 : tie.Need-entry-of-requires-2
+entry-of-requires-2 c κs = search needs
+
+same-settled-requires : tie.Need-same-settled-requires
+same-settled-requires c κs = search needs
+
+in-use-requires : tie.Need-in-use-requires
+in-use-requires c κs = search needs
+
+in-use-requires-2 : tie.Need-in-use-requires-2
+in-use-requires-2 c κs = search needs
+
+returns : tie.Need-returns
+unfolding apart alike usedAt sameSettled
+returns c = cc
+
+pub is-apart-spec : {M : Type 1} → statement M
+is-apart-spec =
+    tie.close
+    (tie.spec
+    entry-of-requires
+    entry-of-requires-2
+    same-settled-requires
+    in-use-requires
+    in-use-requires-2
+    returns)

@@ -1,0 +1,23 @@
+-- `settled_block` answers its definition, from the entry that was read.
+use Rattle.protocol.specs.Ring.{usedAt, undoableAt, settledBlock}
+use Rattle.checks.specs.Keys.{undoableEntry}
+use borrow.Author.Needs.{needs}
+use Rattle.survey.proofs.settled_block.Statement.{statement}
+use Rattle.survey.proofs.settled_block.Tie as tie
+
+entry-of-requires : tie.Need-entry-of-requires
+entry-of-requires c κs = search needs
+
+undoable-requires : tie.Need-undoable-requires
+undoable-requires c κs = search needs
+
+settled-requires : tie.Need-settled-requires
+settled-requires c κs = search needs
+
+returns : tie.Need-returns
+unfolding settledBlock undoableAt usedAt undoableEntry
+returns c = cc
+
+pub settled-block-spec : {M : Type 1} → statement M
+settled-block-spec =
+    tie.close (tie.spec entry-of-requires undoable-requires settled-requires returns)
