@@ -10,6 +10,7 @@ use lib.ListN.{length, take}
 use lib.Seq.{take-all, length-take-le, getD-take}
 use Rattle.numbers.specs.Bytes.{be, part, numberAt}
 use Rattle.numbers.proofs.Laws.{part-part}
+use Rattle.protocol.specs.declared.Geometry.{Geometry}
 use Rattle.protocol.specs.Below.{allBelow}
 use Rattle.protocol.specs.Layout.{goodGeometry, cardLength, geometryOf, zeroFrom, goodHeader}
 use Rattle.protocol.specs.Check.{headerFits, fitRefusal}
@@ -20,9 +21,9 @@ use Rattle.ring.proofs.Laws.{header-end, header-geometry, fit-header, fit-lengt
 use Rattle.image.specs.Front.{readFront}
 
 -- no card is longer
-largest : (c : List ℕ) → goodGeometry (geometryOf c) ≡ true → cardLength (geometryOf c) ≤ 528512
+pub largest : (g : Geometry) → goodGeometry g ≡ true → cardLength g ≤ 528512
 unfolding cardLength
-largest c h = let l = limits (geometryOf c) h in omega arith
+largest g h = let l = limits g h in omega arith
 
 -- so a longer row is refused, by its header alone
 too-long : (c : List ℕ) → 528512 < length c → fitRefusal c ≡ cond (goodHeader c) 2 1
@@ -31,7 +32,7 @@ too-long c l = go (goodHeader c) refl
     go : (b : Bool) → goodHeader c ≡ b → fitRefusal c ≡ cond b 2 1
     go true e =
         let h : true ≡ headerFits c = header-end c true (omega arith) (sym e) in
-        let m = largest c (header-geometry c true (geometryOf c) h refl refl) in
+        let m = largest (geometryOf c) (header-geometry c true (geometryOf c) h refl refl) in
         sym (fit-length c true (geometryOf c) (cardLength (geometryOf c)) h refl refl refl (λ q. omega arith))
     go false e = sym (fit-header c false (header-end c false (omega arith) (sym e)) refl)
 
@@ -72,7 +73,7 @@ pub front-whole : (f : List ℕ) → fitRefusal f ≡ 0 → readFront f ≡ f
 unfolding readFront
 front-whole f z =
     let u = fit-fitted f (geometryOf f) (fitRefusal f) refl z refl in
-    take-all 528513 f (omega (arith, largest f (u .good)))
+    take-all 528513 f (omega (arith, largest (geometryOf f) (u .good)))
 
 -- every answer that starts from checks 1 and 2 is the same
 pub front-same : {A : Type 0} (answer : List ℕ → A) (refused : ℕ → A)

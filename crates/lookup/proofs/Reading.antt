@@ -5,7 +5,7 @@ use mathlib.Core.Bool.{Bool, true, false, cond}
 use mathlib.Core.Path.{_≡_, refl, sym, ap, subst, _∙_}
 use mathlib.Core.Logic.{_⊎_, inl, inr}
 use native.Mathlib.Omega.{arith}
-use lib.ListN.{length, take, drop}
+use lib.ListN.{length, take, drop, replicate, length-replicate}
 use lib.Dec.{eqb, ltb}
 use borrow.Author.Tests.{eqb-true, eqb-false, eq-eqb, ne-eqb, ltb-true, ltb-false, lt-ltb, le-ltb}
 use Rattle.numbers.specs.Bytes.{part, patch}
@@ -21,14 +21,15 @@ use Rattle.protocol.specs.Load.{pairRefusal, blockRefusal}
 use Rattle.protocol.specs.Read.{outputRefusal, readRefusal, heldBy, outputAfter, lookRefusal, lookedAt}
 use Rattle.protocol.proofs.Allowed.{used-entry}
 use Rattle.protocol.proofs.Below.{either, all-at}
-use Rattle.protocol.proofs.Checks.{orElse-first}
+use Rattle.protocol.proofs.Checks.{orElse-first, Limits, limits}
 use Rattle.protocol.proofs.Loaded.{cached-entry}
 use Rattle.protocol.proofs.Made.{in-disk}
 use Rattle.protocol.proofs.Passed.{first-zero, second-zero, passed}
 use Rattle.protocol.proofs.Region.{block, in-card, place-block}
 use Rattle.lookup.specs.declared.Found.{Found}
 use Rattle.lookup.specs.declared.Found.the-variants.{Refused, Outside, Card, Disk}
-use Rattle.lookup.specs.Place.{placeIn, foundBy, foundAt, fetchedAt, Copied}
+use Rattle.lookup.specs.Place.{placeIn, foundBy, foundIn, foundAt, fetchedAt, Copied}
+use Rattle.lookup.proofs.Laws.{fit-good, find-by-length}
 
 -- ---- where it is
 
@@ -60,6 +61,10 @@ module _ (c d : List ℕ) (z : pairRefusal c d ≡ 0) where
   card-long : length c ≡ cardLength (G c)
   unfolding pairRefusal fitRefusal cardFits
   card-long = eqb-true _ _ (passed 1 _ (second-zero (refuse 1 _) _ (first-zero (fitRefusal c) _ z)))
+
+  fits-first : fitRefusal c ≡ 0
+  unfolding pairRefusal
+  fits-first = first-zero (fitRefusal c) _ z
 
   disk-long : length d ≡ diskLength (G c)
   unfolding pairRefusal diskRefusal diskFits
@@ -105,17 +110,23 @@ module _ (c d : List ℕ) (b : ℕ) where
           omega (arith, current-within c d z b k)
       go (in-home p z l k) = let w : _≡_ {A = ℕ} 0 1 = cc in absurd (omega arith)
 
-  pub disk-part : (at n : ℕ) → Disk at n ≡ foundAt c d b → at + n ≤ length d
-  disk-part at n e = go (where-is c d b (Disk at n) e)
+  disk-within : (at n : ℕ) → Disk at n ≡ foundAt c d b → (at + n ≤ length d) × (n ≤ 4096) × (at < 268435456)
+  unfolding diskLength
+  disk-within at n e = go (where-is c d b (Disk at n) e)
     where
-      go : Where c d b (Disk at n) → at + n ≤ length d
+      go : Where c d b (Disk at n) → (at + n ≤ length d) × (n ≤ 4096) × (at < 268435456)
       go (in-none p z) = let w : _≡_ {A = ℕ} 0 1 = cc in absurd (omega arith)
       go (in-nothing p z l) = let w : _≡_ {A = ℕ} 0 1 = cc in absurd (omega arith)
       go (in-cache p z l k) = let w : _≡_ {A = ℕ} 0 1 = cc in absurd (omega arith)
       go (in-home p z l k) =
           let ea : at ≡ diskPlace (G c) b = cc in
           let en : n ≡ blockSize (G c) = cc in
-          omega (arith, home-within c d z b l)
+          let inside : at + n ≤ length d = omega (arith, home-within c d z b l) in
+          let m : Limits (G c) = limits (G c) (fit-good c (G c) (fitRefusal c) refl (fits-first c d z) refl) in
+          (inside, omega arith, omega (arith, disk-long c d z))
+
+  pub disk-part : (at n : ℕ) → Disk at n ≡ foundAt c d b → at + n ≤ length d
+  disk-part at n e = disk-within at n e .0
 
   card-looked : (at n : ℕ) → Card at n ≡ foundAt c d b → part c at n ≡ lookedAt c d b
   unfolding lookedAt contents blockAt
@@ -362,3 +373,15 @@ module _ (c d : List ℕ) (b : ℕ) (out : List ℕ) where
       (λ z y f. let w : Outside n ≡ Card (blockPlace (G c) (currentOf (G c) c b)) (blockSize (G c)) = f ∙ rw y in let x : _≡_ {A = ℕ} 0 1 = cc in absurd (omega arith))
       (λ z y f. let w : Outside n ≡ Disk (diskPlace (G c) b) (blockSize (G c)) = f ∙ rw y in let x : _≡_ {A = ℕ} 0 1 = cc in absurd (omega arith))
       (λ f. let x : _≡_ {A = ℕ} 0 1 = cc in absurd (omega arith)) e
+
+-- ---- of a disk that is known by its length
+
+module _ (c : List ℕ) (n b at size : ℕ) where
+  of-length : (f : Found) → f ≡ foundIn c n b → f ≡ foundAt c (replicate n 0) b
+  of-length f e = e ∙ ap (λ (m : ℕ). foundIn c m b) (sym (length-replicate n 0)) ∙ find-by-length c (replicate n 0) b
+
+  pub card-part-in : Card at size ≡ foundIn c n b → at + size ≤ length c
+  card-part-in e = card-part c (replicate n 0) b at size (of-length _ e)
+
+  pub disk-part-in : Disk at size ≡ foundIn c n b → (size ≤ 4096) × (at < 268435456)
+  disk-part-in e = let w = disk-within c (replicate n 0) b at size (of-length _ e) in (w .1, w .2)

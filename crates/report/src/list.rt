@@ -1,7 +1,7 @@
 // A block's bytes, and recovery's list.
+use crate::marks::plain;
+use crate::marks::say;
 use libc::STDOUT_FILENO;
-use marks::plain;
-use marks::say;
 use protocol::Entry;
 use protocol::Geometry;
 use recovery::Spelled;
@@ -28,7 +28,7 @@ fn sixteen(bytes: &[u8], at: usize) -> [u8; 16]
 // A listing of bytes, sixteen a line. A block has a multiple of sixteen.
 pub fn block(bytes: &[u8]) {
     let mut at: usize = 0;
-    while at + 16 <= bytes.len() {
+    while 16 <= bytes.len() - at {
         let line = sixteen(bytes, at);
         let marks = text::list_line(&line, at as u64);
         say(STDOUT_FILENO, &marks);
@@ -75,15 +75,11 @@ fn line(number: u64, i: u64, u: Step, s: Spelled) {
     meaning(i, u);
 }
 
-// Recovery's list, a line for each store, and their count.
-pub fn stores(g: Geometry, card: &[u8], w: Window) -> u64
+// A line for each store of recovery's list, and their count.
+fn lines(g: Geometry, card: &[u8], w: Window) -> u64
     requires { ⌜ Fitted g (now card) × WindowOf g (now card) w ⌝ }
     ensures { λ r. ⌜ r ≡ length (flat (recoverRuns g (now (card .entry)))) ⌝ }
 {
-    say(
-        STDOUT_FILENO,
-        b"  store   byte  bytes                             what\n",
-    );
     let n = g.blocks as usize;
     let mut count: u64 = 0;
     let mut i: usize = 0;
@@ -98,4 +94,16 @@ pub fn stores(g: Geometry, card: &[u8], w: Window) -> u64
         }
     }
     count
+}
+
+// Recovery's list under a heading, and the count of its stores.
+pub fn stores(g: Geometry, card: &[u8], w: Window) -> u64
+    requires { ⌜ Fitted g (now card) × WindowOf g (now card) w ⌝ }
+    ensures { λ r. ⌜ r ≡ length (flat (recoverRuns g (now (card .entry)))) ⌝ }
+{
+    say(
+        STDOUT_FILENO,
+        b"  store   byte  bytes                             what\n",
+    );
+    lines(g, card, w)
 }

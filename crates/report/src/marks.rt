@@ -1,13 +1,27 @@
 // Text and numbers, in columns.
+ghost use mathlib.Core.Path.{_≡_};
+ghost use Prim.Native.Nat.{_-_, _≤_, min};
+
 pub fn say(fd: i32, s: &[u8]) {
     io::write_all(fd, s);
 }
 
-// The last `width` columns of a field, and more where its text is longer.
+// Where a text of `width` columns at the right end of a field starts, or earlier where the text is longer.
+fn start(blank: usize, width: usize) -> usize
+    ensures { λ r. ⌜ (r ≡ min blank (26 - width)) × (r ≤ 26) ⌝ }
+{
+    if 26 <= width {
+        return 0;
+    }
+    if blank < 26 - width {
+        blank
+    } else {
+        26 - width
+    }
+}
+
 fn column(fd: i32, field: [u8; 26], width: usize) {
-    let blank = text::blank(&field);
-    let skip = if width < 26 { 26 - width } else { 0 };
-    let from = if blank < skip { blank } else { skip };
+    let from = start(text::blank(&field), width);
     io::write_all(fd, &field[from..26]);
 }
 

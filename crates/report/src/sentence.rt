@@ -1,6 +1,7 @@
 // What is wrong with a refused card, and who can cause it.
-use marks::plain;
-use marks::say;
+use crate::marks::count;
+use crate::marks::plain;
+use crate::marks::say;
 use survey::Fault;
 
 fn lead(fd: i32, number: u8) {
@@ -60,7 +61,7 @@ fn entries(fd: i32, f: Fault) {
 
 fn long(fd: i32, n: u64) {
     say(fd, b"the header asks for a card of ");
-    marks::count(fd, n, 0);
+    count(fd, n, 0);
     say(fd, b" bytes");
 }
 
@@ -93,9 +94,8 @@ fn header(fd: i32, f: Fault) {
     }
 }
 
-// A fault of the card, in one line.
-pub fn fault(fd: i32, f: Fault) {
-    let number = survey::refusal_of(f);
+// A refusal with its number and the fault behind it, in one line.
+pub fn fault(fd: i32, number: u8, f: Fault) {
     lead(fd, number);
     header(fd, f);
     cause(fd, number);

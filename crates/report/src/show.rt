@@ -1,14 +1,14 @@
 // A card as it stands, on standard output: as much of it as can be told.
+use crate::marks::count;
+use crate::marks::plain;
+use crate::marks::say;
+use crate::sentence::fault;
 use libc::STDOUT_FILENO;
-use marks::count;
-use marks::plain;
-use marks::say;
 use protocol::Condition;
 use protocol::Entry;
 use protocol::FRESH;
 use protocol::Reported;
 use survey::Block;
-use survey::Fault;
 use survey::Field;
 use survey::Line;
 use survey::Slot;
@@ -38,20 +38,25 @@ fn header(card: &[u8]) {
     field(b"  Tail     ", survey::field_in(card, 72, 8));
 }
 
-fn slot(p: u64, n: u64) {
-    plain(STDOUT_FILENO, p, 6);
-    plain(STDOUT_FILENO, n, 8);
-    out(b"\n");
+// One slot of the window, and whether there was one.
+fn slot(card: &[u8], j: u64) -> bool {
+    match survey::slot_of(card, j) {
+        Slot::At(p, n) => {
+            plain(STDOUT_FILENO, p, 6);
+            plain(STDOUT_FILENO, n, 8);
+            out(b"\n");
+            true
+        }
+        Slot::Missing => false,
+    }
 }
 
 // The window's slots, from Tail on.
 fn window(card: &[u8]) {
-    out(b"\nwindow\n  slot  number\n");
     let mut j: u64 = 0;
     while j < 256 {
-        match survey::slot_of(card, j) {
-            Slot::At(p, n) => slot(p, n),
-            Slot::Missing => return,
+        if !slot(card, j) {
+            return;
         }
         j += 1;
     }
@@ -111,43 +116,57 @@ fn known(undoable: bool, settled: u32) {
     data_block(settled, b"      none");
 }
 
+// One entry that is not all zero, and whether the card reaches so far.
+fn line(card: &[u8], i: u64) -> bool {
+    match survey::line_of(card, i) {
+        Line::Missing => false,
+        Line::Unused => true,
+        Line::Raw(e) => {
+            fields(i, e);
+            out(b"\n");
+            true
+        }
+        Line::Full(e, undoable, settled) => {
+            fields(i, e);
+            known(undoable, settled);
+            out(b"\n");
+            true
+        }
+    }
+}
+
 // Every entry that is not all zero.
 fn entries(card: &[u8]) {
-    out(
-        b"\nentries\n  place  bytes                               flags  number  previous  current  undoable   settled\n",
-    );
     let mut i: u64 = 0;
     while i < 128 {
-        match survey::line_of(card, i) {
-            Line::Missing => return,
-            Line::Unused => {}
-            Line::Raw(e) => {
-                fields(i, e);
-                out(b"\n");
-            }
-            Line::Full(e, undoable, settled) => {
-                fields(i, e);
-                known(undoable, settled);
-                out(b"\n");
-            }
+        if !line(card, i) {
+            return;
         }
         i += 1;
     }
 }
 
+// One data block if it is free, and whether the card has it.
+fn free_block(card: &[u8], p: u64) -> bool {
+    match survey::block_of(card, p) {
+        Block::Missing => false,
+        Block::Taken => true,
+        Block::Free => {
+            plain(STDOUT_FILENO, p, 4);
+            true
+        }
+    }
+}
+
 // The free data blocks, in ascending order.
 fn free(card: &[u8]) {
-    out(b"\nfree data blocks\n ");
     let mut p: u64 = 0;
     while p < 128 {
-        match survey::block_of(card, p) {
-            Block::Free => plain(STDOUT_FILENO, p, 4),
-            Block::Taken => {}
-            Block::Missing => {}
+        if !free_block(card, p) {
+            return;
         }
         p += 1;
     }
-    out(b"\n");
 }
 
 fn told(c: Condition) {
@@ -168,7 +187,7 @@ fn told(c: Condition) {
     out(b"\n");
 }
 
-// The card's condition; nothing of a refused card.
+// The card's condition in one line, or why it is refused.
 pub fn condition(card: &[u8]) {
     match lookup::state(card) {
         Reported::Is(s) => {
@@ -176,12 +195,8 @@ pub fn condition(card: &[u8]) {
             out(b"condition  ");
             told(c);
         }
-        Reported::Refused(_) => {}
+        Reported::Refused(r) => fault(STDOUT_FILENO, r, survey::fault_of(card)),
     }
-}
-
-fn is_sound(f: Fault) -> bool {
-    survey::refusal_of(f) == 0
 }
 
 // All that can be told of the card.
@@ -192,17 +207,15 @@ pub fn card(name: &[u8], card: &[u8]) {
     out(b" bytes\n");
     header(card);
     if survey::ring_known(card) {
+        out(b"\nwindow\n  slot  number\n");
         window(card);
     }
-    let f = survey::fault_of(card);
-    if survey::refusal_of(f) != 1 {
-        entries(card);
-    }
-    out(b"\n");
-    if is_sound(f) {
-        free(card);
-        condition(card);
-    } else {
-        sentence::fault(STDOUT_FILENO, f);
-    }
+    out(
+        b"\nentries\n  place  bytes                               flags  number  previous  current  undoable   settled\n",
+    );
+    entries(card);
+    out(b"\nfree data blocks\n ");
+    free(card);
+    out(b"\n\n");
+    condition(card);
 }

@@ -98,7 +98,7 @@ pub fn field_in(card: &[u8], at: usize, width: usize) -> Field
 }
 
 // Whether the window is defined: checks 1 and 2 pass, Head and Tail are below S.
-fn ring_known(card: &[u8]) -> bool
+pub fn ring_known(card: &[u8]) -> bool
     ensures { λ r. ⌜ r ≡ ringKnown (now (card .entry)) ⌝ }
 {
     if ring::fit_refusal(card) != 0 {
@@ -220,7 +220,7 @@ pub fn block_of(card: &[u8], p: u64) -> Block
 }
 
 // 1: the first of k, S, N and D that is outside its limits.
-fn geometry_fault(g: Geometry) -> Fault
+pub fn geometry_fault(g: Geometry) -> Fault
     ensures { λ r. ⌜ r ≡ geometryFault g ⌝ }
 {
     if !codec::good_k(g.k) {

@@ -1,0 +1,226 @@
+// The commands on their files.
+use image::Got;
+use image::Repair;
+use libc::STDERR_FILENO;
+use libc::STDOUT_FILENO;
+use lookup::Found;
+use protocol::Geometry;
+use protocol::Outcome;
+use report::count;
+use report::say;
+ghost use mathlib.Core.Bool.{true};
+ghost use Prim.Native.Nat.{_≤_, _<_};
+ghost use lib.ListN.{length};
+ghost use Rattle.io.specs.Counts.{Counts};
+
+fn err(s: &[u8]) {
+    say(STDERR_FILENO, s);
+}
+
+// Reads the file behind fd, and says what went wrong.
+fn load(path: &[u8], fd: i32, buf: &mut [u8]) -> Got
+    ensures { λ r. ⌜ Counts (r .count) (now (buf .exit)) ⌝ }
+{
+    let got = image::read(fd, buf);
+    if got.failed {
+        os::fail(path);
+    }
+    got
+}
+
+// Says so where no card has this length.
+fn is_long_enough(path: &[u8], n: usize) -> bool {
+    if (2304 <= n) & (n <= 528512) {
+        return true;
+    }
+    err(path);
+    if n < 2304 {
+        err(b": ");
+        count(STDERR_FILENO, n as u64, 0);
+        err(b" bytes, and the smallest card has 2,304\n");
+    } else {
+        err(b": longer than the largest card, which has 528,512 bytes\n");
+    }
+    false
+}
+
+// A refusal on standard error: the card's fault, or what lies with the disk, an earlier cut or the number asked for.
+fn refuse(card: &[u8], r: u8) {
+    if (r == 3) | (7 <= r) {
+        report::refusal(STDERR_FILENO, r);
+    } else {
+        report::fault(STDERR_FILENO, r, survey::fault_of(card));
+    }
+}
+
+pub fn show(path: &[u8]) {
+    let fd = os::open_read(path);
+    if fd < 0 {
+        os::fail(path);
+        return;
+    }
+    let mut buf = image::buffer();
+    let got = load(path, fd, &mut buf);
+    libc::close(fd);
+    if got.failed {
+        return;
+    }
+    let n = got.count;
+    is_long_enough(path, n);
+    report::card(path, &buf[..n]);
+}
+
+// "block 3, held by the card from byte 256 on"
+fn held(b: u64, by: &[u8], at: usize) {
+    say(STDOUT_FILENO, b"block ");
+    report::plain(STDOUT_FILENO, b, 0);
+    say(STDOUT_FILENO, b", held by the ");
+    say(STDOUT_FILENO, by);
+    say(STDOUT_FILENO, b" from byte ");
+    count(STDOUT_FILENO, at as u64, 0);
+    say(STDOUT_FILENO, b" on\n");
+}
+
+// A block of the disk, read from its file.
+fn from_disk(path: &[u8], fd: i32, b: u64, at: usize, size: usize)
+    requires { ⌜ (size ≤ 4096) × (at < 268435456) ⌝ }
+{
+    let mut room = io::buffer();
+    let bytes = &mut room[..size];
+    if libc::pread(fd, bytes, at as i64) != size as isize {
+        os::fail(path);
+        return;
+    }
+    held(b, b"disk", at);
+    report::block(bytes);
+}
+
+// Where block b of the card over a disk of `long` bytes lies, and its bytes.
+fn find(card: &[u8], path: &[u8], fd: i32, long: u64, b: u64) {
+    match lookup::find_in(card, long, b) {
+        Found::Refused(r) => refuse(card, r),
+        Found::Outside(_) => refuse(card, 10),
+        Found::Card(at, size) => {
+            held(b, b"card", at);
+            report::block(&card[at..at + size]);
+        }
+        Found::Disk(at, size) => from_disk(path, fd, b, at, size),
+    }
+}
+
+// A length that is not negative, as the number it is; 0 for any other.
+fn natural(x: i64) -> u64 {
+    if x < 0 {
+        return 0;
+    }
+    x as u64
+}
+
+// The block of a card that was read, over the disk's file.
+fn over_disk(card: &[u8], path: &[u8], b: u64) {
+    let fd = os::open_read(path);
+    if fd < 0 {
+        os::fail(path);
+        return;
+    }
+    let long = libc::lseek(fd, 0, libc::SEEK_END);
+    if long < 0 {
+        os::fail(path);
+    } else {
+        find(card, path, fd, natural(long), b);
+    }
+    libc::close(fd);
+}
+
+pub fn block(path: &[u8], disk: &[u8], b: u64) {
+    let fd = os::open_read(path);
+    if fd < 0 {
+        os::fail(path);
+        return;
+    }
+    let mut buf = image::buffer();
+    let got = load(path, fd, &mut buf);
+    libc::close(fd);
+    if got.failed {
+        return;
+    }
+    let n = got.count;
+    if is_long_enough(path, n) {
+        over_disk(&buf[..n], disk, b);
+    }
+}
+
+// What became of a recovery's stores.
+fn told(path: &[u8], r: Repair) {
+    if r.failed {
+        os::fail(path);
+    }
+    count(STDOUT_FILENO, r.made, 0);
+    say(STDOUT_FILENO, b" of ");
+    count(STDOUT_FILENO, r.count, 0);
+    if r.failed {
+        say(STDOUT_FILENO, b" stores made: failed\n");
+    } else if r.made < r.count {
+        say(STDOUT_FILENO, b" stores made: cut\n");
+    } else {
+        say(STDOUT_FILENO, b" stores made: done\n");
+    }
+}
+
+// Lists recovery's stores, makes them, and tells the condition of the card as the file now has it.
+fn repair(path: &[u8], fd: i32, card: &mut [u8], allowance: u64) {
+    let s = recovery::examine(card);
+    if s.refusal != 0 {
+        refuse(card, s.refusal);
+        return;
+    }
+    say(STDOUT_FILENO, b"recovery stores\n");
+    report::stores(s.geometry, card, s.window);
+    let r = image::recover(fd, card, allowance);
+    told(path, r);
+    libc::lseek(fd, 0, libc::SEEK_SET);
+    load(path, fd, card);
+    report::condition(card);
+}
+
+pub fn recover(path: &[u8], allowance: u64) {
+    let fd = os::open_update(path);
+    if fd < 0 {
+        os::fail(path);
+        return;
+    }
+    let mut buf = image::buffer();
+    let got = load(path, fd, &mut buf);
+    let n = got.count;
+    if !got.failed {
+        if is_long_enough(path, n) {
+            repair(path, fd, &mut buf[..n], allowance);
+        }
+    }
+    libc::close(fd);
+}
+
+// Formats the card and makes its file.
+fn make(path: &[u8], g: Geometry, card: &mut [u8]) {
+    match format::format(g.k, g.slots, g.blocks, g.disk, card) {
+        Outcome::Done => {
+            if image::create(path, card) {
+                say(STDOUT_FILENO, path);
+                say(STDOUT_FILENO, b": made, ");
+                count(STDOUT_FILENO, card.len() as u64, 0);
+                say(STDOUT_FILENO, b" bytes\n");
+            }
+        }
+        Outcome::Refused(r) => refuse(card, r),
+    }
+}
+
+pub fn format(path: &[u8], g: Geometry) {
+    if !codec::good_geometry(g) {
+        report::fault(STDERR_FILENO, 1, survey::geometry_fault(g));
+        return;
+    }
+    let mut buf = image::buffer();
+    let long = codec::card_length(g) as usize;
+    make(path, g, &mut buf[..long]);
+}

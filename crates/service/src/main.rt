@@ -1,0 +1,35 @@
+// Shows a card image, reads a block of it, recovers it, makes a new one. Files, arguments and their errors are here; what is told and stored
+// comes from functions with contracts.
+mod files;
+mod words;
+
+use libc::STDERR_FILENO;
+use words::Word;
+
+fn usage() {
+    report::say(STDERR_FILENO, b"usage: service show CARD\n");
+    report::say(STDERR_FILENO, b"       service block CARD DISK NUMBER\n");
+    report::say(STDERR_FILENO, b"       service recover CARD [ALLOWANCE]\n");
+    report::say(STDERR_FILENO, b"       service format CARD K S N D\n");
+    report::say(
+        STDERR_FILENO,
+        b"example: service format card.img 9 8 4 16\n",
+    );
+}
+
+// Whether the command has as many words behind it as it takes, and did its work.
+fn run(word: Word, count: usize) -> bool {
+    match word {
+        Word::Show => (count == 3) && words::show(),
+        Word::Block => (count == 5) && words::block(),
+        Word::Recover => (count == 3 || count == 4) && words::recover(count),
+        Word::Format => (count == 7) && words::format(),
+        Word::Other => false,
+    }
+}
+
+fn main() {
+    if !run(words::command(), os::arg_count()) {
+        usage();
+    }
+}
