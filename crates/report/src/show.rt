@@ -9,6 +9,7 @@ use protocol::Entry;
 use protocol::FRESH;
 use protocol::Reported;
 use survey::Block;
+use survey::Fault;
 use survey::Field;
 use survey::Line;
 use survey::Slot;
@@ -26,11 +27,27 @@ fn field(name: &[u8], f: Field) {
     out(b"\n");
 }
 
+// B, where k is one that it can be told from.
+fn block_size(k: Field) -> Field {
+    match k {
+        Field::Is(n) => match n {
+            9 => Field::Is(512),
+            10 => Field::Is(1024),
+            11 => Field::Is(2048),
+            12 => Field::Is(4096),
+            _ => Field::Missing,
+        },
+        Field::Missing => Field::Missing,
+    }
+}
+
 fn header(card: &[u8]) {
+    let k = survey::field_in(card, 5, 1);
     out(b"\nheader\n");
     field(b"  length   ", survey::field_in(card, 0, 4));
     field(b"  version  ", survey::field_in(card, 4, 1));
-    field(b"  k        ", survey::field_in(card, 5, 1));
+    field(b"  k        ", k);
+    field(b"  B        ", block_size(k));
     field(b"  S        ", survey::field_in(card, 6, 2));
     field(b"  N        ", survey::field_in(card, 8, 4));
     field(b"  D        ", survey::field_in(card, 12, 4));
@@ -51,15 +68,16 @@ fn slot(card: &[u8], j: u64) -> bool {
     }
 }
 
-// The window's slots, from Tail on.
-fn window(card: &[u8]) {
+// The window's slots, from Tail on, and whether there are any.
+fn window(card: &[u8]) -> bool {
     let mut j: u64 = 0;
     while j < 256 {
         if !slot(card, j) {
-            return;
+            return j != 0;
         }
         j += 1;
     }
+    true
 }
 
 // An entry's bytes as document 01 writes them: flag byte and number, previous, current.
@@ -116,57 +134,80 @@ fn known(undoable: bool, settled: u32) {
     data_block(settled, b"      none");
 }
 
-// One entry that is not all zero, and whether the card reaches so far.
-fn line(card: &[u8], i: u64) -> bool {
+// What was printed of an entry or a data block: nothing, since the card has no such one; nothing; a line or a number.
+enum Shown {
+    Past,
+    Nothing,
+    Something,
+}
+
+fn line(card: &[u8], i: u64) -> Shown {
     match survey::line_of(card, i) {
-        Line::Missing => false,
-        Line::Unused => true,
+        Line::Missing => Shown::Past,
+        Line::Unused => Shown::Nothing,
         Line::Raw(e) => {
             fields(i, e);
             out(b"\n");
-            true
+            Shown::Something
         }
         Line::Full(e, undoable, settled) => {
             fields(i, e);
             known(undoable, settled);
             out(b"\n");
-            true
+            Shown::Something
         }
     }
 }
 
-// Every entry that is not all zero.
-fn entries(card: &[u8]) {
-    let mut i: u64 = 0;
-    while i < 128 {
-        if !line(card, i) {
-            return;
-        }
-        i += 1;
-    }
-}
-
-// One data block if it is free, and whether the card has it.
-fn free_block(card: &[u8], p: u64) -> bool {
+fn free_block(card: &[u8], p: u64) -> Shown {
     match survey::block_of(card, p) {
-        Block::Missing => false,
-        Block::Taken => true,
+        Block::Missing => Shown::Past,
+        Block::Taken => Shown::Nothing,
         Block::Free => {
             plain(STDOUT_FILENO, p, 4);
-            true
+            Shown::Something
         }
     }
 }
 
-// The free data blocks, in ascending order.
-fn free(card: &[u8]) {
-    let mut p: u64 = 0;
-    while p < 128 {
-        if !free_block(card, p) {
-            return;
-        }
-        p += 1;
+// One of the two, by what is asked for.
+fn one(card: &[u8], blocks: bool, i: u64) -> Shown {
+    if blocks {
+        free_block(card, i)
+    } else {
+        line(card, i)
     }
+}
+
+fn is_past(s: Shown) -> bool {
+    match s {
+        Shown::Past => true,
+        Shown::Nothing => false,
+        Shown::Something => false,
+    }
+}
+
+fn is_something(s: Shown) -> bool {
+    match s {
+        Shown::Past => false,
+        Shown::Nothing => false,
+        Shown::Something => true,
+    }
+}
+
+// Every entry that is not all zero, or every free data block, and whether there are any.
+fn all(card: &[u8], blocks: bool) -> bool {
+    let mut any = false;
+    let mut i: u64 = 0;
+    while i < 128 {
+        let s = one(card, blocks, i);
+        i += 1;
+        if is_past(s) {
+            return any;
+        }
+        any = any | is_something(s);
+    }
+    any
 }
 
 fn told(c: Condition) {
@@ -199,6 +240,45 @@ pub fn condition(card: &[u8]) {
     }
 }
 
+fn ring(card: &[u8]) {
+    out(b"\nwindow\n  slot  number\n");
+    if !window(card) {
+        out(b"  empty\n");
+    }
+}
+
+fn entries(card: &[u8]) {
+    out(
+        b"\nentries\n  place  bytes                               flags  number  previous  current  undoable   settled\n",
+    );
+    if !all(card, false) {
+        out(b"  none in use\n");
+    }
+}
+
+fn blocks(card: &[u8]) {
+    out(b"\nfree data blocks\n ");
+    if !all(card, true) {
+        out(b" none");
+    }
+    out(b"\n");
+}
+
+// Whether the header can be trusted and the first entry is there.
+fn has_entries(card: &[u8]) -> bool {
+    match survey::line_of(card, 0) {
+        Line::Missing => false,
+        _ => true,
+    }
+}
+
+fn is_sound(card: &[u8]) -> bool {
+    match survey::fault_of(card) {
+        Fault::Sound => true,
+        _ => false,
+    }
+}
+
 // All that can be told of the card.
 pub fn card(name: &[u8], card: &[u8]) {
     out(name);
@@ -207,15 +287,14 @@ pub fn card(name: &[u8], card: &[u8]) {
     out(b" bytes\n");
     header(card);
     if survey::ring_known(card) {
-        out(b"\nwindow\n  slot  number\n");
-        window(card);
+        ring(card);
     }
-    out(
-        b"\nentries\n  place  bytes                               flags  number  previous  current  undoable   settled\n",
-    );
-    entries(card);
-    out(b"\nfree data blocks\n ");
-    free(card);
-    out(b"\n\n");
+    if has_entries(card) {
+        entries(card);
+    }
+    if is_sound(card) {
+        blocks(card);
+    }
+    out(b"\n");
     condition(card);
 }
