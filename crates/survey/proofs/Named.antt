@@ -12,8 +12,8 @@ use Rattle.numbers.specs.Post.{Number}
 use Rattle.protocol.specs.declared.Geometry.{Geometry}
 use Rattle.protocol.specs.declared.Entry.{Entry}
 use Rattle.protocol.specs.Below.{allBelow, anyBelow, firstBelow, around}
-use Rattle.protocol.specs.Layout.{goodGeometry, geometryOf, zeroFrom, goodHeader, cardLength}
-use Rattle.protocol.specs.Entry.{entryAt, goodEntry}
+use Rattle.protocol.specs.Layout.{goodK, goodSlots, goodBlocks, goodDisk, goodGeometry, geometryOf, zeroFrom, goodHeader, cardLength}
+use Rattle.protocol.specs.Entry.{entryAt, allowedFlags, isUnused, goodEntry}
 use Rattle.protocol.specs.Ring.{headOf, tailOf, windowOf, windowNumber}
 use Rattle.protocol.specs.Check.{refuse, _orElse_, headerFits, cardFits, windowNumberFits, ringFits, goodEntryAt, entriesFit, apart, apartBefore, entriesApart}
 use Rattle.protocol.specs.Check.{fitRefusal, damageRefusal}
@@ -24,9 +24,11 @@ use Rattle.ring.specs.Fitted.{Placed, WindowOf}
 use Rattle.ring.proofs.Laws.{header-long, header-geometry, window-number-fits, window-number-misfits}
 use Rattle.checks.proofs.Find.{first-here, first-nowhere}
 use Rattle.survey.specs.declared.Fault.{Fault}
-use Rattle.survey.specs.declared.Fault.the-variants.{Sound, Short, HeaderLength, Version, Reserved, Length, Head, Tail, WindowNumber, SameNumber, SameCurrent, SameSettled}
+use Rattle.survey.specs.declared.Fault.the-variants.{Sound, Short, HeaderLength, Version, K, Slots, Blocks, Disk, Reserved, Length, Head, Tail}
+use Rattle.survey.specs.declared.Fault.the-variants.{WindowNumber, Flags, NotZero, Number as NumberFault, Current, Previous}
+use Rattle.survey.specs.declared.Fault.the-variants.{SameNumber, SameCurrent, SameSettled}
 use Rattle.survey.specs.Fault.{refusalOf, _orNext_, fails, geometryFault, headerFault, lengthFault, firstMisfit, windowFault, ringFault}
-use Rattle.survey.specs.Fault.{entryFaultOf, firstBad, entryFault, sameSettled, pairFaultOf, firstAlike, firstPaired, pairFault}
+use Rattle.survey.specs.Fault.{goodPrevious, entryFaultOf, firstBad, entryFault, sameSettled, pairFaultOf, firstAlike, firstPaired, pairFault}
 use Rattle.survey.specs.Fault.{damageFault, fitFault, faultOf}
 use Rattle.survey.proofs.Laws.{pick-true, pick-false}
 use Rattle.survey.proofs.Faults.{next-first, next-on, all-first, geometry-refusal, header-refusal, fit-refusal, ring-refusal, entry-refusal}
@@ -85,6 +87,32 @@ module _ (p : ℕ → Bool) (n i : ℕ) (none : anyBelow (fails p) i ≡ false) 
   passed-one e = any-more (fails p) i none (ap not e)
 
 -- ---- 1
+
+module _ (g : Geometry) (k : Bool) (ek : k ≡ goodK (g .k)) where
+  pub limit-k : not k ≡ true → K ≡ geometryFault g
+  unfolding geometryFault
+  limit-k h = off-not _ _ _ _ k ek h refl
+
+  module _ (hk : not k ≡ false) (s : Bool) (es : s ≡ goodSlots (g .slots)) where
+    pub limit-slots : not s ≡ true → Slots ≡ geometryFault g
+    unfolding geometryFault
+    limit-slots h = on-not _ _ _ _ k ek hk (off-not _ _ _ _ s es h refl)
+
+    module _ (hs : not s ≡ false) (n : Bool) (en : n ≡ goodBlocks (g .blocks)) where
+      pub limit-blocks : not n ≡ true → Blocks ≡ geometryFault g
+      unfolding geometryFault
+      limit-blocks h = on-not _ _ _ _ k ek hk (on-not _ _ _ _ s es hs (off-not _ _ _ _ n en h refl))
+
+      module _ (hn : not n ≡ false) (d : Bool) (ed : d ≡ goodDisk (g .disk)) where
+        limit-rest : (f : Fault) → f ≡ cond (goodDisk (g .disk)) Sound Disk → f ≡ geometryFault g
+        unfolding geometryFault
+        limit-rest f p = on-not _ _ _ _ k ek hk (on-not _ _ _ _ s es hs (on-not _ _ _ _ n en hn p))
+
+        pub limit-disk : not d ≡ true → Disk ≡ geometryFault g
+        limit-disk h = limit-rest Disk (off-not _ _ _ _ d ed h refl)
+
+        pub limit-none : not d ≡ false → Sound ≡ geometryFault g
+        limit-none h = limit-rest Sound (on-not _ _ _ _ d ed h refl)
 
 pub header-under : (c : List ℕ) → length c < 128 → Short ≡ headerFault c
 unfolding headerFault
@@ -182,6 +210,42 @@ module _ (g : Geometry) (c : List ℕ) (h : ℕ) (eh : h ≡ headOf c) where
         q ∙ pick-true (ltb (tailOf c) (g .slots)) _ _ (lt-ltb _ _ (rw et at lt)) ∙ pick-true (ltb (headOf c) (g .slots)) _ _ (lt-ltb _ _ (rw eh at lh))
 
 -- ---- 5
+
+module _ (n d i : ℕ) (e : Entry) (u : Bool) (eu : u ≡ isUnused e) where
+  pub fault-none : u ≡ true → Sound ≡ entryFaultOf n d i e
+  unfolding entryFaultOf
+  fault-none h = on-yes _ _ _ _ u eu h refl
+
+  module _ (hu : u ≡ false) where
+    pub fault-not-zero : e .flags ≡ 0 → NotZero i ≡ entryFaultOf n d i e
+    unfolding entryFaultOf
+    fault-not-zero h = off-no _ _ _ _ u eu hu (on-eq _ _ _ (e .flags) 0 h refl)
+
+    module _ (a : Bool) (z : e .flags ≡ 0 → ⊥) (ea : a ≡ allowedFlags (e .flags)) where
+      pub fault-flags : not a ≡ true → Flags i ≡ entryFaultOf n d i e
+      unfolding entryFaultOf
+      fault-flags h = off-no _ _ _ _ u eu hu (off-eq _ _ _ (e .flags) 0 z (off-not _ _ _ _ a ea h refl))
+
+      module _ (ha : not a ≡ false) where
+        flags-past : (f : Fault)
+            → f ≡ cond (ltb (e .number) d) (cond (goodPrevious n (e .previous)) (cond (ltb (e .current) n) Sound (Current i)) (Previous i)) (NumberFault i)
+            → f ≡ entryFaultOf n d i e
+        unfolding entryFaultOf
+        flags-past f p = off-no _ _ _ _ u eu hu (off-eq _ _ _ (e .flags) 0 z (on-not _ _ _ _ a ea ha p))
+
+        pub fault-number : d ≤ e .number → NumberFault i ≡ entryFaultOf n d i e
+        fault-number h = flags-past (NumberFault i) (off-lt _ _ _ (e .number) d h refl)
+
+        module _ (p : Bool) (l : e .number < d) (ep : p ≡ goodPrevious n (e .previous)) where
+          pub fault-previous : not p ≡ true → Previous i ≡ entryFaultOf n d i e
+          fault-previous h = flags-past (Previous i) (on-lt _ _ _ (e .number) d l (off-not _ _ _ _ p ep h refl))
+
+          module _ (hp : not p ≡ false) (q : Bool) (eq : q ≡ ltb (e .current) n) where
+            pub fault-current : not q ≡ true → Current i ≡ entryFaultOf n d i e
+            fault-current h = flags-past (Current i) (on-lt _ _ _ (e .number) d l (on-not _ _ _ _ p ep hp (off-not _ _ _ _ q eq h refl)))
+
+            pub fault-not : not q ≡ false → Sound ≡ entryFaultOf n d i e
+            fault-not h = flags-past Sound (on-lt _ _ _ (e .number) d l (on-not _ _ _ _ p ep hp (on-not _ _ _ _ q eq h refl)))
 
 module _ (g : Geometry) (c : List ℕ) (i : ℕ) (none : anyBelow (fails (goodEntryAt g c)) i ≡ false) where
   module _ (e : Entry) (ok : Bool) (is : e ≡ entryAt g c i) (good : ok ≡ goodEntry (g .blocks) (g .disk) e) where
