@@ -1,7 +1,7 @@
 -- What each search for a fault names, by the tests that lead to each answer. Assumes nothing.
 use Prim.Native.Nat.{ℕ, zero, suc, _+_, _≤_, _<_}
 use mathlib.Core.List.{List}
-use mathlib.Core.Bool.{Bool, true, false, cond, not, _&&_}
+use mathlib.Core.Bool.{Bool, true, false, cond, not, _&&_, _||_}
 use mathlib.Core.Path.{_≡_, refl, sym, ap, _∙_, subst}
 use native.Mathlib.Omega.{arith}
 use lib.ListN.{length, getD}
@@ -13,9 +13,9 @@ use Rattle.protocol.specs.declared.Geometry.{Geometry}
 use Rattle.protocol.specs.declared.Entry.{Entry}
 use Rattle.protocol.specs.Below.{allBelow, anyBelow, firstBelow, around}
 use Rattle.protocol.specs.Layout.{goodK, goodSlots, goodBlocks, goodDisk, goodGeometry, geometryOf, zeroFrom, goodHeader, cardLength}
-use Rattle.protocol.specs.Entry.{entryAt, allowedFlags, isUnused, goodEntry}
-use Rattle.protocol.specs.Ring.{headOf, tailOf, windowOf, windowNumber}
-use Rattle.protocol.specs.Check.{refuse, _orElse_, headerFits, cardFits, windowNumberFits, ringFits, goodEntryAt, entriesFit, apart, apartBefore, entriesApart}
+use Rattle.protocol.specs.Entry.{entryAt, inUse, allowedFlags, isUnused, goodEntry}
+use Rattle.protocol.specs.Ring.{headOf, tailOf, windowOf, windowNumber, usedAt}
+use Rattle.protocol.specs.Check.{refuse, _orElse_, headerFits, cardFits, windowNumberFits, ringFits, goodEntryAt, entriesFit, alike, apart, apartBefore, entriesApart}
 use Rattle.protocol.specs.Check.{fitRefusal, damageRefusal}
 use Rattle.protocol.proofs.Below.{absurd-bool, and-left, and-right, any-more}
 use Rattle.protocol.proofs.Checks.{refuse-none}
@@ -269,16 +269,38 @@ module _ (g : Geometry) (c : List ℕ) (i : ℕ) (none : anyBelow (fails (goodEn
 
 -- ---- 6
 
--- the chain of a pair, over the entries that were read
-pub pair-told : (g : Geometry) (c : List ℕ) (i j : ℕ) (a b : Entry) (f : Fault) → a ≡ entryAt g c i → b ≡ entryAt g c j
-    → f ≡ cond (eqb (a .number) (b .number)) (SameNumber i j)
-    (cond (eqb (a .current) (b .current)) (SameCurrent i j) (cond (sameSettled g c i j) (SameSettled i j) Sound))
-    → f ≡ pairFaultOf g c i j
-unfolding pairFaultOf
-pair-told g c i j a b f p q e =
-    e
-    ∙ (λ t. cond (eqb (p t .number) (q t .number)) (SameNumber i j)
-    (cond (eqb (p t .current) (q t .current)) (SameCurrent i j) (cond (sameSettled g c i j) (SameSettled i j) Sound)))
+module _ (g : Geometry) (c : List ℕ) (i j : ℕ) (a b : Entry) (p : a ≡ entryAt g c i) (q : b ≡ entryAt g c j) where
+  pub apart-told : (u v s : Bool) → u ≡ inUse a → v ≡ inUse b → s ≡ sameSettled g c i j
+      → not (u && (v && (eqb (a .number) (b .number) || (eqb (a .current) (b .current) || s)))) ≡ apart g c i j
+  unfolding apart alike usedAt sameSettled
+  apart-told u v s eu ev es =
+      (λ t. not (eu t && (ev t && (eqb (a .number) (b .number) || (eqb (a .current) (b .current) || es t)))))
+      ∙ (λ t. not (inUse (p t)
+      && (inUse (q t) && (eqb (p t .number) (q t .number) || (eqb (p t .current) (q t .current) || sameSettled g c i j)))))
+
+  pair-told : (f : Fault)
+      → f ≡ cond (eqb (a .number) (b .number)) (SameNumber i j)
+      (cond (eqb (a .current) (b .current)) (SameCurrent i j) (cond (sameSettled g c i j) (SameSettled i j) Sound))
+      → f ≡ pairFaultOf g c i j
+  unfolding pairFaultOf
+  pair-told f e =
+      e
+      ∙ (λ t. cond (eqb (p t .number) (q t .number)) (SameNumber i j)
+      (cond (eqb (p t .current) (q t .current)) (SameCurrent i j) (cond (sameSettled g c i j) (SameSettled i j) Sound)))
+
+  pub pair-number : a .number ≡ b .number → SameNumber i j ≡ pairFaultOf g c i j
+  pair-number h = pair-told _ (on-eq _ _ _ _ _ h refl)
+
+  module _ (m : a .number ≡ b .number → ⊥) where
+    pub pair-current : a .current ≡ b .current → SameCurrent i j ≡ pairFaultOf g c i j
+    pair-current h = pair-told _ (off-eq _ _ _ _ _ m (on-eq _ _ _ _ _ h refl))
+
+    module _ (s : Bool) (k : a .current ≡ b .current → ⊥) (es : s ≡ sameSettled g c i j) where
+      pub pair-settled : s ≡ true → SameSettled i j ≡ pairFaultOf g c i j
+      pair-settled h = pair-told _ (off-eq _ _ _ _ _ m (off-eq _ _ _ _ _ k (on-yes _ _ _ _ s es h refl)))
+
+      pub pair-none : s ≡ false → Sound ≡ pairFaultOf g c i j
+      pair-none h = pair-told _ (off-eq _ _ _ _ _ m (off-eq _ _ _ _ _ k (off-no _ _ _ _ s es h refl)))
 
 module _ (g : Geometry) (c : List ℕ) (i j : ℕ) (r : Bool) (is : r ≡ apart g c i j) where
   pub alike-here : anyBelow (fails (apart g c i)) j ≡ false → j < i → not r ≡ true → j ≡ firstAlike g c i
