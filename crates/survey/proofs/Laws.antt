@@ -1,8 +1,9 @@
 -- What is read of a card, by the tests that lead to each answer. Assumes nothing.
 use Prim.Native.Nat.{ℕ, _+_, _-_, _≤_, _<_}
 use mathlib.Core.List.{List}
-use mathlib.Core.Bool.{Bool, true, false, cond, not, _&&_}
+use mathlib.Core.Bool.{Bool, true, false, cond, not, _&&_, _||_}
 use mathlib.Core.Path.{_≡_, refl, sym, ap, _∙_}
+use native.Mathlib.Numerals.{add-one}
 use native.Mathlib.Omega.{arith}
 use lib.ListN.{length}
 use lib.Dec.{eqb, ltb, leb}
@@ -17,7 +18,7 @@ use Rattle.protocol.specs.Entry.{entryIn, entryAt, isUnused, goodEntry}
 use Rattle.protocol.specs.Ring.{headOf, tailOf, windowOf, windowNumber, usedAt, undoableAt, settledBlock}
 use Rattle.protocol.specs.Check.{headerFits, goodEntryAt, fitRefusal}
 use Rattle.protocol.specs.Search.{takenBy, isFree}
-use Rattle.protocol.proofs.Below.{and-left, and-right, and-both, and-fails, any-more, any-found, any-done}
+use Rattle.protocol.proofs.Below.{and-left, and-right, and-both, and-fails}
 use Rattle.protocol.proofs.Checks.{Limits, limits}
 use Rattle.ring.specs.declared.Window.{Window}
 use Rattle.ring.specs.Fitted.{Fitted, Placed, WindowOf}
@@ -201,17 +202,26 @@ module _ (c : List ℕ) (r : Bool) (g : Geometry) (e : r ≡ headerFits c) (h : 
 
 -- ---- a data block
 
-module _ (g : Geometry) (c : List ℕ) (p i : ℕ) (hit : Bool) (none : anyBelow (takenBy g c p) i ≡ false) where
-  pub block-taken : hit ≡ takenBy g c p i → hit ≡ true → i < g .blocks → Taken ≡ blockIn g c p
-  unfolding blockIn isFree
-  block-taken e t l = pick-false (isFree g c p) _ _ (ap not (any-found (takenBy g c p) (g .blocks) i l (sym e ∙ t)))
+pub none-more : (p : ℕ → Bool) (i : ℕ) (r hit : Bool) → r ≡ not (anyBelow p i) → hit ≡ p i → r && not hit ≡ not (anyBelow p (i + 1))
+unfolding anyBelow
+none-more p i r hit e h = (λ t. e t && not (h t)) ∙ both (anyBelow p i) (p i) ∙ ap (λ (n : ℕ). not (anyBelow p n)) (sym (add-one i))
+  where
+    both : (a b : Bool) → not a && not b ≡ not (a || b)
+    both true b = refl
+    both false b = refl
 
-  pub block-more : hit ≡ takenBy g c p i → hit ≡ false → anyBelow (takenBy g c p) (i + 1) ≡ false
-  block-more e t = any-more (takenBy g c p) i none (sym e ∙ t)
+module _ (g : Geometry) (c : List ℕ) (p i : ℕ) (r : Bool) (told : r ≡ not (anyBelow (takenBy g c p) i)) (a : g .blocks ≤ i) (b : i ≤ g .blocks) where
+  free-told : r ≡ isFree g c p
+  unfolding isFree
+  free-told = let e : i ≡ g .blocks = omega arith in told ∙ ap (λ (n : ℕ). not (anyBelow (takenBy g c p) n)) e
 
-pub block-free : (g : Geometry) (c : List ℕ) (p i : ℕ) → anyBelow (takenBy g c p) i ≡ false → g .blocks ≤ i → i ≤ g .blocks → Free ≡ blockIn g c p
-unfolding blockIn isFree
-block-free g c p i none a b = pick-true (isFree g c p) _ _ (ap not (any-done (takenBy g c p) (g .blocks) i none a b))
+  pub block-free : r ≡ true → Free ≡ blockIn g c p
+  unfolding blockIn
+  block-free t = pick-true (isFree g c p) _ _ (sym free-told ∙ t)
+
+  pub block-taken : r ≡ false → Taken ≡ blockIn g c p
+  unfolding blockIn
+  block-taken t = pick-false (isFree g c p) _ _ (sym free-told ∙ t)
 
 pub block-unfit : (c : List ℕ) (p f : ℕ) → f ≡ fitRefusal c → (f ≡ 0 → ⊥) → NoBlock ≡ blockOf c p
 unfolding blockOf

@@ -36,29 +36,29 @@ use Rattle.survey.proofs.Faults.{next-first, next-on, all-first, geomet
 -- ---- one test of a chain: z is what the chain comes to
 
 module _ (x y z : Fault) where
-  pub on-eq : (a b : ℕ) → a ≡ b → z ≡ x → z ≡ cond (eqb a b) x y
+  on-eq : (a b : ℕ) → a ≡ b → z ≡ x → z ≡ cond (eqb a b) x y
   on-eq a b h e = e ∙ pick-true (eqb a b) x y (eq-eqb a b h)
 
-  pub off-eq : (a b : ℕ) → (a ≡ b → ⊥) → z ≡ y → z ≡ cond (eqb a b) x y
+  off-eq : (a b : ℕ) → (a ≡ b → ⊥) → z ≡ y → z ≡ cond (eqb a b) x y
   off-eq a b h e = e ∙ pick-false (eqb a b) x y (ne-eqb a b h)
 
-  pub on-lt : (a b : ℕ) → a < b → z ≡ x → z ≡ cond (ltb a b) x y
+  on-lt : (a b : ℕ) → a < b → z ≡ x → z ≡ cond (ltb a b) x y
   on-lt a b h e = e ∙ pick-true (ltb a b) x y (lt-ltb a b h)
 
-  pub off-lt : (a b : ℕ) → b ≤ a → z ≡ y → z ≡ cond (ltb a b) x y
+  off-lt : (a b : ℕ) → b ≤ a → z ≡ y → z ≡ cond (ltb a b) x y
   off-lt a b h e = e ∙ pick-false (ltb a b) x y (le-ltb a b h)
 
   module _ (b r : Bool) (is : r ≡ b) where
-    pub on-yes : r ≡ true → z ≡ x → z ≡ cond b x y
+    on-yes : r ≡ true → z ≡ x → z ≡ cond b x y
     on-yes h e = e ∙ pick-true b x y (sym is ∙ h)
 
-    pub off-no : r ≡ false → z ≡ y → z ≡ cond b x y
+    off-no : r ≡ false → z ≡ y → z ≡ cond b x y
     off-no h e = e ∙ pick-false b x y (sym is ∙ h)
 
-    pub on-not : not r ≡ false → z ≡ x → z ≡ cond b x y
+    on-not : not r ≡ false → z ≡ x → z ≡ cond b x y
     on-not h e = on-yes (not-false r h) e
 
-    pub off-not : not r ≡ true → z ≡ y → z ≡ cond b x y
+    off-not : not r ≡ true → z ≡ y → z ≡ cond b x y
     off-not h e = off-no (not-true r h) e
 
 -- ---- a search for the first index that fails: f is what is said of it
@@ -212,19 +212,19 @@ module _ (g : Geometry) (c : List ℕ) (h : ℕ) (eh : h ≡ headOf c) where
 -- ---- 5
 
 module _ (n d i : ℕ) (e : Entry) (u : Bool) (eu : u ≡ isUnused e) where
-  pub fault-none : u ≡ true → Sound ≡ entryFaultOf n d i e
+  pub entry-unused : u ≡ true → Sound ≡ entryFaultOf n d i e
   unfolding entryFaultOf
-  fault-none h = on-yes _ _ _ _ u eu h refl
+  entry-unused h = on-yes _ _ _ _ u eu h refl
 
   module _ (hu : u ≡ false) where
-    pub fault-not-zero : e .flags ≡ 0 → NotZero i ≡ entryFaultOf n d i e
+    pub entry-not-zero : e .flags ≡ 0 → NotZero i ≡ entryFaultOf n d i e
     unfolding entryFaultOf
-    fault-not-zero h = off-no _ _ _ _ u eu hu (on-eq _ _ _ (e .flags) 0 h refl)
+    entry-not-zero h = off-no _ _ _ _ u eu hu (on-eq _ _ _ (e .flags) 0 h refl)
 
     module _ (a : Bool) (z : e .flags ≡ 0 → ⊥) (ea : a ≡ allowedFlags (e .flags)) where
-      pub fault-flags : not a ≡ true → Flags i ≡ entryFaultOf n d i e
+      pub entry-flags : not a ≡ true → Flags i ≡ entryFaultOf n d i e
       unfolding entryFaultOf
-      fault-flags h = off-no _ _ _ _ u eu hu (off-eq _ _ _ (e .flags) 0 z (off-not _ _ _ _ a ea h refl))
+      entry-flags h = off-no _ _ _ _ u eu hu (off-eq _ _ _ (e .flags) 0 z (off-not _ _ _ _ a ea h refl))
 
       module _ (ha : not a ≡ false) where
         flags-past : (f : Fault)
@@ -233,19 +233,19 @@ module _ (n d i : ℕ) (e : Entry) (u : Bool) (eu : u ≡ isUnused e) where
         unfolding entryFaultOf
         flags-past f p = off-no _ _ _ _ u eu hu (off-eq _ _ _ (e .flags) 0 z (on-not _ _ _ _ a ea ha p))
 
-        pub fault-number : d ≤ e .number → NumberFault i ≡ entryFaultOf n d i e
-        fault-number h = flags-past (NumberFault i) (off-lt _ _ _ (e .number) d h refl)
+        pub entry-number : d ≤ e .number → NumberFault i ≡ entryFaultOf n d i e
+        entry-number h = flags-past (NumberFault i) (off-lt _ _ _ (e .number) d h refl)
 
         module _ (p : Bool) (l : e .number < d) (ep : p ≡ goodPrevious n (e .previous)) where
-          pub fault-previous : not p ≡ true → Previous i ≡ entryFaultOf n d i e
-          fault-previous h = flags-past (Previous i) (on-lt _ _ _ (e .number) d l (off-not _ _ _ _ p ep h refl))
+          pub entry-previous : not p ≡ true → Previous i ≡ entryFaultOf n d i e
+          entry-previous h = flags-past (Previous i) (on-lt _ _ _ (e .number) d l (off-not _ _ _ _ p ep h refl))
 
           module _ (hp : not p ≡ false) (q : Bool) (eq : q ≡ ltb (e .current) n) where
-            pub fault-current : not q ≡ true → Current i ≡ entryFaultOf n d i e
-            fault-current h = flags-past (Current i) (on-lt _ _ _ (e .number) d l (on-not _ _ _ _ p ep hp (off-not _ _ _ _ q eq h refl)))
+            pub entry-current : not q ≡ true → Current i ≡ entryFaultOf n d i e
+            entry-current h = flags-past (Current i) (on-lt _ _ _ (e .number) d l (on-not _ _ _ _ p ep hp (off-not _ _ _ _ q eq h refl)))
 
-            pub fault-not : not q ≡ false → Sound ≡ entryFaultOf n d i e
-            fault-not h = flags-past Sound (on-lt _ _ _ (e .number) d l (on-not _ _ _ _ p ep hp (on-not _ _ _ _ q eq h refl)))
+            pub entry-fine : not q ≡ false → Sound ≡ entryFaultOf n d i e
+            entry-fine h = flags-past Sound (on-lt _ _ _ (e .number) d l (on-not _ _ _ _ p ep hp (on-not _ _ _ _ q eq h refl)))
 
 module _ (g : Geometry) (c : List ℕ) (i : ℕ) (none : anyBelow (fails (goodEntryAt g c)) i ≡ false) where
   module _ (e : Entry) (ok : Bool) (is : e ≡ entryAt g c i) (good : ok ≡ goodEntry (g .blocks) (g .disk) e) where

@@ -1,5 +1,6 @@
 -- `entry_fault_of` names the first field of the entry that is wrong: one law for each way out.
-use Rattle.survey.proofs.Named.{fault-none, fault-not-zero, fault-flags, fault-number, fault-previous, fault-current, fault-not}
+use Rattle.protocol.specs.Entry.{allowedFlags}
+use Rattle.survey.proofs.Named.{entry-unused, entry-not-zero, entry-flags, entry-number, entry-previous, entry-current, entry-fine}
 use borrow.Author.Needs.{needs}
 use Rattle.survey.proofs.entry_fault_of.Statement.{statement}
 use Rattle.survey.proofs.entry_fault_of.Tie as tie
@@ -8,34 +9,36 @@ is-unused-requires : tie.Need-is-unused-requires
 is-unused-requires c κs = search needs
 
 returns : tie.Need-returns
-returns c = search (fault-none, needs)
+returns c = search (entry-unused, needs)
 
 returns-2 : tie.Need-returns-2
-returns-2 c = search (fault-not-zero, needs)
-
-allowed-flags-requires : tie.Need-allowed-flags-requires
-allowed-flags-requires c κs = search needs
+returns-2 c = search (entry-not-zero, needs)
 
 returns-3 : tie.Need-returns-3
-returns-3 c = search (fault-flags, needs)
+unfolding allowedFlags
+returns-3 c = search (entry-flags, needs)
 
 returns-4 : tie.Need-returns-4
-returns-4 c = search (fault-number, needs)
+unfolding allowedFlags
+returns-4 c = search (entry-number, needs)
 
 good-previous-requires : tie.Need-good-previous-requires
 good-previous-requires c κs = search needs
 
 returns-5 : tie.Need-returns-5
-returns-5 c = search (fault-previous, needs)
+unfolding allowedFlags
+returns-5 c = search (entry-previous, needs)
 
 below-requires : tie.Need-below-requires
 below-requires c κs = search needs
 
 returns-6 : tie.Need-returns-6
-returns-6 c = search (fault-current, needs)
+unfolding allowedFlags
+returns-6 c = search (entry-current, needs)
 
 returns-7 : tie.Need-returns-7
-returns-7 c = search (fault-not, needs)
+unfolding allowedFlags
+returns-7 c = search (entry-fine, needs)
 
 pub entry-fault-of-spec : {M : Type 1} → statement M
 entry-fault-of-spec =
@@ -44,7 +47,6 @@ entry-fault-of-spec =
     is-unused-requires
     returns
     returns-2
-    allowed-flags-requires
     returns-3
     returns-4
     good-previous-requires
