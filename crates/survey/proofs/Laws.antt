@@ -8,7 +8,6 @@ use native.Mathlib.Omega.{arith}
 use lib.ListN.{length}
 use lib.Dec.{eqb, ltb, leb}
 use borrow.Author.Tests.{lt-ltb, le-ltb, ltb-true, le-leb, lt-leb, eq-eqb, ne-eqb, eqb-true, not-true, not-false}
-use Rattle.numbers.specs.Bytes.{numberAt}
 use Rattle.numbers.specs.Post.{Number}
 use Rattle.protocol.specs.declared.Geometry.{Geometry}
 use Rattle.protocol.specs.declared.Entry.{Entry}
@@ -49,7 +48,7 @@ module _ (c : List ℕ) (at w : ℕ) where
 
   field-off : length c < at + w → NoField ≡ fieldIn c at w
   unfolding fieldIn
-  field-off h = pick-false (leb w 8 && leb (at + w) (length c)) (Is (numberAt c at w)) NoField (and-fails (leb w 8) _ (lt-leb (at + w) (length c) h))
+  field-off h = pick-false (leb w 8 && leb (at + w) (length c)) _ _ (and-fails (leb w 8) _ (lt-leb (at + w) (length c) h))
 
   pub field-long : length c < w → NoField ≡ fieldIn c at w
   field-long h = field-off (omega arith)
@@ -59,7 +58,9 @@ module _ (c : List ℕ) (at w : ℕ) where
 
   pub field-is : (r : ℕ) → w ≤ 8 → w ≤ length c → at ≤ length c - w → Number c at w r → Is r ≡ fieldIn c at w
   unfolding fieldIn
-  field-is r a l b n = ap Is (n .value) ∙ pick-true (leb w 8 && leb (at + w) (length c)) (Is (numberAt c at w)) NoField (and-both (le-leb w 8 a) (le-leb (at + w) (length c) (omega arith)))
+  field-is r a l b n =
+      ap Is (n .value)
+      ∙ pick-true (leb w 8 && leb (at + w) (length c)) _ _ (and-both (le-leb w 8 a) (le-leb (at + w) (length c) (omega arith)))
 
 -- ---- the window
 
@@ -152,8 +153,8 @@ module _ (g : Geometry) (c : List ℕ) (i : ℕ) (e : Entry) (u : Bool) (is : e 
   pub line-unknown : (k : Bool) → u ≡ false → k ≡ ringKnown c → not k ≡ true → Raw e ≡ lineIn g c i
   line-unknown k t p h = let off : ringKnown c ≡ false = sym p ∙ not-true k h in line-raw t (rw off)
 
-  pub line-full : (ok k v : Bool) (s : ℕ) → u ≡ false → ok ≡ goodEntry (g .blocks) (g .disk) e → not ok ≡ false → k ≡ ringKnown c → not k ≡ false
-      → v ≡ undoableEntry g c e → s ≡ cond v (e .previous) (e .current) → Full e v s ≡ lineIn g c i
+  pub line-full : (ok k v : Bool) (s : ℕ) → u ≡ false → ok ≡ goodEntry (g .blocks) (g .disk) e → not ok ≡ false → k ≡ ringKnown c
+      → not k ≡ false → v ≡ undoableEntry g c e → s ≡ cond v (e .previous) (e .current) → Full e v s ≡ lineIn g c i
   unfolding lineFor
   line-full ok k v s t p h q l ev es =
       (λ x. Full e (ev x) ((es ∙ ap (λ (b : Bool). cond b (e .previous) (e .current)) ev) x))
@@ -178,7 +179,8 @@ module _ (c : List ℕ) (g : Geometry) (i : ℕ) (q : g ≡ geometryOf c) where
     unfolding lineOf reaches
     line-short l =
         pick-false (reaches c i) _ _
-        (and-fails (headerFits c) _ (and-fails (ltb i (geometryOf c .blocks)) _ (lt-leb (entryPlace (geometryOf c) i + 16) (length c) (rw line-end at l))))
+        (and-fails (headerFits c) _
+        (and-fails (ltb i (geometryOf c .blocks)) _ (lt-leb (entryPlace (geometryOf c) i + 16) (length c) (rw line-end at l))))
 
     pub line-entry : (e : Entry) → e ≡ entryIn c at → e ≡ entryAt g c i
     unfolding entryAt
@@ -191,7 +193,8 @@ module _ (c : List ℕ) (g : Geometry) (i : ℕ) (q : g ≡ geometryOf c) where
         p
         ∙ ap (λ (y : Geometry). lineIn y c i) q
         ∙ pick-true (reaches c i) _ _
-        (and-both (sym e ∙ not-false r h) (and-both (lt-ltb i _ (rw q at b)) (le-leb (entryPlace (geometryOf c) i + 16) (length c) (rw line-end at m))))
+        (and-both (sym e ∙ not-false r h)
+        (and-both (lt-ltb i _ (rw q at b)) (le-leb (entryPlace (geometryOf c) i + 16) (length c) (rw line-end at m))))
 
 module _ (c : List ℕ) (r : Bool) (g : Geometry) (e : r ≡ headerFits c) (h : not r ≡ false) (q : g ≡ geometryOf c) where
   pub header-slots : g .slots ≤ 256
@@ -210,7 +213,8 @@ none-more p i r hit e h = (λ t. e t && not (h t)) ∙ both (anyBelow p i) (p i)
     both true b = refl
     both false b = refl
 
-module _ (g : Geometry) (c : List ℕ) (p i : ℕ) (r : Bool) (told : r ≡ not (anyBelow (takenBy g c p) i)) (a : g .blocks ≤ i) (b : i ≤ g .blocks) where
+module _ (g : Geometry) (c : List ℕ) (p i : ℕ) (r : Bool) (told : r ≡ not (anyBelow (takenBy g c p) i)) (a : g .blocks ≤ i)
+    (b : i ≤ g .blocks) where
   free-told : r ≡ isFree g c p
   unfolding isFree
   free-told = let e : i ≡ g .blocks = omega arith in told ∙ ap (λ (n : ℕ). not (anyBelow (takenBy g c p) n)) e
@@ -230,7 +234,8 @@ block-unfit c p f e h = rw (ne-eqb (fitRefusal c) 0 (λ z. h (e ∙ z)))
 module _ (c : List ℕ) (p : ℕ) (g : Geometry) (q : g ≡ geometryOf c) where
   pub block-past : g .blocks ≤ p → NoBlock ≡ blockOf c p
   unfolding blockOf
-  block-past l = pick-false (eqb (fitRefusal c) 0 && ltb p (geometryOf c .blocks)) _ _ (and-fails (eqb (fitRefusal c) 0) _ (le-ltb p _ (rw q at l)))
+  block-past l =
+      pick-false (eqb (fitRefusal c) 0 && ltb p (geometryOf c .blocks)) _ _ (and-fails (eqb (fitRefusal c) 0) _ (le-ltb p _ (rw q at l)))
 
   pub block-there : (f : ℕ) (r : Block) → f ≡ fitRefusal c → f ≡ 0 → p < g .blocks → r ≡ blockIn g c p → r ≡ blockOf c p
   unfolding blockOf

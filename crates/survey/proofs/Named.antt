@@ -15,8 +15,8 @@ use Rattle.protocol.specs.Below.{allBelow, anyBelow, firstBelow, around}
 use Rattle.protocol.specs.Layout.{goodK, goodSlots, goodBlocks, goodDisk, goodGeometry, geometryOf, zeroFrom, goodHeader, cardLength}
 use Rattle.protocol.specs.Entry.{entryAt, inUse, allowedFlags, isUnused, goodEntry}
 use Rattle.protocol.specs.Ring.{headOf, tailOf, windowOf, windowNumber, usedAt}
-use Rattle.protocol.specs.Check.{refuse, _orElse_, headerFits, cardFits, windowNumberFits, ringFits, goodEntryAt, entriesFit, alike, apart, apartBefore, entriesApart}
-use Rattle.protocol.specs.Check.{fitRefusal, damageRefusal}
+use Rattle.protocol.specs.Check.{refuse, _orElse_, headerFits, cardFits, windowNumberFits, ringFits, goodEntryAt, entriesFit}
+use Rattle.protocol.specs.Check.{alike, apart, apartBefore, entriesApart, fitRefusal, damageRefusal}
 use Rattle.protocol.proofs.Below.{absurd-bool, and-left, and-right, any-more}
 use Rattle.protocol.proofs.Checks.{refuse-none}
 use Rattle.ring.specs.declared.Window.{Window}
@@ -24,14 +24,15 @@ use Rattle.ring.specs.Fitted.{Placed, WindowOf}
 use Rattle.ring.proofs.Laws.{header-long, header-geometry, window-number-fits, window-number-misfits}
 use Rattle.checks.proofs.Find.{first-here, first-nowhere}
 use Rattle.survey.specs.declared.Fault.{Fault}
-use Rattle.survey.specs.declared.Fault.the-variants.{Sound, Short, HeaderLength, Version, K, Slots, Blocks, Disk, Reserved, Length, Head, Tail}
-use Rattle.survey.specs.declared.Fault.the-variants.{WindowNumber, Flags, NotZero, Number as NumberFault, Current, Previous}
-use Rattle.survey.specs.declared.Fault.the-variants.{SameNumber, SameCurrent, SameSettled}
-use Rattle.survey.specs.Fault.{refusalOf, _orNext_, fails, geometryFault, headerFault, lengthFault, firstMisfit, windowFault, ringFault}
-use Rattle.survey.specs.Fault.{goodPrevious, entryFaultOf, firstBad, entryFault, sameSettled, pairFaultOf, firstAlike, firstPaired, pairFault}
-use Rattle.survey.specs.Fault.{damageFault, fitFault, faultOf}
+use Rattle.survey.specs.declared.Fault.the-variants.{Sound, Short, HeaderLength, Version, K, Slots, Blocks, Disk, Reserved}
+use Rattle.survey.specs.declared.Fault.the-variants.{Length, Head, Tail, WindowNumber, Flags, NotZero, Number as NumberFault}
+use Rattle.survey.specs.declared.Fault.the-variants.{Current, Previous, SameNumber, SameCurrent, SameSettled}
+use Rattle.survey.specs.Fault.{refusalOf, _orNext_, fails, geometryFault, headerFault, lengthFault, firstMisfit, windowFault}
+use Rattle.survey.specs.Fault.{ringFault, goodPrevious, entryFaultOf, firstBad, entryFault, sameSettled, pairFaultOf}
+use Rattle.survey.specs.Fault.{firstAlike, firstPaired, pairFault, damageFault, fitFault, faultOf}
 use Rattle.survey.proofs.Laws.{pick-true, pick-false}
-use Rattle.survey.proofs.Faults.{next-first, next-on, all-first, geometry-refusal, header-refusal, fit-refusal, ring-refusal, entry-refusal}
+use Rattle.survey.proofs.Faults.{next-first, next-on, all-first}
+use Rattle.survey.proofs.Faults.{geometry-refusal, header-refusal, fit-refusal, ring-refusal, entry-refusal}
 
 -- ---- one test of a chain: z is what the chain comes to
 
@@ -136,7 +137,8 @@ module _ (c : List ℕ) (r : ℕ) (long : 128 ≤ length c) (n : Number c 0 4 r)
         ∙ pick-false (ltb (length c) 128) _ _ (le-ltb _ _ long)
 
     module _ (one : getD c 4 0 ≡ 1) (g : Geometry) (q : g ≡ geometryOf c) (ok : Bool) (good : ok ≡ goodGeometry g) where
-      header-past : (f : Fault) → f ≡ geometryFault (geometryOf c) orNext cond (allBelow (zeroFrom c 16) 48) Sound Reserved → f ≡ headerFault c
+      header-past : (f : Fault) → f ≡ geometryFault (geometryOf c) orNext cond (allBelow (zeroFrom c 16) 48) Sound Reserved
+          → f ≡ headerFault c
       unfolding headerFault
       header-past f e =
           e
@@ -147,10 +149,13 @@ module _ (c : List ℕ) (r : ℕ) (long : 128 ≤ length c) (n : Number c 0 4 r)
       good-is : (b : Bool) → ok ≡ b → goodGeometry (geometryOf c) ≡ b
       good-is b h = ap goodGeometry (sym q) ∙ sym good ∙ h
 
+      limits-refusal : (b : Bool) → ok ≡ b → refusalOf (geometryFault (geometryOf c)) ≡ refuse 1 b
+      limits-refusal b h = geometry-refusal (geometryOf c) ∙ ap (refuse 1) (good-is b h)
+
       pub header-limits : (f : Fault) → not ok ≡ true → f ≡ geometryFault g → f ≡ headerFault c
       unfolding refuse
       header-limits f h p =
-          let o : refusalOf (geometryFault (geometryOf c)) ≡ 1 = geometry-refusal (geometryOf c) ∙ ap (refuse 1) (good-is false (not-true ok h)) in
+          let o : refusalOf (geometryFault (geometryOf c)) ≡ 1 = limits-refusal false (not-true ok h) in
           header-past f (p ∙ ap geometryFault q ∙ next-first (geometryFault (geometryOf c)) _ (λ z. omega arith))
 
       module _ (yes : not ok ≡ false) (fit : Bool) (fits : fit ≡ headerFits c) where
@@ -166,7 +171,7 @@ module _ (c : List ℕ) (r : ℕ) (long : 128 ≤ length c) (n : Number c 0 4 r)
         header-rest : (f : Fault) → f ≡ cond (allBelow (zeroFrom c 16) 48) Sound Reserved → f ≡ headerFault c
         unfolding refuse
         header-rest f p =
-            let o : refusalOf (geometryFault (geometryOf c)) ≡ 0 = geometry-refusal (geometryOf c) ∙ ap (refuse 1) (good-is true (not-false ok yes)) in
+            let o : refusalOf (geometryFault (geometryOf c)) ≡ 0 = limits-refusal true (not-false ok yes) in
             header-past f (p ∙ next-on (geometryFault (geometryOf c)) _ o)
 
         pub header-sound : fit ≡ true → Sound ≡ headerFault c
@@ -178,8 +183,8 @@ module _ (c : List ℕ) (r : ℕ) (long : 128 ≤ length c) (n : Number c 0 4 r)
 -- ---- 4
 
 module _ (g : Geometry) (c : List ℕ) (j : ℕ) (none : anyBelow (fails (windowNumberFits g c)) j ≡ false) where
-  pub window-fault : (w : Window) (r x : ℕ) → WindowOf g c w → r ≡ windowNumber g c j → j < w .count → g .disk ≤ r → x ≡ around (g .slots) (w .tail) j
-      → WindowNumber x ≡ windowFault g c
+  pub window-fault : (w : Window) (r x : ℕ) → WindowOf g c w → r ≡ windowNumber g c j → j < w .count → g .disk ≤ r
+      → x ≡ around (g .slots) (w .tail) j → WindowNumber x ≡ windowFault g c
   unfolding windowFault firstMisfit
   window-fault w r x win e l m q =
       named-here (windowNumberFits g c) (windowOf g c) j none (λ k. WindowNumber (around (g .slots) (tailOf c) k)) _ (rw (win .count) at l)
@@ -202,12 +207,15 @@ module _ (g : Geometry) (c : List ℕ) (h : ℕ) (eh : h ≡ headOf c) where
     pub tail-fault : g .slots ≤ t → Tail ≡ ringFault g c
     unfolding ringFault
     tail-fault l =
-        pick-false (ltb (tailOf c) (g .slots)) _ _ (le-ltb _ _ (rw et at l)) ∙ pick-true (ltb (headOf c) (g .slots)) _ _ (lt-ltb _ _ (rw eh at lh))
+        pick-false (ltb (tailOf c) (g .slots)) _ _ (le-ltb _ _ (rw et at l))
+        ∙ pick-true (ltb (headOf c) (g .slots)) _ _ (lt-ltb _ _ (rw eh at lh))
 
     pub ring-told : (f : Fault) → t < g .slots → f ≡ windowFault g c → f ≡ ringFault g c
     unfolding ringFault
     ring-told f lt q =
-        q ∙ pick-true (ltb (tailOf c) (g .slots)) _ _ (lt-ltb _ _ (rw et at lt)) ∙ pick-true (ltb (headOf c) (g .slots)) _ _ (lt-ltb _ _ (rw eh at lh))
+        q
+        ∙ pick-true (ltb (tailOf c) (g .slots)) _ _ (lt-ltb _ _ (rw et at lt))
+        ∙ pick-true (ltb (headOf c) (g .slots)) _ _ (lt-ltb _ _ (rw eh at lh))
 
 -- ---- 5
 
@@ -228,7 +236,8 @@ module _ (n d i : ℕ) (e : Entry) (u : Bool) (eu : u ≡ isUnused e) where
 
       module _ (ha : not a ≡ false) where
         flags-past : (f : Fault)
-            → f ≡ cond (ltb (e .number) d) (cond (goodPrevious n (e .previous)) (cond (ltb (e .current) n) Sound (Current i)) (Previous i)) (NumberFault i)
+            → f ≡ cond (ltb (e .number) d) (cond (goodPrevious n (e .previous)) (cond (ltb (e .current) n) Sound (Current i)) (Previous i))
+            (NumberFault i)
             → f ≡ entryFaultOf n d i e
         unfolding entryFaultOf
         flags-past f p = off-no _ _ _ _ u eu hu (off-eq _ _ _ (e .flags) 0 z (on-not _ _ _ _ a ea ha p))
