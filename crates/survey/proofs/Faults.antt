@@ -11,42 +11,23 @@ use borrow.Author.Tests.{lt-ltb, le-ltb, eq-eqb, ne-eqb, eqb-true, not-true, not
 use Rattle.numbers.specs.Bytes.{numberAt}
 use Rattle.protocol.specs.declared.Geometry.{Geometry}
 use Rattle.protocol.specs.declared.Entry.{Entry}
-use Rattle.protocol.specs.Below.{allBelow, firstBelow, around}
+use Rattle.protocol.specs.Below.{allBelow, firstBelow}
 use Rattle.protocol.specs.Layout.{goodK, goodSlots, goodBlocks, goodDisk, goodGeometry, geometryOf, zeroFrom, goodHeader, cardLength}
 use Rattle.protocol.specs.Entry.{entryAt, allowedFlags, isUnused, goodEntry}
 use Rattle.protocol.specs.Ring.{headOf, tailOf, windowOf, usedAt}
 use Rattle.protocol.specs.Check.{refuse, _orElse_, headerFits, cardFits, windowNumberFits, ringFits, goodEntryAt, entriesFit}
 use Rattle.protocol.specs.Check.{alike, apart, apartBefore, entriesApart, fitRefusal, damageRefusal}
 use Rattle.protocol.specs.Recover.{recoverRefusal}
-use Rattle.protocol.proofs.Below.{absurd-bool, either, below-or-above, same-or-other, and-right, all-at, all-of, first-none, first-found, first-missed}
+use Rattle.protocol.proofs.Below.{absurd-bool, either, below-or-above, same-or-other, and-right, all-at, all-of}
+use Rattle.protocol.proofs.Below.{first-none, first-found, first-missed}
 use Rattle.protocol.proofs.Checks.{orElse-first, orElse-next}
 use Rattle.survey.specs.declared.Fault.{Fault}
-use Rattle.survey.specs.declared.Fault.the-variants.{
-  Sound,
-  Short,
-  HeaderLength,
-  Version,
-  K,
-  Slots,
-  Blocks,
-  Disk,
-  Reserved,
-  Length,
-  Head,
-  Tail,
-  WindowNumber,
-  Flags,
-  NotZero,
-  Number,
-  Current,
-  Previous,
-  SameNumber,
-  SameCurrent,
-  SameSettled,
-}
-use Rattle.survey.specs.Fault.{refusalOf, _orNext_, fails, geometryFault, headerFault, lengthFault, firstMisfit, windowFault, ringFault}
-use Rattle.survey.specs.Fault.{goodPrevious, entryFaultOf, firstBad, entryFault, sameSettled, pairFaultOf, firstAlike, firstPaired, pairFault}
-use Rattle.survey.specs.Fault.{damageFault, fitFault, faultOf}
+use Rattle.survey.specs.declared.Fault.the-variants.{Sound, Short, HeaderLength, Version, K, Slots, Blocks, Disk, Reserved}
+use Rattle.survey.specs.declared.Fault.the-variants.{Length, Head, Tail, Flags, NotZero, Number, Current, Previous}
+use Rattle.survey.specs.declared.Fault.the-variants.{SameNumber, SameCurrent, SameSettled}
+use Rattle.survey.specs.Fault.{refusalOf, _orNext_, fails, geometryFault, headerFault, lengthFault, firstMisfit, windowFault}
+use Rattle.survey.specs.Fault.{ringFault, goodPrevious, entryFaultOf, firstBad, entryFault, sameSettled, pairFaultOf}
+use Rattle.survey.specs.Fault.{firstAlike, firstPaired, pairFault, damageFault, fitFault, faultOf}
 use Rattle.survey.proofs.Laws.{pick-true, pick-false}
 
 -- ---- faults in order
@@ -122,7 +103,8 @@ pub header-refusal : (c : List ℕ) → refusalOf (headerFault c) ≡ refuse 1 (
 unfolding headerFault headerFits goodHeader refusalOf refuse _orElse_
 header-refusal c =
     let z : Bool = allBelow (zeroFrom c 16) 48 in
-    let rest = refusal-next (geometryFault (geometryOf c)) (cond z Sound Reserved) _ _ (geometry-refusal (geometryOf c)) (refusal-unless z Reserved 1 unit) in
+    let g : Geometry = geometryOf c in
+    let rest = refusal-next (geometryFault g) (cond z Sound Reserved) _ _ (geometry-refusal g) (refusal-unless z Reserved 1 unit) in
     go (ltb (length c) 128) (eqb (numberAt c 0 4) 64) (eqb (getD c 4 0) 1) (goodGeometry (geometryOf c)) z _ rest
   where
     unit : refusalOf Reserved ≡ 1
@@ -158,13 +140,15 @@ module _ (g : Geometry) (c : List ℕ) where
 entry-of-refusal : (n d i : ℕ) (e : Entry) → refusalOf (entryFaultOf n d i e) ≡ refuse 5 (goodEntry n d e)
 unfolding entryFaultOf goodEntry goodPrevious allowedFlags refusalOf refuse
 entry-of-refusal n d i e =
-    go (isUnused e) (eqb (e .flags) 0) (allowedFlags (e .flags)) (ltb (e .number) d) (goodPrevious n (e .previous)) (ltb (e .current) n) zero-flags
+    go (isUnused e) (eqb (e .flags) 0) (allowedFlags (e .flags)) (ltb (e .number) d) (goodPrevious n (e .previous)) (ltb (e .current) n)
+    zero-flags
   where
     zero-flags : eqb (e .flags) 0 ≡ true → allowedFlags (e .flags) ≡ false
     zero-flags h = ap allowedFlags (eqb-true (e .flags) 0 h)
 
     go : (u z f b p q : Bool) → (z ≡ true → f ≡ false)
-        → refusalOf (cond u Sound (cond z (NotZero i) (cond f (cond b (cond p (cond q Sound (Current i)) (Previous i)) (Number i)) (Flags i))))
+        → refusalOf
+        (cond u Sound (cond z (NotZero i) (cond f (cond b (cond p (cond q Sound (Current i)) (Previous i)) (Number i)) (Flags i))))
         ≡ refuse 5 (u || (f && (b && (q && p))))
     go true z f b p q h = refl
     go false true f b p q h = rw (h refl)
@@ -181,7 +165,8 @@ pair-of-refusal g c i j h =
     go (eqb (entryAt g c i .number) (entryAt g c j .number)) (eqb (entryAt g c i .current) (entryAt g c j .current)) (sameSettled g c i j)
     (and-right (usedAt g c j) _ (and-right (usedAt g c i) (usedAt g c j && alike g c i j) (not-false _ h)))
   where
-    go : (a b s : Bool) → a || (b || s) ≡ true → refusalOf (cond a (SameNumber i j) (cond b (SameCurrent i j) (cond s (SameSettled i j) Sound))) ≡ 6
+    go : (a b s : Bool) → a || (b || s) ≡ true
+        → refusalOf (cond a (SameNumber i j) (cond b (SameCurrent i j) (cond s (SameSettled i j) Sound))) ≡ 6
     go true b s e = refl
     go false true s e = refl
     go false false true e = refl
@@ -192,7 +177,7 @@ module _ (g : Geometry) (c : List ℕ) where
   unfolding entryFault entriesFit firstBad goodEntryAt refuse
   entry-refusal =
       refusal-first (goodEntryAt g c) (g .blocks) 5 _
-      (λ e. entry-of-refusal (g .blocks) (g .disk) _ _ ∙ failed (firstBelow (fails (goodEntryAt g c)) (g .blocks)) (first-fails (goodEntryAt g c) (g .blocks) e))
+      (λ e. entry-of-refusal (g .blocks) (g .disk) _ _ ∙ failed (firstBad g c) (first-fails (goodEntryAt g c) (g .blocks) e))
     where
       failed : (i : ℕ) → goodEntryAt g c i ≡ false → refuse 5 (goodEntry (g .blocks) (g .disk) (entryAt g c i)) ≡ 5
       failed i h = ap (refuse 5) h

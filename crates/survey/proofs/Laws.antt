@@ -1,13 +1,13 @@
 -- What is read of a card, by the tests that lead to each answer. Assumes nothing.
 use Prim.Native.Nat.{ℕ, _+_, _-_, _≤_, _<_}
 use mathlib.Core.List.{List}
-use mathlib.Core.Bool.{Bool, true, false, cond, not, _&&_}
+use mathlib.Core.Bool.{Bool, true, false, cond, not, _&&_, _||_}
 use mathlib.Core.Path.{_≡_, refl, sym, ap, _∙_}
+use native.Mathlib.Numerals.{add-one}
 use native.Mathlib.Omega.{arith}
 use lib.ListN.{length}
 use lib.Dec.{eqb, ltb, leb}
 use borrow.Author.Tests.{lt-ltb, le-ltb, ltb-true, le-leb, lt-leb, eq-eqb, ne-eqb, eqb-true, not-true, not-false}
-use Rattle.numbers.specs.Bytes.{numberAt}
 use Rattle.numbers.specs.Post.{Number}
 use Rattle.protocol.specs.declared.Geometry.{Geometry}
 use Rattle.protocol.specs.declared.Entry.{Entry}
@@ -17,7 +17,7 @@ use Rattle.protocol.specs.Entry.{entryIn, entryAt, isUnused, goodEntry}
 use Rattle.protocol.specs.Ring.{headOf, tailOf, windowOf, windowNumber, usedAt, undoableAt, settledBlock}
 use Rattle.protocol.specs.Check.{headerFits, goodEntryAt, fitRefusal}
 use Rattle.protocol.specs.Search.{takenBy, isFree}
-use Rattle.protocol.proofs.Below.{and-left, and-right, and-both, and-fails, any-more, any-found, any-done}
+use Rattle.protocol.proofs.Below.{and-left, and-right, and-both, and-fails}
 use Rattle.protocol.proofs.Checks.{Limits, limits}
 use Rattle.ring.specs.declared.Window.{Window}
 use Rattle.ring.specs.Fitted.{Fitted, Placed, WindowOf}
@@ -48,7 +48,7 @@ module _ (c : List ℕ) (at w : ℕ) where
 
   field-off : length c < at + w → NoField ≡ fieldIn c at w
   unfolding fieldIn
-  field-off h = pick-false (leb w 8 && leb (at + w) (length c)) (Is (numberAt c at w)) NoField (and-fails (leb w 8) _ (lt-leb (at + w) (length c) h))
+  field-off h = pick-false (leb w 8 && leb (at + w) (length c)) _ _ (and-fails (leb w 8) _ (lt-leb (at + w) (length c) h))
 
   pub field-long : length c < w → NoField ≡ fieldIn c at w
   field-long h = field-off (omega arith)
@@ -58,7 +58,9 @@ module _ (c : List ℕ) (at w : ℕ) where
 
   pub field-is : (r : ℕ) → w ≤ 8 → w ≤ length c → at ≤ length c - w → Number c at w r → Is r ≡ fieldIn c at w
   unfolding fieldIn
-  field-is r a l b n = ap Is (n .value) ∙ pick-true (leb w 8 && leb (at + w) (length c)) (Is (numberAt c at w)) NoField (and-both (le-leb w 8 a) (le-leb (at + w) (length c) (omega arith)))
+  field-is r a l b n =
+      ap Is (n .value)
+      ∙ pick-true (leb w 8 && leb (at + w) (length c)) _ _ (and-both (le-leb w 8 a) (le-leb (at + w) (length c) (omega arith)))
 
 -- ---- the window
 
@@ -120,6 +122,14 @@ module _ (c : List ℕ) (g : Geometry) (w : Window) (j : ℕ) (q : g ≡ geometr
 
 -- ---- an entry
 
+pub settled-told : (g : Geometry) (c : List ℕ) (i : ℕ) (e : Entry) (v : Bool) (s : ℕ) → e ≡ entryAt g c i → v ≡ undoableEntry g c e
+    → s ≡ cond v (e .previous) (e .current) → s ≡ settledBlock g c i
+unfolding settledBlock undoableAt usedAt undoableEntry
+settled-told g c i e v s is ev es =
+    es
+    ∙ ap (λ (b : Bool). cond b (e .previous) (e .current)) ev
+    ∙ ap (λ (x : Entry). cond (undoableEntry g c x) (x .previous) (x .current)) is
+
 -- the line of the entry e
 lineFor : Geometry → List ℕ → Entry → Bool → ℕ → Line
 lineFor g c e v s = cond (isUnused e) Unused (cond (ringKnown c && goodEntry (g .blocks) (g .disk) e) (Full e v s) (Raw e))
@@ -143,8 +153,8 @@ module _ (g : Geometry) (c : List ℕ) (i : ℕ) (e : Entry) (u : Bool) (is : e 
   pub line-unknown : (k : Bool) → u ≡ false → k ≡ ringKnown c → not k ≡ true → Raw e ≡ lineIn g c i
   line-unknown k t p h = let off : ringKnown c ≡ false = sym p ∙ not-true k h in line-raw t (rw off)
 
-  pub line-full : (ok k v : Bool) (s : ℕ) → u ≡ false → ok ≡ goodEntry (g .blocks) (g .disk) e → not ok ≡ false → k ≡ ringKnown c → not k ≡ false
-      → v ≡ undoableEntry g c e → s ≡ cond v (e .previous) (e .current) → Full e v s ≡ lineIn g c i
+  pub line-full : (ok k v : Bool) (s : ℕ) → u ≡ false → ok ≡ goodEntry (g .blocks) (g .disk) e → not ok ≡ false → k ≡ ringKnown c
+      → not k ≡ false → v ≡ undoableEntry g c e → s ≡ cond v (e .previous) (e .current) → Full e v s ≡ lineIn g c i
   unfolding lineFor
   line-full ok k v s t p h q l ev es =
       (λ x. Full e (ev x) ((es ∙ ap (λ (b : Bool). cond b (e .previous) (e .current)) ev) x))
@@ -169,7 +179,8 @@ module _ (c : List ℕ) (g : Geometry) (i : ℕ) (q : g ≡ geometryOf c) where
     unfolding lineOf reaches
     line-short l =
         pick-false (reaches c i) _ _
-        (and-fails (headerFits c) _ (and-fails (ltb i (geometryOf c .blocks)) _ (lt-leb (entryPlace (geometryOf c) i + 16) (length c) (rw line-end at l))))
+        (and-fails (headerFits c) _
+        (and-fails (ltb i (geometryOf c .blocks)) _ (lt-leb (entryPlace (geometryOf c) i + 16) (length c) (rw line-end at l))))
 
     pub line-entry : (e : Entry) → e ≡ entryIn c at → e ≡ entryAt g c i
     unfolding entryAt
@@ -182,7 +193,8 @@ module _ (c : List ℕ) (g : Geometry) (i : ℕ) (q : g ≡ geometryOf c) where
         p
         ∙ ap (λ (y : Geometry). lineIn y c i) q
         ∙ pick-true (reaches c i) _ _
-        (and-both (sym e ∙ not-false r h) (and-both (lt-ltb i _ (rw q at b)) (le-leb (entryPlace (geometryOf c) i + 16) (length c) (rw line-end at m))))
+        (and-both (sym e ∙ not-false r h)
+        (and-both (lt-ltb i _ (rw q at b)) (le-leb (entryPlace (geometryOf c) i + 16) (length c) (rw line-end at m))))
 
 module _ (c : List ℕ) (r : Bool) (g : Geometry) (e : r ≡ headerFits c) (h : not r ≡ false) (q : g ≡ geometryOf c) where
   pub header-slots : g .slots ≤ 256
@@ -193,17 +205,27 @@ module _ (c : List ℕ) (r : Bool) (g : Geometry) (e : r ≡ headerFits c) (h : 
 
 -- ---- a data block
 
-module _ (g : Geometry) (c : List ℕ) (p i : ℕ) (hit : Bool) (none : anyBelow (takenBy g c p) i ≡ false) where
-  pub block-taken : hit ≡ takenBy g c p i → hit ≡ true → i < g .blocks → Taken ≡ blockIn g c p
-  unfolding blockIn isFree
-  block-taken e t l = pick-false (isFree g c p) _ _ (ap not (any-found (takenBy g c p) (g .blocks) i l (sym e ∙ t)))
+pub none-more : (p : ℕ → Bool) (i : ℕ) (r hit : Bool) → r ≡ not (anyBelow p i) → hit ≡ p i → r && not hit ≡ not (anyBelow p (i + 1))
+unfolding anyBelow
+none-more p i r hit e h = (λ t. e t && not (h t)) ∙ both (anyBelow p i) (p i) ∙ ap (λ (n : ℕ). not (anyBelow p n)) (sym (add-one i))
+  where
+    both : (a b : Bool) → not a && not b ≡ not (a || b)
+    both true b = refl
+    both false b = refl
 
-  pub block-more : hit ≡ takenBy g c p i → hit ≡ false → anyBelow (takenBy g c p) (i + 1) ≡ false
-  block-more e t = any-more (takenBy g c p) i none (sym e ∙ t)
+module _ (g : Geometry) (c : List ℕ) (p i : ℕ) (r : Bool) (told : r ≡ not (anyBelow (takenBy g c p) i)) (a : g .blocks ≤ i)
+    (b : i ≤ g .blocks) where
+  free-told : r ≡ isFree g c p
+  unfolding isFree
+  free-told = let e : i ≡ g .blocks = omega arith in told ∙ ap (λ (n : ℕ). not (anyBelow (takenBy g c p) n)) e
 
-pub block-free : (g : Geometry) (c : List ℕ) (p i : ℕ) → anyBelow (takenBy g c p) i ≡ false → g .blocks ≤ i → i ≤ g .blocks → Free ≡ blockIn g c p
-unfolding blockIn isFree
-block-free g c p i none a b = pick-true (isFree g c p) _ _ (ap not (any-done (takenBy g c p) (g .blocks) i none a b))
+  pub block-free : r ≡ true → Free ≡ blockIn g c p
+  unfolding blockIn
+  block-free t = pick-true (isFree g c p) _ _ (sym free-told ∙ t)
+
+  pub block-taken : r ≡ false → Taken ≡ blockIn g c p
+  unfolding blockIn
+  block-taken t = pick-false (isFree g c p) _ _ (sym free-told ∙ t)
 
 pub block-unfit : (c : List ℕ) (p f : ℕ) → f ≡ fitRefusal c → (f ≡ 0 → ⊥) → NoBlock ≡ blockOf c p
 unfolding blockOf
@@ -212,7 +234,8 @@ block-unfit c p f e h = rw (ne-eqb (fitRefusal c) 0 (λ z. h (e ∙ z)))
 module _ (c : List ℕ) (p : ℕ) (g : Geometry) (q : g ≡ geometryOf c) where
   pub block-past : g .blocks ≤ p → NoBlock ≡ blockOf c p
   unfolding blockOf
-  block-past l = pick-false (eqb (fitRefusal c) 0 && ltb p (geometryOf c .blocks)) _ _ (and-fails (eqb (fitRefusal c) 0) _ (le-ltb p _ (rw q at l)))
+  block-past l =
+      pick-false (eqb (fitRefusal c) 0 && ltb p (geometryOf c .blocks)) _ _ (and-fails (eqb (fitRefusal c) 0) _ (le-ltb p _ (rw q at l)))
 
   pub block-there : (f : ℕ) (r : Block) → f ≡ fitRefusal c → f ≡ 0 → p < g .blocks → r ≡ blockIn g c p → r ≡ blockOf c p
   unfolding blockOf

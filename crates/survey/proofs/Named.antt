@@ -1,7 +1,7 @@
 -- What each search for a fault names, by the tests that lead to each answer. Assumes nothing.
 use Prim.Native.Nat.{ℕ, zero, suc, _+_, _≤_, _<_}
 use mathlib.Core.List.{List}
-use mathlib.Core.Bool.{Bool, true, false, cond, not, _&&_}
+use mathlib.Core.Bool.{Bool, true, false, cond, not, _&&_, _||_}
 use mathlib.Core.Path.{_≡_, refl, sym, ap, _∙_, subst}
 use native.Mathlib.Omega.{arith}
 use lib.ListN.{length, getD}
@@ -12,11 +12,11 @@ use Rattle.numbers.specs.Post.{Number}
 use Rattle.protocol.specs.declared.Geometry.{Geometry}
 use Rattle.protocol.specs.declared.Entry.{Entry}
 use Rattle.protocol.specs.Below.{allBelow, anyBelow, firstBelow, around}
-use Rattle.protocol.specs.Layout.{goodGeometry, geometryOf, zeroFrom, goodHeader, cardLength}
-use Rattle.protocol.specs.Entry.{entryAt, goodEntry}
-use Rattle.protocol.specs.Ring.{headOf, tailOf, windowOf, windowNumber}
-use Rattle.protocol.specs.Check.{refuse, _orElse_, headerFits, cardFits, windowNumberFits, ringFits, goodEntryAt, entriesFit, apart, apartBefore, entriesApart}
-use Rattle.protocol.specs.Check.{fitRefusal, damageRefusal}
+use Rattle.protocol.specs.Layout.{goodK, goodSlots, goodBlocks, goodDisk, goodGeometry, geometryOf, zeroFrom, goodHeader, cardLength}
+use Rattle.protocol.specs.Entry.{entryAt, inUse, allowedFlags, isUnused, goodEntry}
+use Rattle.protocol.specs.Ring.{headOf, tailOf, windowOf, windowNumber, usedAt}
+use Rattle.protocol.specs.Check.{refuse, _orElse_, headerFits, cardFits, windowNumberFits, ringFits, goodEntryAt, entriesFit}
+use Rattle.protocol.specs.Check.{alike, apart, apartBefore, entriesApart, fitRefusal, damageRefusal}
 use Rattle.protocol.proofs.Below.{absurd-bool, and-left, and-right, any-more}
 use Rattle.protocol.proofs.Checks.{refuse-none}
 use Rattle.ring.specs.declared.Window.{Window}
@@ -24,39 +24,42 @@ use Rattle.ring.specs.Fitted.{Placed, WindowOf}
 use Rattle.ring.proofs.Laws.{header-long, header-geometry, window-number-fits, window-number-misfits}
 use Rattle.checks.proofs.Find.{first-here, first-nowhere}
 use Rattle.survey.specs.declared.Fault.{Fault}
-use Rattle.survey.specs.declared.Fault.the-variants.{Sound, Short, HeaderLength, Version, Reserved, Length, Head, Tail, WindowNumber, SameNumber, SameCurrent, SameSettled}
-use Rattle.survey.specs.Fault.{refusalOf, _orNext_, fails, geometryFault, headerFault, lengthFault, firstMisfit, windowFault, ringFault}
-use Rattle.survey.specs.Fault.{entryFaultOf, firstBad, entryFault, sameSettled, pairFaultOf, firstAlike, firstPaired, pairFault}
-use Rattle.survey.specs.Fault.{damageFault, fitFault, faultOf}
+use Rattle.survey.specs.declared.Fault.the-variants.{Sound, Short, HeaderLength, Version, K, Slots, Blocks, Disk, Reserved}
+use Rattle.survey.specs.declared.Fault.the-variants.{Length, Head, Tail, WindowNumber, Flags, NotZero, Number as NumberFault}
+use Rattle.survey.specs.declared.Fault.the-variants.{Current, Previous, SameNumber, SameCurrent, SameSettled}
+use Rattle.survey.specs.Fault.{refusalOf, _orNext_, fails, geometryFault, headerFault, lengthFault, firstMisfit, windowFault}
+use Rattle.survey.specs.Fault.{ringFault, goodPrevious, entryFaultOf, firstBad, entryFault, sameSettled, pairFaultOf}
+use Rattle.survey.specs.Fault.{firstAlike, firstPaired, pairFault, damageFault, fitFault, faultOf}
 use Rattle.survey.proofs.Laws.{pick-true, pick-false}
-use Rattle.survey.proofs.Faults.{next-first, next-on, all-first, geometry-refusal, header-refusal, fit-refusal, ring-refusal, entry-refusal}
+use Rattle.survey.proofs.Faults.{next-first, next-on, all-first}
+use Rattle.survey.proofs.Faults.{geometry-refusal, header-refusal, fit-refusal, ring-refusal, entry-refusal}
 
 -- ---- one test of a chain: z is what the chain comes to
 
 module _ (x y z : Fault) where
-  pub on-eq : (a b : ℕ) → a ≡ b → z ≡ x → z ≡ cond (eqb a b) x y
+  on-eq : (a b : ℕ) → a ≡ b → z ≡ x → z ≡ cond (eqb a b) x y
   on-eq a b h e = e ∙ pick-true (eqb a b) x y (eq-eqb a b h)
 
-  pub off-eq : (a b : ℕ) → (a ≡ b → ⊥) → z ≡ y → z ≡ cond (eqb a b) x y
+  off-eq : (a b : ℕ) → (a ≡ b → ⊥) → z ≡ y → z ≡ cond (eqb a b) x y
   off-eq a b h e = e ∙ pick-false (eqb a b) x y (ne-eqb a b h)
 
-  pub on-lt : (a b : ℕ) → a < b → z ≡ x → z ≡ cond (ltb a b) x y
+  on-lt : (a b : ℕ) → a < b → z ≡ x → z ≡ cond (ltb a b) x y
   on-lt a b h e = e ∙ pick-true (ltb a b) x y (lt-ltb a b h)
 
-  pub off-lt : (a b : ℕ) → b ≤ a → z ≡ y → z ≡ cond (ltb a b) x y
+  off-lt : (a b : ℕ) → b ≤ a → z ≡ y → z ≡ cond (ltb a b) x y
   off-lt a b h e = e ∙ pick-false (ltb a b) x y (le-ltb a b h)
 
   module _ (b r : Bool) (is : r ≡ b) where
-    pub on-yes : r ≡ true → z ≡ x → z ≡ cond b x y
+    on-yes : r ≡ true → z ≡ x → z ≡ cond b x y
     on-yes h e = e ∙ pick-true b x y (sym is ∙ h)
 
-    pub off-no : r ≡ false → z ≡ y → z ≡ cond b x y
+    off-no : r ≡ false → z ≡ y → z ≡ cond b x y
     off-no h e = e ∙ pick-false b x y (sym is ∙ h)
 
-    pub on-not : not r ≡ false → z ≡ x → z ≡ cond b x y
+    on-not : not r ≡ false → z ≡ x → z ≡ cond b x y
     on-not h e = on-yes (not-false r h) e
 
-    pub off-not : not r ≡ true → z ≡ y → z ≡ cond b x y
+    off-not : not r ≡ true → z ≡ y → z ≡ cond b x y
     off-not h e = off-no (not-true r h) e
 
 -- ---- a search for the first index that fails: f is what is said of it
@@ -86,6 +89,32 @@ module _ (p : ℕ → Bool) (n i : ℕ) (none : anyBelow (fails p) i ≡ false) 
 
 -- ---- 1
 
+module _ (g : Geometry) (k : Bool) (ek : k ≡ goodK (g .k)) where
+  pub limit-k : not k ≡ true → K ≡ geometryFault g
+  unfolding geometryFault
+  limit-k h = off-not _ _ _ _ k ek h refl
+
+  module _ (hk : not k ≡ false) (s : Bool) (es : s ≡ goodSlots (g .slots)) where
+    pub limit-slots : not s ≡ true → Slots ≡ geometryFault g
+    unfolding geometryFault
+    limit-slots h = on-not _ _ _ _ k ek hk (off-not _ _ _ _ s es h refl)
+
+    module _ (hs : not s ≡ false) (n : Bool) (en : n ≡ goodBlocks (g .blocks)) where
+      pub limit-blocks : not n ≡ true → Blocks ≡ geometryFault g
+      unfolding geometryFault
+      limit-blocks h = on-not _ _ _ _ k ek hk (on-not _ _ _ _ s es hs (off-not _ _ _ _ n en h refl))
+
+      module _ (hn : not n ≡ false) (d : Bool) (ed : d ≡ goodDisk (g .disk)) where
+        limit-rest : (f : Fault) → f ≡ cond (goodDisk (g .disk)) Sound Disk → f ≡ geometryFault g
+        unfolding geometryFault
+        limit-rest f p = on-not _ _ _ _ k ek hk (on-not _ _ _ _ s es hs (on-not _ _ _ _ n en hn p))
+
+        pub limit-disk : not d ≡ true → Disk ≡ geometryFault g
+        limit-disk h = limit-rest Disk (off-not _ _ _ _ d ed h refl)
+
+        pub limit-none : not d ≡ false → Sound ≡ geometryFault g
+        limit-none h = limit-rest Sound (on-not _ _ _ _ d ed h refl)
+
 pub header-under : (c : List ℕ) → length c < 128 → Short ≡ headerFault c
 unfolding headerFault
 header-under c h = pick-true (ltb (length c) 128) _ _ (lt-ltb _ _ h)
@@ -108,7 +137,8 @@ module _ (c : List ℕ) (r : ℕ) (long : 128 ≤ length c) (n : Number c 0 4 r)
         ∙ pick-false (ltb (length c) 128) _ _ (le-ltb _ _ long)
 
     module _ (one : getD c 4 0 ≡ 1) (g : Geometry) (q : g ≡ geometryOf c) (ok : Bool) (good : ok ≡ goodGeometry g) where
-      header-past : (f : Fault) → f ≡ geometryFault (geometryOf c) orNext cond (allBelow (zeroFrom c 16) 48) Sound Reserved → f ≡ headerFault c
+      header-past : (f : Fault) → f ≡ geometryFault (geometryOf c) orNext cond (allBelow (zeroFrom c 16) 48) Sound Reserved
+          → f ≡ headerFault c
       unfolding headerFault
       header-past f e =
           e
@@ -119,10 +149,13 @@ module _ (c : List ℕ) (r : ℕ) (long : 128 ≤ length c) (n : Number c 0 4 r)
       good-is : (b : Bool) → ok ≡ b → goodGeometry (geometryOf c) ≡ b
       good-is b h = ap goodGeometry (sym q) ∙ sym good ∙ h
 
+      limits-refusal : (b : Bool) → ok ≡ b → refusalOf (geometryFault (geometryOf c)) ≡ refuse 1 b
+      limits-refusal b h = geometry-refusal (geometryOf c) ∙ ap (refuse 1) (good-is b h)
+
       pub header-limits : (f : Fault) → not ok ≡ true → f ≡ geometryFault g → f ≡ headerFault c
       unfolding refuse
       header-limits f h p =
-          let o : refusalOf (geometryFault (geometryOf c)) ≡ 1 = geometry-refusal (geometryOf c) ∙ ap (refuse 1) (good-is false (not-true ok h)) in
+          let o : refusalOf (geometryFault (geometryOf c)) ≡ 1 = limits-refusal false (not-true ok h) in
           header-past f (p ∙ ap geometryFault q ∙ next-first (geometryFault (geometryOf c)) _ (λ z. omega arith))
 
       module _ (yes : not ok ≡ false) (fit : Bool) (fits : fit ≡ headerFits c) where
@@ -138,7 +171,7 @@ module _ (c : List ℕ) (r : ℕ) (long : 128 ≤ length c) (n : Number c 0 4 r)
         header-rest : (f : Fault) → f ≡ cond (allBelow (zeroFrom c 16) 48) Sound Reserved → f ≡ headerFault c
         unfolding refuse
         header-rest f p =
-            let o : refusalOf (geometryFault (geometryOf c)) ≡ 0 = geometry-refusal (geometryOf c) ∙ ap (refuse 1) (good-is true (not-false ok yes)) in
+            let o : refusalOf (geometryFault (geometryOf c)) ≡ 0 = limits-refusal true (not-false ok yes) in
             header-past f (p ∙ next-on (geometryFault (geometryOf c)) _ o)
 
         pub header-sound : fit ≡ true → Sound ≡ headerFault c
@@ -150,8 +183,8 @@ module _ (c : List ℕ) (r : ℕ) (long : 128 ≤ length c) (n : Number c 0 4 r)
 -- ---- 4
 
 module _ (g : Geometry) (c : List ℕ) (j : ℕ) (none : anyBelow (fails (windowNumberFits g c)) j ≡ false) where
-  pub window-fault : (w : Window) (r x : ℕ) → WindowOf g c w → r ≡ windowNumber g c j → j < w .count → g .disk ≤ r → x ≡ around (g .slots) (w .tail) j
-      → WindowNumber x ≡ windowFault g c
+  pub window-fault : (w : Window) (r x : ℕ) → WindowOf g c w → r ≡ windowNumber g c j → j < w .count → g .disk ≤ r
+      → x ≡ around (g .slots) (w .tail) j → WindowNumber x ≡ windowFault g c
   unfolding windowFault firstMisfit
   window-fault w r x win e l m q =
       named-here (windowNumberFits g c) (windowOf g c) j none (λ k. WindowNumber (around (g .slots) (tailOf c) k)) _ (rw (win .count) at l)
@@ -174,14 +207,54 @@ module _ (g : Geometry) (c : List ℕ) (h : ℕ) (eh : h ≡ headOf c) where
     pub tail-fault : g .slots ≤ t → Tail ≡ ringFault g c
     unfolding ringFault
     tail-fault l =
-        pick-false (ltb (tailOf c) (g .slots)) _ _ (le-ltb _ _ (rw et at l)) ∙ pick-true (ltb (headOf c) (g .slots)) _ _ (lt-ltb _ _ (rw eh at lh))
+        pick-false (ltb (tailOf c) (g .slots)) _ _ (le-ltb _ _ (rw et at l))
+        ∙ pick-true (ltb (headOf c) (g .slots)) _ _ (lt-ltb _ _ (rw eh at lh))
 
     pub ring-told : (f : Fault) → t < g .slots → f ≡ windowFault g c → f ≡ ringFault g c
     unfolding ringFault
     ring-told f lt q =
-        q ∙ pick-true (ltb (tailOf c) (g .slots)) _ _ (lt-ltb _ _ (rw et at lt)) ∙ pick-true (ltb (headOf c) (g .slots)) _ _ (lt-ltb _ _ (rw eh at lh))
+        q
+        ∙ pick-true (ltb (tailOf c) (g .slots)) _ _ (lt-ltb _ _ (rw et at lt))
+        ∙ pick-true (ltb (headOf c) (g .slots)) _ _ (lt-ltb _ _ (rw eh at lh))
 
 -- ---- 5
+
+module _ (n d i : ℕ) (e : Entry) (u : Bool) (eu : u ≡ isUnused e) where
+  pub entry-unused : u ≡ true → Sound ≡ entryFaultOf n d i e
+  unfolding entryFaultOf
+  entry-unused h = on-yes _ _ _ _ u eu h refl
+
+  module _ (hu : u ≡ false) where
+    pub entry-not-zero : e .flags ≡ 0 → NotZero i ≡ entryFaultOf n d i e
+    unfolding entryFaultOf
+    entry-not-zero h = off-no _ _ _ _ u eu hu (on-eq _ _ _ (e .flags) 0 h refl)
+
+    module _ (a : Bool) (z : e .flags ≡ 0 → ⊥) (ea : a ≡ allowedFlags (e .flags)) where
+      pub entry-flags : not a ≡ true → Flags i ≡ entryFaultOf n d i e
+      unfolding entryFaultOf
+      entry-flags h = off-no _ _ _ _ u eu hu (off-eq _ _ _ (e .flags) 0 z (off-not _ _ _ _ a ea h refl))
+
+      module _ (ha : not a ≡ false) where
+        flags-past : (f : Fault)
+            → f ≡ cond (ltb (e .number) d) (cond (goodPrevious n (e .previous)) (cond (ltb (e .current) n) Sound (Current i)) (Previous i))
+            (NumberFault i)
+            → f ≡ entryFaultOf n d i e
+        unfolding entryFaultOf
+        flags-past f p = off-no _ _ _ _ u eu hu (off-eq _ _ _ (e .flags) 0 z (on-not _ _ _ _ a ea ha p))
+
+        pub entry-number : d ≤ e .number → NumberFault i ≡ entryFaultOf n d i e
+        entry-number h = flags-past (NumberFault i) (off-lt _ _ _ (e .number) d h refl)
+
+        module _ (p : Bool) (l : e .number < d) (ep : p ≡ goodPrevious n (e .previous)) where
+          pub entry-previous : not p ≡ true → Previous i ≡ entryFaultOf n d i e
+          entry-previous h = flags-past (Previous i) (on-lt _ _ _ (e .number) d l (off-not _ _ _ _ p ep h refl))
+
+          module _ (hp : not p ≡ false) (q : Bool) (eq : q ≡ ltb (e .current) n) where
+            pub entry-current : not q ≡ true → Current i ≡ entryFaultOf n d i e
+            entry-current h = flags-past (Current i) (on-lt _ _ _ (e .number) d l (on-not _ _ _ _ p ep hp (off-not _ _ _ _ q eq h refl)))
+
+            pub entry-fine : not q ≡ false → Sound ≡ entryFaultOf n d i e
+            entry-fine h = flags-past Sound (on-lt _ _ _ (e .number) d l (on-not _ _ _ _ p ep hp (on-not _ _ _ _ q eq h refl)))
 
 module _ (g : Geometry) (c : List ℕ) (i : ℕ) (none : anyBelow (fails (goodEntryAt g c)) i ≡ false) where
   module _ (e : Entry) (ok : Bool) (is : e ≡ entryAt g c i) (good : ok ≡ goodEntry (g .blocks) (g .disk) e) where
@@ -205,16 +278,38 @@ module _ (g : Geometry) (c : List ℕ) (i : ℕ) (none : anyBelow (fails (goodEn
 
 -- ---- 6
 
--- the chain of a pair, over the entries that were read
-pub pair-told : (g : Geometry) (c : List ℕ) (i j : ℕ) (a b : Entry) (f : Fault) → a ≡ entryAt g c i → b ≡ entryAt g c j
-    → f ≡ cond (eqb (a .number) (b .number)) (SameNumber i j)
-    (cond (eqb (a .current) (b .current)) (SameCurrent i j) (cond (sameSettled g c i j) (SameSettled i j) Sound))
-    → f ≡ pairFaultOf g c i j
-unfolding pairFaultOf
-pair-told g c i j a b f p q e =
-    e
-    ∙ (λ t. cond (eqb (p t .number) (q t .number)) (SameNumber i j)
-    (cond (eqb (p t .current) (q t .current)) (SameCurrent i j) (cond (sameSettled g c i j) (SameSettled i j) Sound)))
+module _ (g : Geometry) (c : List ℕ) (i j : ℕ) (a b : Entry) (p : a ≡ entryAt g c i) (q : b ≡ entryAt g c j) where
+  pub apart-told : (u v s : Bool) → u ≡ inUse a → v ≡ inUse b → s ≡ sameSettled g c i j
+      → not (u && (v && (eqb (a .number) (b .number) || (eqb (a .current) (b .current) || s)))) ≡ apart g c i j
+  unfolding apart alike usedAt sameSettled
+  apart-told u v s eu ev es =
+      (λ t. not (eu t && (ev t && (eqb (a .number) (b .number) || (eqb (a .current) (b .current) || es t)))))
+      ∙ (λ t. not (inUse (p t)
+      && (inUse (q t) && (eqb (p t .number) (q t .number) || (eqb (p t .current) (q t .current) || sameSettled g c i j)))))
+
+  pair-told : (f : Fault)
+      → f ≡ cond (eqb (a .number) (b .number)) (SameNumber i j)
+      (cond (eqb (a .current) (b .current)) (SameCurrent i j) (cond (sameSettled g c i j) (SameSettled i j) Sound))
+      → f ≡ pairFaultOf g c i j
+  unfolding pairFaultOf
+  pair-told f e =
+      e
+      ∙ (λ t. cond (eqb (p t .number) (q t .number)) (SameNumber i j)
+      (cond (eqb (p t .current) (q t .current)) (SameCurrent i j) (cond (sameSettled g c i j) (SameSettled i j) Sound)))
+
+  pub pair-number : a .number ≡ b .number → SameNumber i j ≡ pairFaultOf g c i j
+  pair-number h = pair-told _ (on-eq _ _ _ _ _ h refl)
+
+  module _ (m : a .number ≡ b .number → ⊥) where
+    pub pair-current : a .current ≡ b .current → SameCurrent i j ≡ pairFaultOf g c i j
+    pair-current h = pair-told _ (off-eq _ _ _ _ _ m (on-eq _ _ _ _ _ h refl))
+
+    module _ (s : Bool) (k : a .current ≡ b .current → ⊥) (es : s ≡ sameSettled g c i j) where
+      pub pair-settled : s ≡ true → SameSettled i j ≡ pairFaultOf g c i j
+      pair-settled h = pair-told _ (off-eq _ _ _ _ _ m (off-eq _ _ _ _ _ k (on-yes _ _ _ _ s es h refl)))
+
+      pub pair-none : s ≡ false → Sound ≡ pairFaultOf g c i j
+      pair-none h = pair-told _ (off-eq _ _ _ _ _ m (off-eq _ _ _ _ _ k (off-no _ _ _ _ s es h refl)))
 
 module _ (g : Geometry) (c : List ℕ) (i j : ℕ) (r : Bool) (is : r ≡ apart g c i j) where
   pub alike-here : anyBelow (fails (apart g c i)) j ≡ false → j < i → not r ≡ true → j ≡ firstAlike g c i

@@ -1,5 +1,5 @@
--- What is wrong with a refused card: checks 1, 2 and 4 to 6 of document 01, each with the first thing that it forbids. A part is `Sound` where its
--- check passes, so that the parts in their order give the first fault of the card.
+-- What is wrong with a refused card: checks 1, 2 and 4 to 6 of document 01, each with the first thing that it forbids. A part is `Sound`
+-- where its check passes, so that the parts in their order give the first fault of the card.
 use Prim.Native.Nat.{ℕ}
 use mathlib.Core.List.{List}
 use mathlib.Core.Bool.{Bool, cond, not, _&&_, _||_}
@@ -14,29 +14,9 @@ use Rattle.protocol.specs.Entry.{FRESH, entryAt, allowedFlags, isUnused}
 use Rattle.protocol.specs.Ring.{headOf, tailOf, windowOf, settledBlock}
 use Rattle.protocol.specs.Check.{cardFits, windowNumberFits, goodEntryAt, apart, apartBefore}
 use Rattle.survey.specs.declared.Fault.{Fault}
-use Rattle.survey.specs.declared.Fault.the-variants.{
-  Sound,
-  Short,
-  HeaderLength,
-  Version,
-  K,
-  Slots,
-  Blocks,
-  Disk,
-  Reserved,
-  Length,
-  Head,
-  Tail,
-  WindowNumber,
-  Flags,
-  NotZero,
-  Number,
-  Current,
-  Previous,
-  SameNumber,
-  SameCurrent,
-  SameSettled,
-}
+use Rattle.survey.specs.declared.Fault.the-variants.{Sound, Short, HeaderLength, Version, K, Slots, Blocks, Disk, Reserved}
+use Rattle.survey.specs.declared.Fault.the-variants.{Length, Head, Tail, WindowNumber, Flags, NotZero, Number, Current, Previous}
+use Rattle.survey.specs.declared.Fault.the-variants.{SameNumber, SameCurrent, SameSettled}
 
 -- the refusal that a fault comes under, 0 for none
 unfoldable pub refusalOf : Fault → ℕ

@@ -8,7 +8,7 @@ ghost use mathlib.Core.Bool.{cond};
 ghost use Prim.Native.Nat.{_≤_, _<_};
 ghost use lib.Dec.{ltb};
 ghost use Rattle.protocol.specs.Layout.{geometryOf, entryPlace};
-ghost use Rattle.protocol.specs.Entry.{entryAt, allowedFlags, isUnused};
+ghost use Rattle.protocol.specs.Entry.{entryAt, isUnused};
 ghost use Rattle.protocol.specs.Ring.{settledBlock};
 ghost use Rattle.protocol.specs.Search.{takenBy};
 ghost use Rattle.protocol.specs.Check.{apart};
@@ -195,14 +195,13 @@ fn block_in(g: Geometry, card: &[u8], p: u64) -> Block
     ensures { λ r. ⌜ r ≡ blockIn g (now (card .entry)) p ⌝ }
 {
     let n = g.blocks as usize;
+    let mut free = true;
     let mut i: usize = 0;
     while i < n {
-        if taken_by(g, card, p, i) {
-            return Block::Taken;
-        }
+        free = free & !taken_by(g, card, p, i);
         i += 1;
     }
-    Block::Free
+    if free { Block::Free } else { Block::Taken }
 }
 
 // Whether data block p is free.
@@ -305,12 +304,6 @@ fn good_previous(n: u64, p: u32) -> bool
     below(p, n) | (p == FRESH)
 }
 
-fn allowed_flags(f: u8) -> bool
-    ensures { λ r. ⌜ r ≡ allowedFlags f ⌝ }
-{
-    (f == 0x80) | ((f == 0x82) | (f == 0x83))
-}
-
 // 5: the first wrong field of the entry e at place i.
 fn entry_fault_of(n: u64, d: u64, i: u64, e: Entry) -> Fault
     ensures { λ r. ⌜ r ≡ entryFaultOf n d i e ⌝ }
@@ -321,7 +314,7 @@ fn entry_fault_of(n: u64, d: u64, i: u64, e: Entry) -> Fault
     if e.flags == 0 {
         return Fault::NotZero(i);
     }
-    if !allowed_flags(e.flags) {
+    if !((e.flags == 0x80) | ((e.flags == 0x82) | (e.flags == 0x83))) {
         return Fault::Flags(i);
     }
     if e.number >= d {
@@ -427,11 +420,12 @@ fn pair_fault(g: Geometry, card: &[u8]) -> Fault
     let n = g.blocks as usize;
     let mut i: usize = 0;
     while i < n {
-        let j = first_alike(g, card, w, i);
-        if j < i {
-            return pair_fault_of(g, card, w, i, j);
-        }
+        let at = i;
+        let j = first_alike(g, card, w, at);
         i += 1;
+        if j < at {
+            return pair_fault_of(g, card, w, at, j);
+        }
     }
     Fault::Sound
 }

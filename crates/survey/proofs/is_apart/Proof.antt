@@ -1,7 +1,5 @@
 -- `is_apart` answers its definition, from the two entries that were read.
-use Rattle.protocol.specs.Ring.{usedAt}
-use Rattle.protocol.specs.Check.{alike, apart}
-use Rattle.survey.specs.Fault.{sameSettled}
+use Rattle.survey.proofs.Named.{apart-told}
 use borrow.Author.Needs.{needs}
 use Rattle.survey.proofs.is_apart.Statement.{statement}
 use Rattle.survey.proofs.is_apart.Tie as tie
@@ -22,8 +20,7 @@ in-use-requires-2 : tie.Need-in-use-requires-2
 in-use-requires-2 c κs = search needs
 
 returns : tie.Need-returns
-unfolding apart alike usedAt sameSettled
-returns c = cc
+returns c = search (apart-told, needs)
 
 pub is-apart-spec : {M : Type 1} → statement M
 is-apart-spec =

@@ -26,14 +26,14 @@ loop-holds c = search needs
 first-alike-requires : tie.Need-first-alike-requires Inv-loop μ-loop
 first-alike-requires c κs = search needs
 
+add-i : tie.Need-add-i Inv-loop μ-loop
+add-i c = search needs
+
 pair-fault-of-requires : tie.Need-pair-fault-of-requires Inv-loop μ-loop
 pair-fault-of-requires c κs = search needs
 
 returns : tie.Need-returns Inv-loop μ-loop
 returns c = search (pair-named, needs)
-
-add-i : tie.Need-add-i Inv-loop μ-loop
-add-i c = search needs
 
 loop-less : tie.Need-loop-less Inv-loop μ-loop
 loop-less c = search needs
@@ -53,9 +53,9 @@ pair-fault-spec =
     window-of-requires
     loop-holds
     first-alike-requires
+    add-i
     pair-fault-of-requires
     returns
-    add-i
     loop-less
     loop-again
     returns-2)

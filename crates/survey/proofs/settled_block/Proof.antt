@@ -1,6 +1,5 @@
 -- `settled_block` answers its definition, from the entry that was read.
-use Rattle.protocol.specs.Ring.{usedAt, undoableAt, settledBlock}
-use Rattle.checks.specs.Keys.{undoableEntry}
+use Rattle.survey.proofs.Laws.{settled-told}
 use borrow.Author.Needs.{needs}
 use Rattle.survey.proofs.settled_block.Statement.{statement}
 use Rattle.survey.proofs.settled_block.Tie as tie
@@ -15,8 +14,7 @@ settled-requires : tie.Need-settled-requires
 settled-requires c κs = search needs
 
 returns : tie.Need-returns
-unfolding settledBlock undoableAt usedAt undoableEntry
-returns c = cc
+returns c = search (settled-told, needs)
 
 pub settled-block-spec : {M : Type 1} → statement M
 settled-block-spec =

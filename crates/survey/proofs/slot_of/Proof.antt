@@ -23,8 +23,9 @@ returns-2 c = search (slot-past, needs)
 forward-requires : tie.Need-forward-requires
 forward-requires c κs =
     let w = c .before .before in
-    let k = known-fitted _ _ (w .before .before .before .ring-known .ensures) (w .before .before .if1 .left) _ (w .before .geometry-of .ensures) in
-    window-on-ring _ _ _ _ k (w .window-of .ensures) (c .if2 .left)
+    let k = w .before .before in
+    let f = known-fitted _ _ (k .before .ring-known .ensures) (k .if1 .left) _ (w .before .geometry-of .ensures) in
+    window-on-ring _ _ _ _ f (w .window-of .ensures) (c .if2 .left)
 
 window-number-requires : tie.Need-window-number-requires
 window-number-requires c κs = search (known-fitted, needs)
