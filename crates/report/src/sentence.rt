@@ -1,7 +1,7 @@
 // What is wrong with a refused card, and who can cause it.
-use crate::marks::count;
-use crate::marks::plain;
-use crate::marks::say;
+use listing::count;
+use listing::plain;
+use listing::say;
 use survey::Fault;
 
 fn lead(fd: i32, number: u8) {

@@ -1,9 +1,9 @@
 // A card as it stands, on standard output: as much of it as can be told.
-use crate::marks::count;
-use crate::marks::plain;
-use crate::marks::say;
 use crate::sentence::fault;
 use libc::STDOUT_FILENO;
+use listing::count;
+use listing::plain;
+use listing::say;
 use protocol::Condition;
 use protocol::Entry;
 use protocol::FRESH;

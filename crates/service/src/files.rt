@@ -3,11 +3,11 @@ use image::Got;
 use image::Repair;
 use libc::STDERR_FILENO;
 use libc::STDOUT_FILENO;
+use listing::count;
+use listing::say;
 use lookup::Found;
 use protocol::Geometry;
 use protocol::Outcome;
-use report::count;
-use report::say;
 ghost use mathlib.Core.Bool.{true};
 ghost use Prim.Native.Nat.{_≤_, _<_};
 ghost use lib.ListN.{length};
@@ -73,7 +73,7 @@ pub fn show(path: &[u8]) {
 // "block 3, held by the card from byte 256 on"
 fn held(b: u64, by: &[u8], at: usize) {
     say(STDOUT_FILENO, b"block ");
-    report::plain(STDOUT_FILENO, b, 0);
+    listing::plain(STDOUT_FILENO, b, 0);
     say(STDOUT_FILENO, b", held by the ");
     say(STDOUT_FILENO, by);
     say(STDOUT_FILENO, b" from byte ");
@@ -92,7 +92,7 @@ fn from_disk(path: &[u8], fd: i32, b: u64, at: usize, size: usize)
         return;
     }
     held(b, b"disk", at);
-    report::block(bytes);
+    listing::block(bytes);
 }
 
 // Where block b of the card over a disk of `long` bytes lies, and its bytes.
@@ -102,7 +102,7 @@ fn find(card: &[u8], path: &[u8], fd: i32, long: u64, b: u64) {
         Found::Outside(_) => refuse(card, 10),
         Found::Card(at, size) => {
             held(b, b"card", at);
-            report::block(&card[at..at + size]);
+            listing::block(&card[at..at + size]);
         }
         Found::Disk(at, size) => from_disk(path, fd, b, at, size),
     }
@@ -175,7 +175,7 @@ fn repair(path: &[u8], fd: i32, card: &mut [u8], allowance: u64) {
         return;
     }
     say(STDOUT_FILENO, b"recovery stores\n");
-    report::stores(s.geometry, card, s.window);
+    listing::stores(s.geometry, card, s.window);
     let r = image::recover(fd, card, allowance);
     told(path, r);
     libc::lseek(fd, 0, libc::SEEK_SET);

@@ -7,11 +7,11 @@ use libc::STDERR_FILENO;
 use words::Word;
 
 fn usage() {
-    report::say(STDERR_FILENO, b"usage: service show CARD\n");
-    report::say(STDERR_FILENO, b"       service block CARD DISK NUMBER\n");
-    report::say(STDERR_FILENO, b"       service recover CARD [ALLOWANCE]\n");
-    report::say(STDERR_FILENO, b"       service format CARD K S N D\n");
-    report::say(
+    listing::say(STDERR_FILENO, b"usage: service show CARD\n");
+    listing::say(STDERR_FILENO, b"       service block CARD DISK NUMBER\n");
+    listing::say(STDERR_FILENO, b"       service recover CARD [ALLOWANCE]\n");
+    listing::say(STDERR_FILENO, b"       service format CARD K S N D\n");
+    listing::say(
         STDERR_FILENO,
         b"example: service format card.img 9 8 4 16\n",
     );

@@ -2,8 +2,8 @@
 use Prim.Native.Nat.{_≤_, _-_}
 use lib.ListN.{length}
 use borrow.Author.Needs.{needs}
-use Rattle.report.proofs.list.block.Statement.{statement}
-use Rattle.report.proofs.list.block.Tie as tie
+use Rattle.listing.proofs.list.block.Statement.{statement}
+use Rattle.listing.proofs.list.block.Tie as tie
 
 abbrev Inv-loop : tie.InvT-loop
 Inv-loop bytes at₀ at = at ≤ length bytes

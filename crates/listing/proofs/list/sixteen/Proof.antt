@@ -1,8 +1,8 @@
 -- `sixteen` copies sixteen bytes over sixteen zeros.
 use borrow.Author.Needs.{needs}
-use Rattle.report.proofs.Laws.{copied-whole}
-use Rattle.report.proofs.list.sixteen.Statement.{statement}
-use Rattle.report.proofs.list.sixteen.Tie as tie
+use Rattle.listing.proofs.Laws.{copied-whole}
+use Rattle.listing.proofs.list.sixteen.Statement.{statement}
+use Rattle.listing.proofs.list.sixteen.Tie as tie
 
 slice-aggregate-copy : tie.Need-slice-aggregate-copy
 slice-aggregate-copy c = search needs

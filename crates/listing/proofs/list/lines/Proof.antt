@@ -7,9 +7,9 @@ use Rattle.protocol.specs.Below.{eachBelow}
 use Rattle.protocol.specs.Store.{flat}
 use Rattle.recovery.specs.Step.{runsAt}
 use Rattle.recovery.proofs.Turns.{place-fits}
-use Rattle.report.proofs.Laws.{lines-first, lines-skip, lines-more, lines-last, lines-fit}
-use Rattle.report.proofs.list.lines.Statement.{statement}
-use Rattle.report.proofs.list.lines.Tie as tie
+use Rattle.listing.proofs.Laws.{lines-first, lines-skip, lines-more, lines-last, lines-fit}
+use Rattle.listing.proofs.list.lines.Statement.{statement}
+use Rattle.listing.proofs.list.lines.Tie as tie
 
 abbrev Inv-loop : tie.InvT-loop
 Inv-loop g card w n count₀ i₀ count i = (i ≤ n + 1) × (count ≡ length (flat (eachBelow (runsAt g card) i))) × (count ≤ i)
