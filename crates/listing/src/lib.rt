@@ -5,5 +5,6 @@ mod marks;
 pub use list::block;
 pub use list::stores;
 pub use marks::count;
+pub use marks::entry;
 pub use marks::plain;
 pub use marks::say;

@@ -1,6 +1,8 @@
 // A block's bytes, and recovery's list.
+use crate::marks::entry;
 use crate::marks::plain;
 use crate::marks::say;
+use crate::marks::word;
 use libc::STDOUT_FILENO;
 use protocol::Entry;
 use protocol::Geometry;
@@ -53,7 +55,7 @@ fn meaning(i: u64, u: Step) {
         Step::Nothing => {}
         Step::Undo(e) => undone(i, e),
         Step::Tail(v) => {
-            say(STDOUT_FILENO, b"                  Tail to Head, ");
+            say(STDOUT_FILENO, b"  Tail to Head, ");
             plain(STDOUT_FILENO, v, 0);
             say(STDOUT_FILENO, b"\n");
         }
@@ -63,14 +65,13 @@ fn meaning(i: u64, u: Step) {
 // One line of the list: its number, where the store goes, its bytes and what it does.
 fn line(number: u64, i: u64, u: Step, s: Spelled) {
     let bytes = s.bytes;
-    let hex = text::hex(&bytes);
     plain(STDOUT_FILENO, number, 7);
     plain(STDOUT_FILENO, s.place as u64, 7);
     say(STDOUT_FILENO, b"  ");
     if s.size == 8 {
-        say(STDOUT_FILENO, &hex[0..16]);
+        word(STDOUT_FILENO, bytes);
     } else {
-        say(STDOUT_FILENO, &hex[0..32]);
+        entry(STDOUT_FILENO, bytes);
     }
     meaning(i, u);
 }
@@ -103,7 +104,7 @@ pub fn stores(g: Geometry, card: &[u8], w: Window) -> u64
 {
     say(
         STDOUT_FILENO,
-        b"  store   byte  bytes                             what\n",
+        b"  store   byte  bytes                               what\n",
     );
     lines(g, card, w)
 }

@@ -34,3 +34,20 @@ pub fn count(fd: i32, n: u64, width: usize) {
 pub fn plain(fd: i32, n: u64, width: usize) {
     column(fd, text::plain(n), width);
 }
+
+// An entry's sixteen bytes as document 01 writes them: flag byte and number, previous, current.
+pub fn entry(fd: i32, bytes: [u8; 16]) {
+    let hex = text::hex(&bytes);
+    say(fd, &hex[0..16]);
+    say(fd, b" ");
+    say(fd, &hex[16..24]);
+    say(fd, b" ");
+    say(fd, &hex[24..32]);
+}
+
+// A word's eight bytes, as wide as an entry.
+pub fn word(fd: i32, bytes: [u8; 16]) {
+    let hex = text::hex(&bytes);
+    say(fd, &hex[0..16]);
+    say(fd, b"                  ");
+}

@@ -2,6 +2,7 @@
 use crate::sentence::fault;
 use libc::STDOUT_FILENO;
 use listing::count;
+use listing::entry;
 use listing::plain;
 use listing::say;
 use protocol::Condition;
@@ -80,17 +81,11 @@ fn window(card: &[u8]) -> bool {
     true
 }
 
-// An entry's bytes as document 01 writes them: flag byte and number, previous, current.
 fn bytes(e: Entry) {
     let mut raw = [0u8; 16];
     codec::put_entry(&mut raw, 0, e);
-    let hex = text::hex(&raw);
     out(b"  ");
-    out(&hex[0..16]);
-    out(b" ");
-    out(&hex[16..24]);
-    out(b" ");
-    out(&hex[24..32]);
+    entry(STDOUT_FILENO, raw);
 }
 
 fn flag(set: bool, letter: &[u8]) {
