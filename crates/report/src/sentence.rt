@@ -2,7 +2,7 @@
 use crate::marks::count;
 use crate::marks::plain;
 use crate::marks::say;
-use survey::Fault;
+use faults::Fault;
 
 fn lead(fd: i32, number: u8) {
     say(fd, b"refused with ");

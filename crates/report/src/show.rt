@@ -3,13 +3,13 @@ use crate::marks::count;
 use crate::marks::plain;
 use crate::marks::say;
 use crate::sentence::fault;
+use faults::Fault;
 use libc::STDOUT_FILENO;
 use protocol::Condition;
 use protocol::Entry;
 use protocol::FRESH;
 use protocol::Reported;
 use survey::Block;
-use survey::Fault;
 use survey::Field;
 use survey::Line;
 use survey::Slot;
@@ -236,7 +236,7 @@ pub fn condition(card: &[u8]) {
             out(b"condition  ");
             told(c);
         }
-        Reported::Refused(r) => fault(STDOUT_FILENO, r, survey::fault_of(card)),
+        Reported::Refused(r) => fault(STDOUT_FILENO, r, faults::fault_of(card)),
     }
 }
 
@@ -273,7 +273,7 @@ fn has_entries(card: &[u8]) -> bool {
 }
 
 fn is_sound(card: &[u8]) -> bool {
-    match survey::fault_of(card) {
+    match faults::fault_of(card) {
         Fault::Sound => true,
         _ => false,
     }
