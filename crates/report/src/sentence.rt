@@ -2,7 +2,7 @@
 use listing::count;
 use listing::plain;
 use listing::say;
-use survey::Fault;
+use faults::Fault;
 
 fn lead(fd: i32, number: u8) {
     say(fd, b"refused with ");

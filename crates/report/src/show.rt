@@ -1,5 +1,6 @@
 // A card as it stands, on standard output: as much of it as can be told.
 use crate::sentence::fault;
+use faults::Fault;
 use libc::STDOUT_FILENO;
 use listing::count;
 use listing::entry;
@@ -10,7 +11,6 @@ use protocol::Entry;
 use protocol::FRESH;
 use protocol::Reported;
 use survey::Block;
-use survey::Fault;
 use survey::Field;
 use survey::Line;
 use survey::Slot;
@@ -231,7 +231,7 @@ pub fn condition(card: &[u8]) {
             out(b"condition  ");
             told(c);
         }
-        Reported::Refused(r) => fault(STDOUT_FILENO, r, survey::fault_of(card)),
+        Reported::Refused(r) => fault(STDOUT_FILENO, r, faults::fault_of(card)),
     }
 }
 
@@ -268,7 +268,7 @@ fn has_entries(card: &[u8]) -> bool {
 }
 
 fn is_sound(card: &[u8]) -> bool {
-    match survey::fault_of(card) {
+    match faults::fault_of(card) {
         Fault::Sound => true,
         _ => false,
     }

@@ -49,7 +49,7 @@ fn refuse(card: &[u8], r: u8) {
     if (r == 3) | (7 <= r) {
         report::refusal(STDERR_FILENO, r);
     } else {
-        report::fault(STDERR_FILENO, r, survey::fault_of(card));
+        report::fault(STDERR_FILENO, r, faults::fault_of(card));
     }
 }
 
@@ -217,7 +217,7 @@ fn make(path: &[u8], g: Geometry, card: &mut [u8]) {
 
 pub fn format(path: &[u8], g: Geometry) {
     if !codec::good_geometry(g) {
-        report::fault(STDERR_FILENO, 1, survey::geometry_fault(g));
+        report::fault(STDERR_FILENO, 1, faults::geometry_fault(g));
         return;
     }
     let mut buf = image::buffer();

@@ -122,14 +122,6 @@ module _ (c : List ℕ) (g : Geometry) (w : Window) (j : ℕ) (q : g ≡ geometr
 
 -- ---- an entry
 
-pub settled-told : (g : Geometry) (c : List ℕ) (i : ℕ) (e : Entry) (v : Bool) (s : ℕ) → e ≡ entryAt g c i → v ≡ undoableEntry g c e
-    → s ≡ cond v (e .previous) (e .current) → s ≡ settledBlock g c i
-unfolding settledBlock undoableAt usedAt undoableEntry
-settled-told g c i e v s is ev es =
-    es
-    ∙ ap (λ (b : Bool). cond b (e .previous) (e .current)) ev
-    ∙ ap (λ (x : Entry). cond (undoableEntry g c x) (x .previous) (x .current)) is
-
 -- the line of the entry e
 lineFor : Geometry → List ℕ → Entry → Bool → ℕ → Line
 lineFor g c e v s = cond (isUnused e) Unused (cond (ringKnown c && goodEntry (g .blocks) (g .disk) e) (Full e v s) (Raw e))
