@@ -15,15 +15,26 @@ fn cut_place(random: &mut Random, geometry: Geometry, n: u64) -> u64 {
     random.below(n) * (words + 3) + words + random.below(4)
 }
 
-/// Some different blocks, at most `most`, and fewer where the card has no room for them.
+/// The number of a block on the card; any number where there is none.
+fn cached(random: &mut Random, geometry: Geometry, card: &[u8]) -> u64 {
+    let numbers: Vec<u64> = Card::open(card, None).unwrap().in_use().map(|entry| entry.number).collect();
+    if numbers.is_empty() {
+        random.below(geometry.disk_blocks)
+    } else {
+        random.pick(&numbers)
+    }
+}
+
+/// Some different blocks, at most `most`, and fewer where the card has no room for them. Two times in three one of them is cached.
 fn some_numbers(random: &mut Random, geometry: Geometry, card: &[u8], most: u64) -> Vec<u64> {
-    let free = Card::open(card, None).map_or(0, |card| card.free_blocks().len() as u64);
+    let free = Card::open(card, None).unwrap().free_blocks().len() as u64;
     let most = most.min(free).min(geometry.slots - 1).min(geometry.disk_blocks);
     if most == 0 {
         return Vec::new();
     }
-    let (count, first) = (1 + random.below(most), random.below(geometry.disk_blocks));
-    // neighbours, a few apart: later saves meet blocks that are cached
+    let count = 1 + random.below(most);
+    let any = random.below(geometry.disk_blocks);
+    let first = if random.once_in(3) { any } else { cached(random, geometry, card) + geometry.disk_blocks - random.below(count) };
     (0..count).map(|i| (first + i) % geometry.disk_blocks).collect()
 }
 
@@ -52,8 +63,7 @@ fn step(random: &mut Random, geometry: Geometry, at: &mut Snapshot, most: u64) {
     match random.below(6) {
         0 => drop(model.load(&mut at.card, &at.disk, number, u64::MAX)),
         1 | 2 => {
-            let cached = Card::open(&at.card, None).unwrap().in_use().map(|entry| entry.number).collect::<Vec<u64>>();
-            let number = if cached.is_empty() { number } else { random.pick(&cached) };
+            let number = cached(random, geometry, &at.card);
             model.evict(&mut at.card, &mut at.disk, number, u64::MAX);
         }
         _ => {
