@@ -1,12 +1,14 @@
-//! Cards somewhere in a history of saves, loads and evictions with power cuts among them, made by the model alone: larger saves than
-//! `drive` makes, cut around their entries and role switches, and recoveries that are cut themselves.
+//! Cards somewhere in a history of saves, loads and evictions with power cuts among them, made by the model alone:
+//! larger saves than `drive` makes, cut around their entries and role switches, and recoveries that are cut
+//! themselves.
 
 use crate::drive::{data_of, first_disk, Snapshot};
 use crate::model::{commit_stores, Card, Model};
 use crate::random::Random;
 use crate::{Answer, Calls, Geometry};
 
-/// A store of a commit of `n` blocks after which power fails: near the entry of one block, or among the role switches.
+/// A store of a commit of `n` blocks after which power fails: near the entry of one block, or among the role
+/// switches.
 fn cut_place(random: &mut Random, geometry: Geometry, n: u64) -> u64 {
     let words = geometry.block() as u64 / 8;
     if random.once_in(3) {
@@ -25,7 +27,8 @@ fn cached(random: &mut Random, geometry: Geometry, card: &[u8]) -> u64 {
     }
 }
 
-/// Some different blocks, at most `most`, and fewer where the card has no room for them. Two times in three one of them is cached.
+/// Some different blocks, at most `most`, and fewer where the card has no room for them. Two times in three one of
+/// them is cached.
 fn some_numbers(random: &mut Random, geometry: Geometry, card: &[u8], most: u64) -> Vec<u64> {
     let free = Card::open(card, None).unwrap().free_blocks().len() as u64;
     let most = most.min(free).min(geometry.slots - 1).min(geometry.disk_blocks);
@@ -34,7 +37,11 @@ fn some_numbers(random: &mut Random, geometry: Geometry, card: &[u8], most: u64)
     }
     let count = 1 + random.below(most);
     let any = random.below(geometry.disk_blocks);
-    let first = if random.once_in(3) { any } else { cached(random, geometry, card) + geometry.disk_blocks - random.below(count) };
+    let first = if random.once_in(3) {
+        any
+    } else {
+        cached(random, geometry, card) + geometry.disk_blocks - random.below(count)
+    };
     (0..count).map(|i| (first + i) % geometry.disk_blocks).collect()
 }
 
@@ -78,7 +85,8 @@ fn step(random: &mut Random, geometry: Geometry, at: &mut Snapshot, most: u64) {
 pub fn history(random: &mut Random, geometry: Geometry, most: u64) -> Snapshot {
     let mut card = vec![0; geometry.card_length()];
     random.fill(&mut card);
-    let (k, slots, data_blocks, disk_blocks) = (geometry.k, geometry.slots, geometry.data_blocks, geometry.disk_blocks);
+    let (k, slots, data_blocks, disk_blocks) =
+        (geometry.k, geometry.slots, geometry.data_blocks, geometry.disk_blocks);
     assert_eq!(Model::default().format(k, slots, data_blocks, disk_blocks, &mut card), Answer::Done(0));
     let mut at = Snapshot { card, disk: first_disk(random.next(), geometry) };
     for _ in 0..random.below(16) {
@@ -97,7 +105,8 @@ pub fn history(random: &mut Random, geometry: Geometry, most: u64) -> Snapshot {
 mod tests {
     use super::*;
 
-    /// Settled cards, long and short lists, windows that go round, undoable entries with and without R: all of them occur.
+    /// Settled cards, long and short lists, windows that go round, undoable entries with and without R: all of them
+    /// occur.
     #[test]
     fn histories_reach_what_they_should() {
         let geometry = Geometry { k: 9, slots: 8, data_blocks: 8, disk_blocks: 16 };
@@ -112,7 +121,10 @@ mod tests {
             no_role += card.in_use().any(|entry| card.undoable(entry) && !entry.log_role) as u64;
             outside += card.in_use().any(|entry| entry.log_role && !card.window.contains(&entry.number)) as u64;
         }
-        assert!([settled, round, no_role, outside].iter().all(|count| *count > 50), "{settled} {round} {no_role} {outside}");
+        assert!(
+            [settled, round, no_role, outside].iter().all(|count| *count > 50),
+            "{settled} {round} {no_role} {outside}"
+        );
         assert!(lengths[..8].iter().all(|count| *count > 10), "{lengths:?}");
     }
 }

@@ -1,5 +1,5 @@
-//! The service program's text, parsed back, and what it must say of a card by the model. Layout is left to the stored outputs: here
-//! words and numbers count, not blanks and commas.
+//! The service program's text, parsed back, and what it must say of a card by the model. Layout is left to the stored
+//! outputs: here words and numbers count, not blanks and commas.
 
 use crate::model::{read_entry, undone, window_slots, Card, Entry, Geometry, Model, Store};
 use crate::{Calls, State};
@@ -48,7 +48,8 @@ fn between<T: std::str::FromStr>(line: &str, before: &str, after: &str) -> Resul
     number(part.map(|(part, _)| part), line)
 }
 
-/// "refused with 5: ...", and who can cause it: the fitter 1 to 3, a damaged card 4 to 6, an earlier cut 7, else the caller.
+/// "refused with 5: ...", and who can cause it: the fitter 1 to 3, a damaged card 4 to 6, an earlier cut 7, else the
+/// caller.
 pub fn refusal(line: &str) -> Result<u32, String> {
     if !line.starts_with("refused with ") {
         return Err(format!("no refusal: {line:?}"));
@@ -80,7 +81,8 @@ pub fn verdict(line: &str) -> Result<Verdict, String> {
     }
 }
 
-/// The rows of a part under its title, without `head` lines of column names; none where it only says that there is nothing.
+/// The rows of a part under its title, without `head` lines of column names; none where it only says that there is
+/// nothing.
 fn part(parts: &[Vec<&str>], title: &str, head: usize, nothing: &str) -> Option<Vec<Row>> {
     let lines = parts.iter().find(|lines| lines[0] == title)?;
     let rows = lines.get(1 + head..).unwrap_or(&[]);
@@ -197,7 +199,8 @@ pub fn verdict_of(model: &Model, card: &[u8]) -> Verdict {
 pub fn shown_of(model: &Model, card: &[u8]) -> Shown {
     let geometry = Geometry::from_header(card).ok();
     let window = geometry.and_then(|geometry| window_of(card, geometry));
-    let rows = |window: &Vec<(u64, u64)>| window.iter().map(|(slot, n)| row(&[&slot.to_string(), &n.to_string()])).collect();
+    let rows =
+        |window: &Vec<(u64, u64)>| window.iter().map(|(slot, n)| row(&[&slot.to_string(), &n.to_string()])).collect();
     Shown {
         length: card.len() as u64,
         header: header_of(card),
@@ -208,7 +211,8 @@ pub fn shown_of(model: &Model, card: &[u8]) -> Shown {
     }
 }
 
-/// Rows with nothing between their words: on a damaged card a number can be wider than its column and touch the one before it.
+/// Rows with nothing between their words: on a damaged card a number can be wider than its column and touch the one
+/// before it.
 fn run_together(rows: &Option<Vec<Row>>) -> Option<Vec<String>> {
     rows.as_ref().map(|rows| rows.iter().map(|row| row.concat()).collect())
 }
@@ -250,7 +254,8 @@ fn listed_line(line: &str, place: usize) -> Result<Vec<u8>, String> {
     }
     let bytes: Result<Vec<u8>, _> = words.map(|word| u8::from_str_radix(word, 16)).collect();
     let bytes = bytes.map_err(|_| wrong())?;
-    let marks: String = bytes.iter().map(|byte| if (0x20..0x7F).contains(byte) { *byte as char } else { '.' }).collect();
+    let marks: String =
+        bytes.iter().map(|byte| if (0x20..0x7F).contains(byte) { *byte as char } else { '.' }).collect();
     if bytes.len() == 16 && text == format!("{marks}|") {
         Ok(bytes)
     } else {
@@ -383,12 +388,21 @@ condition  unsettled, undoable entries 2, slots in the window 1
             let wrong = format!("{}{other}{}", &SHOWN[..at], &SHOWN[at + 1..]);
             assert!(same_shown(&wrong, &wanted).is_err(), "{wrong}");
         }
-        let changes = [("yes", "no"), ("none", "0"), ("FRESH", "0"), ("unsettled", "settled"), (" R  ", " -  "), ("  0   3\n", " none\n")];
+        let changes = [
+            ("yes", "no"),
+            ("none", "0"),
+            ("FRESH", "0"),
+            ("unsettled", "settled"),
+            (" R  ", " -  "),
+            ("  0   3\n", " none\n"),
+        ];
         for (right, other) in changes {
             assert!(SHOWN.contains(right));
             assert!(same_shown(&SHOWN.replacen(right, other, 1), &wanted).is_err(), "{right}");
         }
-        for line in SHOWN.lines().filter(|line| line.starts_with("  ") && !line.contains("place") && !line.contains("slot")) {
+        for line in
+            SHOWN.lines().filter(|line| line.starts_with("  ") && !line.contains("place") && !line.contains("slot"))
+        {
             assert!(same_shown(&SHOWN.replace(&format!("{line}\n"), ""), &wanted).is_err(), "{line}");
             assert!(same_shown(&SHOWN.replace(line, &format!("{line}\n{line}")), &wanted).is_err(), "{line}");
         }
@@ -399,7 +413,9 @@ condition  unsettled, undoable entries 2, slots in the window 1
     fn touching_columns_are_for_damaged_cards() {
         let mut damaged = card();
         damaged[136..144].fill(0xFF);
-        let touching = SHOWN.replace("     1       5\n", "     118446744073709551615\n").replace("free data blocks\n    0   3\n\n", "");
+        let touching = SHOWN
+            .replace("     1       5\n", "     118446744073709551615\n")
+            .replace("free data blocks\n    0   3\n\n", "");
         let line = touching.lines().last().unwrap().to_string();
         let refused = touching.replace(&line, "refused with 4: the number in slot 1. Cause: a damaged card.");
         let wanted = shown_of(&Model::default(), &damaged);
@@ -413,12 +429,15 @@ condition  unsettled, undoable entries 2, slots in the window 1
 
     #[test]
     fn a_listing_is_read_back() {
-        let line = |place: &str| format!("{place}  41 42 00 7F 7E 20 1F FF  30 31 32 33 34 35 36 37  |AB..~ ..01234567|\n");
+        let line =
+            |place: &str| format!("{place}  41 42 00 7F 7E 20 1F FF  30 31 32 33 34 35 36 37  |AB..~ ..01234567|\n");
         let text = format!("block 3, held by the disk from byte 1,536 on\n{}{}", line("0000"), line("0010"));
         let listed = parse_listed(&text).unwrap();
         assert_eq!((listed.number, listed.on_card, listed.at, listed.bytes.len()), (3, false, 1536, 32));
         assert_eq!(listed.bytes[..9], [0x41, 0x42, 0, 0x7F, 0x7E, 0x20, 0x1F, 0xFF, 0x30]);
-        for (right, wrong) in [("0010", "0020"), ("41 ", "43 "), ("|AB", "|AC"), (" 37 ", " "), ("held", "had"), ("~ .", "~..")] {
+        for (right, wrong) in
+            [("0010", "0020"), ("41 ", "43 "), ("|AB", "|AC"), (" 37 ", " "), ("held", "had"), ("~ .", "~..")]
+        {
             assert!(parse_listed(&text.replacen(right, wrong, 1)).is_err(), "{right}");
         }
     }

@@ -1,5 +1,5 @@
-//! The log that the shim keeps of a program's calls on files, and what must stand in it: recovery's stores in their order, each by
-//! one pwrite, each durable before the next.
+//! The log that the shim keeps of a program's calls on files, and what must stand in it: recovery's stores in their
+//! order, each by one pwrite, each durable before the next.
 
 use crate::model::Store;
 

@@ -1,10 +1,10 @@
-//! The service desk: runs the service program, with the shim loaded, on cards that the model makes, and compares with the model what
-//! it stores and in which order, what it leaves in the file, and what it prints.
+//! The service desk: runs the service program, with the shim loaded, on cards that the model makes, and compares with
+//! the model what it stores and in which order, what it leaves in the file, and what it prints.
 //!
 //!     desk PROGRAM SHIM [--seed S] [--wrong]
 //!
-//! With `--wrong` it holds the program to wrong models, and the model to runs that were tampered with as a wrong program would have
-//! them: each must be reported.
+//! With `--wrong` it holds the program to wrong models, and the model to runs that were tampered with as a wrong
+//! program would have them: each must be reported.
 
 use std::path::{Path, PathBuf};
 use std::process::{Command, Stdio};
@@ -55,13 +55,13 @@ impl Tally {
     fn line(&self) -> String {
         let refused: Vec<String> = (1..11).map(|number| format!("{number}:{}", self.refused[number])).collect();
         format!(
-            "{} cards, {} runs, {} stores in their order (the longest list {}), {:?} stops, {} cards shown, blocks {} on card and {} on disk, \
-             {} formats, refused {}",
+            "{} cards, {} runs: {} stores made in their order, the longest list {}; {} recoveries stopped and \
+             run again; {} cards shown; blocks {} on card, {} on disk; {} geometries formatted; refused {}",
             self.cards,
             self.runs,
             self.stores,
             self.longest,
-            self.stops,
+            self.stops.iter().sum::<u64>(),
             self.shown,
             self.on_card,
             self.on_disk,
@@ -180,10 +180,17 @@ impl Desk {
 
     fn told(&self, before: &[u8], list: &[Store], made: usize, end: &str, file: &[u8]) -> Told {
         let verdict = verdict_of(&self.model, file);
-        Told { list: list_rows(before, list), made: made as u64, count: list.len() as u64, end: end.to_string(), verdict }
+        Told {
+            list: list_rows(before, list),
+            made: made as u64,
+            count: list.len() as u64,
+            end: end.to_string(),
+            verdict,
+        }
     }
 
-    /// A recovery of the card that now is in the file: exactly the first stores, as many as the allowance; in full without one.
+    /// A recovery of the card that now is in the file: exactly the first stores, as many as the allowance; in full
+    /// without one.
     fn recovers(&mut self, card: &[u8], list: &[Store], allowance: Option<usize>) -> Result<(), String> {
         let words = [CARD.to_string(), allowance.map_or(String::new(), |allowance| allowance.to_string())];
         let words: Vec<&str> = words.iter().map(|word| &word[..]).filter(|word| !word.is_empty()).collect();
@@ -198,7 +205,8 @@ impl Desk {
         equal("standard error", &ran.err[..], "")
     }
 
-    /// What the program says where it was stopped: nothing after the list where it ended, that it failed where a call failed.
+    /// What the program says where it was stopped: nothing after the list where it ended, that it failed where a call
+    /// failed.
     fn said(&self, card: &[u8], list: &[Store], stop: Stop, ran: &Ran) -> Result<(), String> {
         if stop.ends() {
             let lines: Vec<&str> = ran.out.lines().collect();
@@ -227,7 +235,8 @@ impl Desk {
         }
         same_file(&ran.file, &left)?;
         self.said(card, list, stop, &ran)?;
-        let kind = Stop::KINDS.iter().position(|kind| std::mem::discriminant(&kind(1)) == std::mem::discriminant(&stop));
+        let kind =
+            Stop::KINDS.iter().position(|kind| std::mem::discriminant(&kind(1)) == std::mem::discriminant(&stop));
         self.tally.stops[kind.unwrap()] += 1;
         if !matches!(stop, Stop::Short(_)) {
             return self.recovers(&left, &list[stop.in_file()..], None);
@@ -295,8 +304,8 @@ impl Desk {
         self.put(DISK, &at.disk)?;
         let card = Card::open(&at.card, None).map_err(|number| format!("refused with {number}"))?;
         let blocks = card.geometry.disk_blocks;
-        let mut numbers: Vec<u64> = (0..blocks.min(20)).collect();
-        if blocks > 20 {
+        let mut numbers: Vec<u64> = (0..blocks.min(40)).collect();
+        if blocks > 40 {
             numbers = card.in_use().take(8).map(|entry| entry.number).collect();
             numbers.extend((0..8).map(|_| random.below(blocks)));
         }
@@ -312,7 +321,8 @@ impl Desk {
         self.tally.longest = self.tally.longest.max(m);
         self.shows(&at.card)?;
         self.recovers(&at.card, &list, None)?;
-        let places: Vec<usize> = if m <= SHORT_LIST { (0..m + 2).collect() } else { vec![0, 1, m / 2, m - 1, m, m + 1] };
+        let places: Vec<usize> =
+            if m <= SHORT_LIST { (0..m + 2).collect() } else { vec![0, 1, m / 2, m - 1, m, m + 1] };
         for allowance in &places {
             self.put(CARD, &at.card)?;
             self.recovers(&at.card, &list, Some(*allowance))?;
@@ -345,9 +355,11 @@ impl Desk {
     /// Makes a card's file; `variable` tells the shim what fails on the way.
     fn formatted(&mut self, geometry: Geometry, variable: Option<(&str, &str)>) -> Result<Ran, String> {
         let _ = std::fs::remove_file(self.folder.0.join(CARD));
-        let numbers = [geometry.k, geometry.slots, geometry.data_blocks, geometry.disk_blocks].map(|number| number.to_string());
+        let numbers =
+            [geometry.k, geometry.slots, geometry.data_blocks, geometry.disk_blocks].map(|number| number.to_string());
         let words: Vec<&str> = ["format", CARD].into_iter().chain(numbers.iter().map(|number| &number[..])).collect();
-        let variables: Vec<(&str, String)> = variable.iter().map(|(name, value)| (*name, value.to_string())).collect();
+        let variables: Vec<(&str, String)> =
+            variable.iter().map(|(name, value)| (*name, value.to_string())).collect();
         self.run(&words, &variables)
     }
 
@@ -428,9 +440,13 @@ const TAMPERS: [Tamper; 19] = [
     ("recover", "another store is listed", |ran| ran.out = ran.out.replacen("  72  ", "  64  ", 1)),
     ("recover", "stores are miscounted", |ran| ran.out = ran.out.replacen(" stores made", "0 stores made", 1)),
     ("recover", "a cut is not told", |ran| ran.out = ran.out.replace("made: cut", "made: done")),
-    ("recover", "a refused card is written to", |ran| push_if(ran, "refused with", "pwrite card.img 72 0000000000000000 8")),
+    ("recover", "a refused card is written to", |ran| {
+        push_if(ran, "refused with", "pwrite card.img 72 0000000000000000 8")
+    }),
     ("recover", "another refusal is told", |ran| ran.err = ran.err.replace("refused with 4", "refused with 5")),
-    ("recover", "stores after a failure", |ran| push_if(ran, "Input/output", "pwrite card.img 72 0000000000000000 8")),
+    ("recover", "stores after a failure", |ran| {
+        push_if(ran, "Input/output", "pwrite card.img 72 0000000000000000 8")
+    }),
     ("recover", "a failure is not told", |ran| ran.err = ran.err.replace("card.img: Input/output error\n", "")),
     ("show", "another number is shown", |ran| ran.out = ran.out.replace("version         1", "version         2")),
     ("show", "a shown card is changed", |ran| change(&mut ran.file)),

@@ -1,5 +1,5 @@
-//! Writes the card images that the service program is tried on, and the disk beside them. The model makes them, so that they are what
-//! document 01 says; each run writes the same bytes.
+//! Writes the card images that the service program is tried on, and the disk beside them. The model makes them, so
+//! that they are what document 01 says; each run writes the same bytes.
 //!
 //!     images FOLDER
 
@@ -64,8 +64,8 @@ fn saved() -> Vec<u8> {
     card
 }
 
-/// A save of blocks 1 and 7, of which 7 is cached. Two data blocks must be free for it, so 12, which is clean, goes first. The cut falls
-/// behind the entry of 7: it has R, and its number does not stand in the window.
+/// A save of blocks 1 and 7, of which 7 is cached. Two data blocks must be free for it, so 12, which is clean, goes
+/// first. The cut falls behind the entry of 7: it has R, and its number does not stand in the window.
 fn cut() -> Vec<u8> {
     let mut card = saved();
     assert_eq!(Model::default().evict(&mut card, &mut disk(), 12, u64::MAX), Answer::Done(1));
@@ -73,11 +73,13 @@ fn cut() -> Vec<u8> {
     card
 }
 
-/// Seven saves bring Head to slot 7; the eighth, of blocks 4 and 11, goes round. It is cut between its two role switches, so that one
-/// undoable entry has no R any more. Bytes 80 to 127 are not looked at, whatever stands there.
+/// Seven saves bring Head to slot 7; the eighth, of blocks 4 and 11, goes round. It is cut between its two role
+/// switches, so that one undoable entry has no R any more. Bytes 80 to 127 are not looked at, whatever stands there.
 fn round() -> Vec<u8> {
     let mut card = fresh();
-    for (name, number) in [("save a", 2), ("save b", 4), ("save c", 2), ("save d", 4), ("save e", 2), ("save f", 4), ("save g", 2)] {
+    for (name, number) in
+        [("save a", 2), ("save b", 4), ("save c", 2), ("save d", 4), ("save e", 2), ("save f", 4), ("save g", 2)]
+    {
         save(&mut card, name, &[number], u64::MAX);
     }
     save(&mut card, "save h", &[4, 11], 2 * 67 + 1);
@@ -192,7 +194,8 @@ mod tests {
         Card::open(card, None).err().unwrap_or(0)
     }
 
-    /// Each image is refused with the number that it is there for, and no card is longer than the smallest, but one by one byte.
+    /// Each image is refused with the number that it is there for, and no card is longer than the smallest, but one
+    /// by one byte.
     #[test]
     fn the_images_are_what_their_names_say() {
         let refusals = |images: Vec<Image>| -> Vec<u32> { images.iter().map(|(_, card)| refusal(card)).collect() };
@@ -216,8 +219,8 @@ mod tests {
         assert!(Card::open(&full(), None).unwrap().free_blocks().is_empty());
     }
 
-    /// Two entries are alike in one way only, so that each way is tried by itself. (Equal current blocks of two entries that are not
-    /// undoable are equal settled blocks too.)
+    /// Two entries are alike in one way only, so that each way is tried by itself. (Equal current blocks of two
+    /// entries that are not undoable are equal settled blocks too.)
     #[test]
     fn each_pair_is_alike_in_its_own_way() {
         let with_other = |mut card: Vec<u8>, at: usize, bytes: &[u8]| {
