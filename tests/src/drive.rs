@@ -410,7 +410,7 @@ pub fn script() -> Vec<Step> {
     ]
 }
 
-fn data_of(seed: u64, n: usize, block: usize) -> Vec<u8> {
+pub fn data_of(seed: u64, n: usize, block: usize) -> Vec<u8> {
     let mut data = vec![0; n * block];
     Random(mix(seed)).fill(&mut data);
     data
@@ -614,7 +614,7 @@ pub fn random_history<'a>(
 }
 
 /// A card somewhere in a history, cut or not, made by the model alone.
-fn some_card(random: &mut Random, geometry: Geometry) -> Snapshot {
+pub fn some_card(random: &mut Random, geometry: Geometry) -> Snapshot {
     let model = Model::default();
     let mut card = vec![0; geometry.card_length()];
     random.fill(&mut card);
@@ -641,12 +641,12 @@ fn some_card(random: &mut Random, geometry: Geometry) -> Snapshot {
     Snapshot { card, disk }
 }
 
-fn put(bytes: &mut [u8], at: usize, value: &[u8]) {
+pub fn put(bytes: &mut [u8], at: usize, value: &[u8]) {
     bytes[at..at + value.len()].copy_from_slice(value);
 }
 
 /// One damage of many kinds.
-fn damage(random: &mut Random, geometry: Geometry, to: &mut Snapshot) {
+pub fn damage(random: &mut Random, geometry: Geometry, to: &mut Snapshot) {
     let card = &mut to.card;
     let (s, n, d) = (geometry.slots, geometry.data_blocks, geometry.disk_blocks);
     let some_entry = geometry.entry_at(random.below(n) as usize);
@@ -711,7 +711,7 @@ fn damage(random: &mut Random, geometry: Geometry, to: &mut Snapshot) {
 }
 
 /// A card with a right header and length, its ring and entries drawn at random from what is almost allowed.
-fn drawn(random: &mut Random, geometry: Geometry) -> Snapshot {
+pub fn drawn(random: &mut Random, geometry: Geometry) -> Snapshot {
     let (s, n, d) = (geometry.slots, geometry.data_blocks, geometry.disk_blocks);
     let mut card = vec![0; geometry.card_length()];
     random.fill(&mut card);

@@ -3,9 +3,13 @@
 
 pub mod drive;
 pub mod ffi;
+pub mod histories;
 pub mod mapped;
 pub mod model;
 pub mod random;
+pub mod scratch;
+pub mod shown;
+pub mod stores_log;
 
 pub use model::{Answer, Geometry, Place, State};
 

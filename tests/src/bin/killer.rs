@@ -13,33 +13,14 @@
 //! card's memory would. With `--as-left` it is left as it is, to see what comes of it: the run may then end with a loss.
 //! With `--units` the station hands each unit to the card by one instruction; then nothing is lost with `--as-left` either.
 
-use std::path::PathBuf;
 use std::process::{Child, Command, Stdio};
 use std::time::{Duration, Instant};
 use tinca_tests::ffi::Library;
 use tinca_tests::mapped::*;
 use tinca_tests::model::{Model, Store};
 use tinca_tests::random::Random;
+use tinca_tests::scratch::{option, Folder};
 use tinca_tests::{Answer, Calls, Place, State};
-
-fn option(name: &str, otherwise: u64) -> u64 {
-    let words: Vec<String> = std::env::args().collect();
-    match words.iter().position(|word| word == name) {
-        Some(place) => words.get(place + 1).and_then(|word| word.parse().ok()).unwrap_or_else(|| {
-            eprintln!("{name} needs a number");
-            std::process::exit(2);
-        }),
-        None => otherwise,
-    }
-}
-
-struct Folder(PathBuf);
-
-impl Drop for Folder {
-    fn drop(&mut self) {
-        let _ = std::fs::remove_dir_all(&self.0);
-    }
-}
 
 /// The sequence number of each group, if all its blocks are whole and of one save.
 fn saves(library: &Library, card: &[u8], disk: &[u8]) -> Result<Vec<u64>, String> {
@@ -102,9 +83,7 @@ fn stop(child: &mut Child) {
 
 fn run(kills: u64, seed: u64) -> Result<String, String> {
     let mut random = Random(seed);
-    let base = if std::path::Path::new("/dev/shm").is_dir() { PathBuf::from("/dev/shm") } else { std::env::temp_dir() };
-    let folder = Folder(base.join(format!("tinca-kill-{}", std::process::id())));
-    std::fs::create_dir_all(&folder.0).map_err(|error| error.to_string())?;
+    let folder = Folder::new("tinca-kill")?;
     let station = std::env::current_exe().map_err(|error| error.to_string())?.with_file_name("station");
     let open = |name: &str, length| Mapped::open(&folder.0.join(name), length).map_err(|error| error.to_string());
     let (mut card, mut disk, mut notes) = (open("card", CARD)?, open("disk", DISK)?, open("notes", NOTES)?);

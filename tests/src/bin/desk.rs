@@ -1,0 +1,536 @@
+//! The service desk: runs the service program, with the shim loaded, on cards that the model makes, and compares with
+//! the model what it stores and in which order, what it leaves in the file, and what it prints.
+//!
+//!     desk PROGRAM SHIM [--seed S] [--wrong]
+//!
+//! With `--wrong` it holds the program to wrong models, and the model to runs that were tampered with as a wrong
+//! program would have them: each must be reported.
+
+use std::path::{Path, PathBuf};
+use std::process::{Command, Stdio};
+use std::time::Instant;
+use tinca_tests::drive::{damage, drawn, Snapshot};
+use tinca_tests::histories::history;
+use tinca_tests::model::{Card, Model, Slip, Store};
+use tinca_tests::random::Random;
+use tinca_tests::scratch::{option, Folder};
+use tinca_tests::shown::*;
+use tinca_tests::stores_log::{in_full, same_log, stopped, Stop, CARD};
+use tinca_tests::{Calls, Geometry, Place};
+
+const DISK: &str = "disk.img";
+const SMALLEST: usize = 2304;
+const LARGEST: usize = 528_512;
+/// Lists up to this length are stopped at each of their stores.
+const SHORT_LIST: usize = 4;
+
+/// What a run of the program came to.
+#[derive(Default)]
+struct Ran {
+    out: String,
+    err: String,
+    log: Vec<String>,
+    /// The card's file; none where there is no such file.
+    file: Option<Vec<u8>>,
+}
+
+/// A command, what goes wrong with it, and how its run then looks.
+type Tamper = (&'static str, &'static str, fn(&mut Ran));
+
+#[derive(Default)]
+struct Tally {
+    cards: u64,
+    runs: u64,
+    stores: u64,
+    longest: usize,
+    stops: [u64; 6],
+    refused: [u64; 11],
+    shown: u64,
+    on_card: u64,
+    on_disk: u64,
+    formats: u64,
+}
+
+impl Tally {
+    fn line(&self) -> String {
+        let refused: Vec<String> = (1..11).map(|number| format!("{number}:{}", self.refused[number])).collect();
+        format!(
+            "{} cards, {} runs: {} stores made in their order, the longest list {}; {} recoveries stopped and \
+             run again; {} cards shown; blocks {} on card, {} on disk; {} geometries formatted; refused {}",
+            self.cards,
+            self.runs,
+            self.stores,
+            self.longest,
+            self.stops.iter().sum::<u64>(),
+            self.shown,
+            self.on_card,
+            self.on_disk,
+            self.formats,
+            refused.join(" ")
+        )
+    }
+
+    /// Nothing that the desk is there to see may be missing.
+    fn complete(&self) -> Result<(), String> {
+        let refusals = [1, 2, 3, 4, 5, 6, 7, 10].iter().all(|number| self.refused[*number] > 0);
+        let rest = [self.stores, self.shown, self.on_card, self.on_disk, self.formats].iter().all(|count| *count > 0);
+        let stops = self.stops.iter().all(|count| *count > 0);
+        if refusals && rest && stops && self.longest > 20 {
+            Ok(())
+        } else {
+            Err(format!("something was not reached: {}", self.line()))
+        }
+    }
+}
+
+struct Desk {
+    program: PathBuf,
+    shim: PathBuf,
+    folder: Folder,
+    model: Model,
+    tamper: Option<Tamper>,
+    tally: Tally,
+}
+
+fn text(error: std::io::Error) -> String {
+    error.to_string()
+}
+
+fn equal<T: PartialEq + std::fmt::Debug>(what: &str, found: T, wanted: T) -> Result<(), String> {
+    if found == wanted {
+        Ok(())
+    } else {
+        Err(format!("{what}: {found:?}, not {wanted:?}"))
+    }
+}
+
+/// The bytes after these stores.
+fn after(card: &[u8], list: &[Store]) -> Vec<u8> {
+    let mut card = card.to_vec();
+    for store in list {
+        let (_, at, bytes) = store.unit();
+        card[at..at + bytes.len()].copy_from_slice(bytes);
+    }
+    card
+}
+
+fn same_file(found: &Option<Vec<u8>>, wanted: &[u8]) -> Result<(), String> {
+    let Some(found) = found else { return Err("the card's file is gone".to_string()) };
+    equal("the file's length", found.len(), wanted.len())?;
+    match (0..found.len()).find(|at| found[*at] != wanted[*at]) {
+        Some(at) => Err(format!("byte {at} of the file is {:02X}, not {:02X}", found[at], wanted[at])),
+        None => Ok(()),
+    }
+}
+
+/// A file that no card is as long as is told on standard error, by its length alone.
+fn length_line(card: &[u8]) -> Option<&'static str> {
+    match card.len() {
+        length if length < SMALLEST => Some(" bytes, and the smallest card has 2,304\n"),
+        length if length > LARGEST => Some("longer than the largest card, which has 528,512 bytes\n"),
+        _ => None,
+    }
+}
+
+impl Desk {
+    fn put(&self, name: &str, bytes: &[u8]) -> Result<(), String> {
+        std::fs::write(self.folder.0.join(name), bytes).map_err(text)
+    }
+
+    fn log(&self) -> PathBuf {
+        self.folder.0.join("log")
+    }
+
+    /// No file may appear beside card, disk and log.
+    fn nothing_else(&self) -> Result<(), String> {
+        for file in std::fs::read_dir(&self.folder.0).map_err(text)? {
+            let name = file.map_err(text)?.file_name();
+            if ![CARD, DISK, "log"].iter().any(|known| name == *known) {
+                return Err(format!("a file that should not be there: {name:?}"));
+            }
+        }
+        Ok(())
+    }
+
+    /// Runs the program in the folder, the shim told by `variables`.
+    fn run(&mut self, words: &[&str], variables: &[(&str, String)]) -> Result<Ran, String> {
+        let _ = std::fs::remove_file(self.log());
+        let mut command = Command::new(&self.program);
+        command.args(words).current_dir(&self.folder.0).stdin(Stdio::null());
+        command.env("LD_PRELOAD", &self.shim).env("SHIM_LOG", self.log());
+        command.envs(variables.iter().map(|(name, value)| (name, value)));
+        let output = command.output().map_err(|error| format!("{}: {error}", self.program.display()))?;
+        if !output.status.success() {
+            return Err(format!("{words:?} ended with {}", output.status));
+        }
+        self.nothing_else()?;
+        let log = std::fs::read_to_string(self.log()).unwrap_or_default();
+        let mut ran = Ran {
+            out: String::from_utf8(output.stdout).map_err(|error| error.to_string())?,
+            err: String::from_utf8(output.stderr).map_err(|error| error.to_string())?,
+            log: log.lines().map(|line| line.to_string()).collect(),
+            file: std::fs::read(self.folder.0.join(CARD)).ok(),
+        };
+        self.tally.runs += 1;
+        if let Some((_, _, tamper)) = self.tamper.filter(|(command, ..)| *command == words[0]) {
+            tamper(&mut ran);
+        }
+        Ok(ran)
+    }
+
+    fn told(&self, before: &[u8], list: &[Store], made: usize, end: &str, file: &[u8]) -> Told {
+        let verdict = verdict_of(&self.model, file);
+        Told {
+            list: list_rows(before, list),
+            made: made as u64,
+            count: list.len() as u64,
+            end: end.to_string(),
+            verdict,
+        }
+    }
+
+    /// A recovery of the card that now is in the file: exactly the first stores, as many as the allowance; in full
+    /// without one.
+    fn recovers(&mut self, card: &[u8], list: &[Store], allowance: Option<usize>) -> Result<(), String> {
+        let words = [CARD.to_string(), allowance.map_or(String::new(), |allowance| allowance.to_string())];
+        let words: Vec<&str> = words.iter().map(|word| &word[..]).filter(|word| !word.is_empty()).collect();
+        let ran = self.run(&[&["recover"], &words[..]].concat(), &[])?;
+        let made = allowance.unwrap_or(usize::MAX).min(list.len());
+        same_log(&ran.log, &in_full(&list[..made]))?;
+        let left = after(card, &list[..made]);
+        same_file(&ran.file, &left)?;
+        let end = if made < list.len() { "cut" } else { "done" };
+        equal("recover", parse_told(&ran.out)?, self.told(card, list, made, end, &left))?;
+        self.tally.stores += made as u64;
+        equal("standard error", &ran.err[..], "")
+    }
+
+    /// What the program says where it was stopped: nothing after the list where it ended, that it failed where a call
+    /// failed.
+    fn said(&self, card: &[u8], list: &[Store], stop: Stop, ran: &Ran) -> Result<(), String> {
+        if stop.ends() {
+            let lines: Vec<&str> = ran.out.lines().collect();
+            equal("list", parse_list(&lines)?, list_rows(card, list))?;
+            return equal("standard error", &ran.err[..], "");
+        }
+        let file = ran.file.as_deref().unwrap_or(&[]);
+        equal("recover", parse_told(&ran.out)?, self.told(card, list, stop.durable(), "failed", file))?;
+        // errno says nothing of a write that was short
+        let trouble = if matches!(stop, Stop::Short(_)) { "" } else { "Input/output error\n" };
+        let told = ran.err.starts_with("card.img: ") && ran.err.ends_with(trouble) && ran.err.lines().count() == 1;
+        equal("the trouble is told", told, true).map_err(|error| format!("{error}: {:?}", ran.err))
+    }
+
+    /// A recovery that is stopped, and a second one that finishes: together they make each store once.
+    fn stops(&mut self, card: &[u8], list: &[Store], stop: Stop) -> Result<(), String> {
+        self.put(CARD, card)?;
+        let (name, value) = stop.variable();
+        let ran = self.run(&["recover", CARD], &[(name, value)])?;
+        same_log(&ran.log, &stopped(list, stop))?;
+        let mut left = after(card, &list[..stop.in_file()]);
+        if let Stop::Short(j) = stop {
+            let (_, at, bytes) = list[j - 1].unit();
+            let half = bytes.len() / 2;
+            left[at..at + half].copy_from_slice(&bytes[..half]);
+        }
+        same_file(&ran.file, &left)?;
+        self.said(card, list, stop, &ran)?;
+        let kind =
+            Stop::KINDS.iter().position(|kind| std::mem::discriminant(&kind(1)) == std::mem::discriminant(&stop));
+        self.tally.stops[kind.unwrap()] += 1;
+        if !matches!(stop, Stop::Short(_)) {
+            return self.recovers(&left, &list[stop.in_file()..], None);
+        }
+        // a unit of which half was made is no unit any more: what is left to do is then the model's to say
+        match self.model.recover_list(&left) {
+            Ok(rest) => self.recovers(&left, &rest, None),
+            Err(number) => self.refuses(&["recover", CARD], &left, number),
+        }
+    }
+
+    /// A command that is refused: one line on standard error, no store, no byte changed.
+    fn refuses(&mut self, words: &[&str], card: &[u8], number: u32) -> Result<(), String> {
+        let ran = self.run(words, &[])?;
+        same_log(&ran.log, &[])?;
+        same_file(&ran.file, card)?;
+        equal("standard output", &ran.out[..], "")?;
+        equal("lines on standard error", ran.err.lines().count(), 1)?;
+        if let Some(line) = length_line(card) {
+            return equal(&format!("the length is told in {:?}", ran.err), ran.err.ends_with(line), true);
+        }
+        self.tally.refused[number as usize] += 1;
+        equal("refusal", refusal(ran.err.trim_end())?, number)
+    }
+
+    fn shows(&mut self, card: &[u8]) -> Result<(), String> {
+        self.put(CARD, card)?;
+        let ran = self.run(&["show", CARD], &[])?;
+        same_log(&ran.log, &[])?;
+        same_file(&ran.file, card)?;
+        let line = length_line(card).unwrap_or("");
+        equal("standard error", ran.err.ends_with(line) && line.is_empty() == ran.err.is_empty(), true)?;
+        let mut wanted = shown_of(&self.model, card);
+        if card.len() > LARGEST {
+            // no more of the file is read than tells that it is too long
+            wanted.length = parse_shown(&ran.out)?.length;
+        }
+        self.tally.shown += 1;
+        same_shown(&ran.out, &wanted)
+    }
+
+    /// Block `number`, of the card that now is in the file, over the disk that is there.
+    fn lists(&mut self, at: &Snapshot, number: u64) -> Result<(), String> {
+        let (word, place) = (number.to_string(), self.model.look(&at.card, &at.disk, number));
+        let words = ["block", CARD, DISK, &word];
+        let (on_card, from, bytes) = match place {
+            Place::Card(from, length) => (true, from, &at.card[from as usize..(from + length) as usize]),
+            Place::Disk(from, length) => (false, from, &at.disk[from as usize..(from + length) as usize]),
+            Place::Refused(refusal) => return self.refuses(&words, &at.card, refusal),
+            Place::Malformed(..) => unreachable!("the model gives no such answer"),
+        };
+        let ran = self.run(&words, &[])?;
+        same_log(&ran.log, &[])?;
+        same_file(&ran.file, &at.card)?;
+        self.tally.on_card += on_card as u64;
+        self.tally.on_disk += !on_card as u64;
+        let wanted = Listed { number, on_card, at: from, bytes: bytes.to_vec() };
+        equal("block", parse_listed(&ran.out)?, wanted)?;
+        equal("standard error", &ran.err[..], "")
+    }
+
+    /// Every block of a small disk, and of a larger one those on the card and some others.
+    fn blocks(&mut self, random: &mut Random, at: &Snapshot) -> Result<(), String> {
+        self.put(CARD, &at.card)?;
+        self.put(DISK, &at.disk)?;
+        let card = Card::open(&at.card, None).map_err(|number| format!("refused with {number}"))?;
+        let blocks = card.geometry.disk_blocks;
+        let mut numbers: Vec<u64> = (0..blocks.min(40)).collect();
+        if blocks > 40 {
+            numbers = card.in_use().take(8).map(|entry| entry.number).collect();
+            numbers.extend((0..8).map(|_| random.below(blocks)));
+        }
+        numbers.push(blocks + random.below(2));
+        numbers.iter().try_for_each(|number| self.lists(at, *number))
+    }
+
+    /// A card in its history: shown, recovered in every way, its blocks read before and after.
+    fn card(&mut self, random: &mut Random, at: &Snapshot) -> Result<(), String> {
+        let list = self.model.recover_list(&at.card).map_err(|number| format!("refused with {number}"))?;
+        let m = list.len();
+        self.tally.cards += 1;
+        self.tally.longest = self.tally.longest.max(m);
+        self.shows(&at.card)?;
+        self.recovers(&at.card, &list, None)?;
+        let places: Vec<usize> =
+            if m <= SHORT_LIST { (0..m + 2).collect() } else { vec![0, 1, m / 2, m - 1, m, m + 1] };
+        for allowance in &places {
+            self.put(CARD, &at.card)?;
+            self.recovers(&at.card, &list, Some(*allowance))?;
+        }
+        for j in places.iter().filter(|j| (1..=m).contains(*j)) {
+            for kind in Stop::KINDS {
+                self.stops(&at.card, &list, kind(*j)).map_err(|error| format!("{:?}: {error}", kind(*j)))?;
+            }
+        }
+        if m > 0 {
+            self.put(DISK, &at.disk)?;
+            self.put(CARD, &at.card)?;
+            self.lists(at, random.below(3))?;
+        }
+        self.blocks(random, &Snapshot { card: after(&at.card, &list), disk: at.disk.clone() })
+    }
+
+    /// A card that is damaged, or a disk of a wrong length: shown, refused, not changed.
+    fn damaged(&mut self, at: &Snapshot) -> Result<(), String> {
+        self.tally.cards += 1;
+        self.shows(&at.card)?;
+        self.put(DISK, &at.disk)?;
+        self.lists(at, 0)?;
+        match self.model.recover_list(&at.card) {
+            Ok(list) => self.recovers(&at.card, &list, None),
+            Err(number) => self.refuses(&["recover", CARD], &at.card, number),
+        }
+    }
+
+    /// Makes a card's file; `variable` tells the shim what fails on the way.
+    fn formatted(&mut self, geometry: Geometry, variable: Option<(&str, &str)>) -> Result<Ran, String> {
+        let _ = std::fs::remove_file(self.folder.0.join(CARD));
+        let numbers =
+            [geometry.k, geometry.slots, geometry.data_blocks, geometry.disk_blocks].map(|number| number.to_string());
+        let words: Vec<&str> = ["format", CARD].into_iter().chain(numbers.iter().map(|number| &number[..])).collect();
+        let variables: Vec<(&str, String)> =
+            variable.iter().map(|(name, value)| (*name, value.to_string())).collect();
+        self.run(&words, &variables)
+    }
+
+    /// A file made anew is whole and durable, also where a write is short; where one fails, no file is left.
+    fn formats(&mut self, geometry: Geometry) -> Result<(), String> {
+        let mut card = vec![0; geometry.card_length()];
+        self.model.format(geometry.k, geometry.slots, geometry.data_blocks, geometry.disk_blocks, &mut card);
+        for variable in [None, Some(("SHIM_SHORT", "write:1"))] {
+            let ran = self.formatted(geometry, variable)?;
+            same_file(&ran.file, &card)?;
+            equal("made durable", ran.log.last().map(|line| &line[..]), Some("fsync card.img 0"))?;
+            let writes = ran.log.iter().filter(|line| line.starts_with("write card.img ")).count();
+            equal("calls", ran.log.len(), writes + 1)?;
+            equal("format", ran.out.replace(',', ""), format!("card.img: made {} bytes\n", card.len()))?;
+            equal("standard error", &ran.err[..], "")?;
+        }
+        for value in ["write:1", "fsync:1"] {
+            let ran = self.formatted(geometry, Some(("SHIM_FAIL", value)))?;
+            equal("the file is gone", ran.file.is_none(), true)?;
+            equal("standard output", &ran.out[..], "")?;
+            equal("standard error", &ran.err[..], "card.img: Input/output error\n")?;
+        }
+        self.tally.formats += 1;
+        Ok(())
+    }
+}
+
+fn geometry(k: u64, slots: u64, data_blocks: u64, disk_blocks: u64) -> Geometry {
+    Geometry { k, slots, data_blocks, disk_blocks }
+}
+
+/// A card that its history made and then something damaged, or one drawn at random.
+fn some_damaged(random: &mut Random, geometry: Geometry) -> Snapshot {
+    let mut at = if random.once_in(4) { drawn(random, geometry) } else { history(random, geometry, 3) };
+    damage(random, geometry, &mut at);
+    at
+}
+
+/// Cards of one geometry: in their histories, then damaged.
+fn part(desk: &mut Desk, seed: u64, geometry: Geometry, cards: u64, damaged: u64) -> Result<(), String> {
+    let mut random = Random(seed ^ geometry.slots << 32 ^ geometry.disk_blocks);
+    desk.formats(geometry).map_err(|error| format!("{geometry:?}: format: {error}"))?;
+    for turn in 0..cards {
+        // few blocks mostly, so that every cut of the list can be tried
+        let most = if random.once_in(4) { geometry.data_blocks / 2 } else { 3 };
+        let at = history(&mut random, geometry, most);
+        desk.card(&mut random, &at).map_err(|error| format!("{geometry:?}, card {turn}: {error}"))?;
+    }
+    for turn in 0..damaged {
+        let at = some_damaged(&mut random, geometry);
+        desk.damaged(&at).map_err(|error| format!("{geometry:?}, damaged card {turn}: {error}"))?;
+    }
+    Ok(())
+}
+
+fn right(desk: &mut Desk, seed: u64) -> Result<(), String> {
+    for (k, slots, data_blocks, disk_blocks, cards, damaged) in [
+        (9, 8, 4, 16, 100, 400),
+        (9, 8, 4, 3, 50, 200),
+        (10, 16, 8, 20, 50, 100),
+        (11, 24, 12, 40, 40, 50),
+        (12, 8, 4, 5, 30, 50),
+        (9, 64, 128, 1000, 30, 50),
+        (12, 256, 128, 300, 40, 50),
+    ] {
+        part(desk, seed, geometry(k, slots, data_blocks, disk_blocks), cards, damaged)?;
+    }
+    desk.tally.complete()
+}
+
+/// What a wrong program's run of a command might look like. Where a run has nothing of the kind, it stays as it is.
+const TAMPERS: [Tamper; 19] = [
+    ("recover", "a store is not made durable", |ran| ran.log.retain(|line| !line.starts_with("fdatasync"))),
+    ("recover", "a store is made twice", |ran| ran.log.extend(ran.log.first().cloned())),
+    ("recover", "stores change places", |ran| ran.log.reverse()),
+    ("recover", "the last store is not made", |ran| ran.log.truncate(ran.log.len().saturating_sub(2))),
+    ("recover", "another byte is changed", |ran| change(&mut ran.file)),
+    ("recover", "another store is listed", |ran| ran.out = ran.out.replacen("  72  ", "  64  ", 1)),
+    ("recover", "stores are miscounted", |ran| ran.out = ran.out.replacen(" stores made", "0 stores made", 1)),
+    ("recover", "a cut is not told", |ran| ran.out = ran.out.replace("made: cut", "made: done")),
+    ("recover", "a refused card is written to", |ran| {
+        push_if(ran, "refused with", "pwrite card.img 72 0000000000000000 8")
+    }),
+    ("recover", "another refusal is told", |ran| ran.err = ran.err.replace("refused with 4", "refused with 5")),
+    ("recover", "stores after a failure", |ran| {
+        push_if(ran, "Input/output", "pwrite card.img 72 0000000000000000 8")
+    }),
+    ("recover", "a failure is not told", |ran| ran.err = ran.err.replace("card.img: Input/output error\n", "")),
+    ("show", "another number is shown", |ran| ran.out = ran.out.replace("version         1", "version         2")),
+    ("show", "a shown card is changed", |ran| change(&mut ran.file)),
+    ("block", "other bytes are listed", |ran| ran.out = with_second_line_as_first(&ran.out)),
+    ("block", "another holder is named", |ran| ran.out = ran.out.replacen("by the disk", "by the card", 1)),
+    ("format", "a new card is another one", |ran| change(&mut ran.file)),
+    ("format", "a new card is not durable", |ran| drop(ran.log.pop())),
+    ("format", "a broken file is left", |ran| ran.file = ran.file.take().or(Some(Vec::new()))),
+];
+
+fn change(file: &mut Option<Vec<u8>>) {
+    file.iter_mut().flatten().take(1).for_each(|byte| *byte ^= 1);
+}
+
+/// A listing whose second line has the bytes of its first.
+fn with_second_line_as_first(listing: &str) -> String {
+    let mut lines: Vec<String> = listing.lines().map(|line| format!("{line}\n")).collect();
+    if lines.len() > 2 {
+        lines[2] = lines[1].replacen("0000", "0010", 1);
+    }
+    lines.concat()
+}
+
+fn push_if(ran: &mut Ran, said: &str, line: &str) {
+    if ran.err.contains(said) {
+        ran.log.push(line.to_string());
+    }
+}
+
+/// Slips of a recovery or of a state: the program differs from such a model.
+const WRONG_MODELS: [Slip; 5] =
+    [Slip::CleanUndo, Slip::FreshAtUndo, Slip::WindowAlone, Slip::UnchangedCounted, Slip::CountsEveryEntry];
+
+fn reported(desk: &mut Desk, name: &str, seed: u64) -> Result<(), String> {
+    match part(desk, seed, geometry(9, 8, 4, 16), 40, 100) {
+        Err(error) => {
+            println!("{name}: {}", error.chars().take(160).collect::<String>());
+            Ok(())
+        }
+        Ok(()) => Err(format!("{name}: not reported")),
+    }
+}
+
+fn wrong(desk: &mut Desk, seed: u64) -> Result<(), String> {
+    for slip in WRONG_MODELS {
+        desk.model = Model { slip: Some(slip) };
+        reported(desk, &format!("{slip:?}"), seed)?;
+    }
+    desk.model = Model::default();
+    for tamper in TAMPERS {
+        desk.tamper = Some(tamper);
+        reported(desk, &format!("{}: {}", tamper.0, tamper.1), seed)?;
+    }
+    Ok(())
+}
+
+fn desk(program: &str, shim: &str) -> Result<Desk, String> {
+    let whole = |path: &str| Path::new(path).canonicalize().map_err(|error| format!("{path}: {error}"));
+    let folder = Folder::new("tinca-desk")?;
+    let (program, shim) = (whole(program)?, whole(shim)?);
+    Ok(Desk { program, shim, folder, model: Model::default(), tamper: None, tally: Tally::default() })
+}
+
+fn run() -> Result<String, String> {
+    let words: Vec<String> = std::env::args().collect();
+    let [_, program, shim, ..] = &words[..] else {
+        return Err("usage: desk PROGRAM SHIM [--seed S] [--wrong]".to_string());
+    };
+    let (start, seed) = (Instant::now(), option("--seed", 1));
+    let mut desk = desk(program, shim)?;
+    if words.iter().any(|word| word == "--wrong") {
+        wrong(&mut desk, seed)?;
+        return Ok(format!("{} wrong models and wrong runs are reported", WRONG_MODELS.len() + TAMPERS.len()));
+    }
+    right(&mut desk, seed)?;
+    Ok(format!("{} ({:.1} s)", desk.tally.line(), start.elapsed().as_secs_f64()))
+}
+
+fn main() {
+    match run() {
+        Ok(line) => println!("{line}"),
+        Err(error) => {
+            println!("DIFFERENCE: {error}");
+            std::process::exit(1);
+        }
+    }
+}

@@ -1,0 +1,243 @@
+//! Writes the card images that the service program is tried on, and the disk beside them. The model makes them, so
+//! that they are what document 01 says; each run writes the same bytes.
+//!
+//!     images FOLDER
+
+use std::path::Path;
+use tinca_tests::drive::put;
+use tinca_tests::model::{commit_stores, Model};
+use tinca_tests::{Answer, Calls, Geometry};
+
+const SMALL: Geometry = Geometry { k: 9, slots: 8, data_blocks: 4, disk_blocks: 16 };
+const BLOCK: usize = 512;
+
+/// A block that tells what it is: lines of text, and between them lines in which every byte value stands.
+fn pattern(what: &str, block: u64) -> Vec<u8> {
+    let mut bytes = Vec::with_capacity(BLOCK);
+    for line in 0..BLOCK as u64 / 16 {
+        if line % 2 == 0 {
+            bytes.extend_from_slice(format!("{what:<7}{block:>2} at {:03X}", 16 * line).as_bytes());
+        } else {
+            bytes.extend((0..16).map(|column| (16 * (line / 2 + block) + column) as u8));
+        }
+    }
+    assert_eq!(bytes.len(), BLOCK);
+    bytes
+}
+
+fn disk() -> Vec<u8> {
+    (0..SMALL.disk_blocks).flat_map(|block| pattern("disk", block)).collect()
+}
+
+fn fresh() -> Vec<u8> {
+    let mut card = vec![0; SMALL.card_length()];
+    let (k, slots, data_blocks, disk_blocks) = (SMALL.k, SMALL.slots, SMALL.data_blocks, SMALL.disk_blocks);
+    assert_eq!(Model::default().format(k, slots, data_blocks, disk_blocks, &mut card), Answer::Done(0));
+    card
+}
+
+/// Saves the blocks, cut after so many stores; the bytes tell the save's name.
+fn save(card: &mut [u8], name: &str, numbers: &[u64], allowance: u64) {
+    let data: Vec<u8> = numbers.iter().flat_map(|number| pattern(name, *number)).collect();
+    let count = commit_stores(numbers.len() as u64, BLOCK as u64);
+    let answer = if allowance < count { Answer::Cut } else { Answer::Done(count) };
+    assert_eq!(Model::default().commit(card, numbers, &data, allowance), answer);
+}
+
+fn load(card: &mut [u8], number: u64) {
+    assert_eq!(Model::default().load(card, &disk(), number, u64::MAX), Answer::Done(65));
+}
+
+fn recover(card: &[u8], allowance: u64, answer: Answer) -> Vec<u8> {
+    let mut card = card.to_vec();
+    assert_eq!(Model::default().recover(&mut card, allowance), answer);
+    card
+}
+
+/// Blocks 3 and 7 saved, 3 once more, 12 loaded.
+fn saved() -> Vec<u8> {
+    let mut card = fresh();
+    save(&mut card, "save a", &[3], u64::MAX);
+    save(&mut card, "save b", &[7], u64::MAX);
+    save(&mut card, "save c", &[3], u64::MAX);
+    load(&mut card, 12);
+    card
+}
+
+/// A save of blocks 1 and 7, of which 7 is cached. Two data blocks must be free for it, so 12, which is clean, goes
+/// first. The cut falls behind the entry of 7: it has R, and its number does not stand in the window.
+fn cut() -> Vec<u8> {
+    let mut card = saved();
+    assert_eq!(Model::default().evict(&mut card, &mut disk(), 12, u64::MAX), Answer::Done(1));
+    save(&mut card, "save d", &[1, 7], 67 + 65);
+    card
+}
+
+/// Seven saves bring Head to slot 7; the eighth, of blocks 4 and 11, goes round. It is cut between its two role
+/// switches, so that one undoable entry has no R any more. Bytes 80 to 127 are not looked at, whatever stands there.
+fn round() -> Vec<u8> {
+    let mut card = fresh();
+    for (name, number) in
+        [("save a", 2), ("save b", 4), ("save c", 2), ("save d", 4), ("save e", 2), ("save f", 4), ("save g", 2)]
+    {
+        save(&mut card, name, &[number], u64::MAX);
+    }
+    save(&mut card, "save h", &[4, 11], 2 * 67 + 1);
+    card[80..128].fill(0xA5);
+    card
+}
+
+fn full() -> Vec<u8> {
+    let mut card = fresh();
+    save(&mut card, "save a", &[1, 2], u64::MAX);
+    save(&mut card, "save b", &[15], u64::MAX);
+    load(&mut card, 8);
+    card
+}
+
+/// The card with these bytes in place of its own. They must change it.
+fn with(mut card: Vec<u8>, at: usize, bytes: &[u8]) -> Vec<u8> {
+    assert_ne!(card[at..at + bytes.len()], *bytes);
+    put(&mut card, at, bytes);
+    card
+}
+
+/// One byte or word of a field of entry `index` replaced.
+fn entry(card: Vec<u8>, index: usize, from: usize, bytes: &[u8]) -> Vec<u8> {
+    with(card, SMALL.entry_at(index) + from, bytes)
+}
+
+fn resized(mut card: Vec<u8>, length: usize) -> Vec<u8> {
+    card.resize(length, 0);
+    card
+}
+
+fn word(value: u64) -> [u8; 8] {
+    value.to_be_bytes()
+}
+
+type Image = (&'static str, Vec<u8>);
+
+fn sound() -> Vec<Image> {
+    vec![
+        ("fresh", fresh()),
+        ("saved", saved()),
+        ("cut", cut()),
+        ("recovering", recover(&cut(), 1, Answer::Cut)),
+        ("almost", recover(&cut(), 2, Answer::Cut)),
+        ("recovered", recover(&cut(), u64::MAX, Answer::Done(3))),
+        ("round", round()),
+        ("round-recovered", recover(&round(), u64::MAX, Answer::Done(3))),
+        ("full", full()),
+    ]
+}
+
+/// Refused with 1 or 2.
+fn misfitted() -> Vec<Image> {
+    vec![
+        ("length", with(saved(), 3, &[65])),
+        ("version", with(saved(), 4, &[2])),
+        ("k", with(saved(), 5, &[8])),
+        ("slots", with(saved(), 7, &[12])),
+        ("blocks", with(saved(), 11, &[6])),
+        ("disk-blocks", with(saved(), 15, &[0])),
+        ("reserved", with(saved(), 63, &[1])),
+        ("stub", resized(saved(), 100)),
+        ("empty", Vec::new()),
+        ("wide", with(saved(), 5, &[10])),
+        ("longer", resized(saved(), 2305)),
+        ("shorter", resized(saved(), 2303)),
+    ]
+}
+
+/// Refused with 4, 5 or 6. Entry 0 of the saved card holds block 3, entry 1 block 7, entry 3 block 12.
+fn damaged() -> Vec<Image> {
+    let (settled_of_3, current_of_3) = (2u32.to_be_bytes(), 2u32.to_be_bytes());
+    vec![
+        ("head", with(saved(), 64, &word(8))),
+        ("tail", with(saved(), 72, &word(8))),
+        ("window", with(cut(), SMALL.slot_at(3), &word(16))),
+        ("flags", entry(saved(), 1, 0, &[0x81])),
+        ("notzero", entry(saved(), 1, 0, &[0])),
+        ("number", entry(saved(), 3, 7, &[16])),
+        ("current", entry(saved(), 3, 15, &[4])),
+        ("previous", entry(saved(), 0, 11, &[4])),
+        ("samenumber", entry(saved(), 3, 7, &[3])),
+        ("samecurrent", entry(saved(), 3, 12, &current_of_3)),
+        ("samesettled", entry(cut(), 1, 8, &settled_of_3)),
+    ]
+}
+
+fn write(folder: &Path, name: &str, bytes: &[u8]) -> std::io::Result<()> {
+    std::fs::write(folder.join(format!("{name}.img")), bytes)
+}
+
+fn main() -> std::io::Result<()> {
+    let Some(folder) = std::env::args_os().nth(1) else {
+        eprintln!("usage: images FOLDER");
+        std::process::exit(2);
+    };
+    let folder = Path::new(&folder);
+    std::fs::create_dir_all(folder)?;
+    for (name, bytes) in [sound(), misfitted(), damaged()].concat() {
+        write(folder, name, &bytes)?;
+    }
+    write(folder, "disk", &disk())
+}
+
+#[cfg(test)]
+mod tests {
+    use super::*;
+    use tinca_tests::model::{Card, State};
+
+    fn refusal(card: &[u8]) -> u32 {
+        Card::open(card, None).err().unwrap_or(0)
+    }
+
+    /// Each image is refused with the number that it is there for, and no card is longer than the smallest, but one
+    /// by one byte.
+    #[test]
+    fn the_images_are_what_their_names_say() {
+        let refusals = |images: Vec<Image>| -> Vec<u32> { images.iter().map(|(_, card)| refusal(card)).collect() };
+        assert_eq!(refusals(sound()), [0; 9]);
+        assert_eq!(refusals(misfitted()), [1, 1, 1, 1, 1, 1, 1, 1, 1, 2, 2, 2]);
+        assert_eq!(refusals(damaged()), [4, 4, 4, 5, 5, 5, 5, 5, 6, 6, 6]);
+        assert!(sound().iter().all(|(_, card)| card.len() == 2304));
+    }
+
+    #[test]
+    fn the_cuts_fall_where_they_should() {
+        let model = Model::default();
+        assert_eq!(model.state(&cut()), State::Unsettled { geometry: SMALL, undoable: 2, window: 1 });
+        assert_eq!(model.state(&round()), State::Unsettled { geometry: SMALL, undoable: 2, window: 2 });
+        let card = Card::open(&cut(), None).unwrap();
+        let of_7 = card.entries[card.entry_for(7).unwrap()].unwrap();
+        assert!(of_7.log_role && !card.window.contains(&7));
+        let card = Card::open(&round(), None).unwrap();
+        assert_eq!((card.tail, card.head), (7, 1));
+        assert!(!card.entries[card.entry_for(4).unwrap()].unwrap().log_role);
+        assert!(Card::open(&full(), None).unwrap().free_blocks().is_empty());
+    }
+
+    /// Two entries are alike in one way only, so that each way is tried by itself. (Equal current blocks of two
+    /// entries that are not undoable are equal settled blocks too.)
+    #[test]
+    fn each_pair_is_alike_in_its_own_way() {
+        let with_other = |mut card: Vec<u8>, at: usize, bytes: &[u8]| {
+            put(&mut card, at, bytes);
+            refusal(&card)
+        };
+        let [.., (_, number), (_, current), (_, settled)] = &damaged()[..] else { unreachable!() };
+        assert_eq!(with_other(number.clone(), SMALL.entry_at(3) + 7, &[4]), 0);
+        assert_eq!(with_other(current.clone(), SMALL.entry_at(3) + 12, &[0; 4]), 0);
+        assert_eq!(with_other(settled.clone(), SMALL.entry_at(1) + 8, &[0xFF; 4]), 0);
+    }
+
+    #[test]
+    fn a_block_tells_its_number() {
+        let blocks: Vec<Vec<u8>> = disk().chunks(BLOCK).map(|block| block.to_vec()).collect();
+        assert_eq!(blocks.len(), 16);
+        assert!((0..16).all(|i| (0..i).all(|j| blocks[i] != blocks[j])));
+        assert!((0..=255u8).all(|byte| blocks[5].contains(&byte)));
+    }
+}

@@ -1,0 +1,130 @@
+//! Cards somewhere in a history of saves, loads and evictions with power cuts among them, made by the model alone:
+//! larger saves than `drive` makes, cut around their entries and role switches, and recoveries that are cut
+//! themselves.
+
+use crate::drive::{data_of, first_disk, Snapshot};
+use crate::model::{commit_stores, Card, Model};
+use crate::random::Random;
+use crate::{Answer, Calls, Geometry};
+
+/// A store of a commit of `n` blocks after which power fails: near the entry of one block, or among the role
+/// switches.
+fn cut_place(random: &mut Random, geometry: Geometry, n: u64) -> u64 {
+    let words = geometry.block() as u64 / 8;
+    if random.once_in(3) {
+        return n * (words + 3) + random.below(n + 1);
+    }
+    random.below(n) * (words + 3) + words + random.below(4)
+}
+
+/// The number of a block on the card; any number where there is none.
+fn cached(random: &mut Random, geometry: Geometry, card: &[u8]) -> u64 {
+    let numbers: Vec<u64> = Card::open(card, None).unwrap().in_use().map(|entry| entry.number).collect();
+    if numbers.is_empty() {
+        random.below(geometry.disk_blocks)
+    } else {
+        random.pick(&numbers)
+    }
+}
+
+/// Some different blocks, at most `most`, and fewer where the card has no room for them. Two times in three one of
+/// them is cached.
+fn some_numbers(random: &mut Random, geometry: Geometry, card: &[u8], most: u64) -> Vec<u64> {
+    let free = Card::open(card, None).unwrap().free_blocks().len() as u64;
+    let most = most.min(free).min(geometry.slots - 1).min(geometry.disk_blocks);
+    if most == 0 {
+        return Vec::new();
+    }
+    let count = 1 + random.below(most);
+    let any = random.below(geometry.disk_blocks);
+    let first = if random.once_in(3) {
+        any
+    } else {
+        cached(random, geometry, card) + geometry.disk_blocks - random.below(count)
+    };
+    (0..count).map(|i| (first + i) % geometry.disk_blocks).collect()
+}
+
+fn save(random: &mut Random, geometry: Geometry, at: &mut Snapshot, most: u64, cut: bool) {
+    let numbers = some_numbers(random, geometry, &at.card, most);
+    let n = numbers.len() as u64;
+    if n == 0 {
+        return;
+    }
+    let allowance = if cut { cut_place(random, geometry, n) } else { commit_stores(n, geometry.block() as u64) };
+    let data = data_of(random.next(), n as usize, geometry.block());
+    Model::default().commit(&mut at.card, &numbers, &data, allowance);
+}
+
+/// Recovers in full, or is cut again a few times before.
+fn recover(random: &mut Random, card: &mut [u8]) {
+    let model = Model::default();
+    while random.once_in(3) {
+        model.recover(card, random.below(4));
+    }
+    assert!(matches!(model.recover(card, u64::MAX), Answer::Done(_)));
+}
+
+fn step(random: &mut Random, geometry: Geometry, at: &mut Snapshot, most: u64) {
+    let (model, number) = (Model::default(), random.below(geometry.disk_blocks));
+    match random.below(6) {
+        0 => drop(model.load(&mut at.card, &at.disk, number, u64::MAX)),
+        1 | 2 => {
+            let number = cached(random, geometry, &at.card);
+            model.evict(&mut at.card, &mut at.disk, number, u64::MAX);
+        }
+        _ => {
+            let cut = random.once_in(3);
+            save(random, geometry, at, most, cut);
+            recover(random, &mut at.card);
+        }
+    }
+}
+
+/// A card and its disk. Mostly the last save was cut, at times its recovery too.
+pub fn history(random: &mut Random, geometry: Geometry, most: u64) -> Snapshot {
+    let mut card = vec![0; geometry.card_length()];
+    random.fill(&mut card);
+    let (k, slots, data_blocks, disk_blocks) =
+        (geometry.k, geometry.slots, geometry.data_blocks, geometry.disk_blocks);
+    assert_eq!(Model::default().format(k, slots, data_blocks, disk_blocks, &mut card), Answer::Done(0));
+    let mut at = Snapshot { card, disk: first_disk(random.next(), geometry) };
+    for _ in 0..random.below(16) {
+        step(random, geometry, &mut at, most);
+    }
+    if !random.once_in(6) {
+        save(random, geometry, &mut at, most, true);
+        if random.once_in(4) {
+            Model::default().recover(&mut at.card, random.below(3));
+        }
+    }
+    at
+}
+
+#[cfg(test)]
+mod tests {
+    use super::*;
+
+    /// Settled cards, long and short lists, windows that go round, undoable entries with and without R: all of them
+    /// occur.
+    #[test]
+    fn histories_reach_what_they_should() {
+        let geometry = Geometry { k: 9, slots: 8, data_blocks: 8, disk_blocks: 16 };
+        let mut random = Random(5);
+        let (mut settled, mut lengths, mut round, mut no_role, mut outside) = (0, [0; 9], 0, 0, 0);
+        for _ in 0..2000 {
+            let bytes = history(&mut random, geometry, 6).card;
+            let card = Card::open(&bytes, None).unwrap();
+            settled += card.settled() as u64;
+            lengths[Model::default().recover_list(&bytes).unwrap().len()] += 1;
+            round += (card.tail > card.head) as u64;
+            no_role += card.in_use().any(|entry| card.undoable(entry) && !entry.log_role) as u64;
+            outside += card.in_use().any(|entry| entry.log_role && !card.window.contains(&entry.number)) as u64;
+        }
+        assert!(
+            [settled, round, no_role, outside].iter().all(|count| *count > 50),
+            "{settled} {round} {no_role} {outside}"
+        );
+        assert!(lengths[..8].iter().all(|count| *count > 10), "{lengths:?}");
+    }
+}
