@@ -1,8 +1,8 @@
 // What is wrong with a refused card, and who can cause it.
+use faults::Fault;
 use listing::count;
 use listing::plain;
 use listing::say;
-use faults::Fault;
 
 fn lead(fd: i32, number: u8) {
     say(fd, b"refused with ");

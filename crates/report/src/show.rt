@@ -142,7 +142,7 @@ fn line(card: &[u8], i: u64) -> Shown {
         Line::Unused => Shown::Nothing,
         Line::Raw(e) => {
             fields(i, e);
-            out(b"\n");
+            out(b"         -         -\n");
             Shown::Something
         }
         Line::Full(e, undoable, settled) => {

@@ -1,4 +1,5 @@
 // The commands on their files.
+use faults::Fault;
 use image::Got;
 use image::Repair;
 use libc::STDERR_FILENO;
@@ -44,6 +45,21 @@ fn is_long_enough(path: &[u8], n: usize) -> bool {
     false
 }
 
+// Says so where the file is not as long as its header asks.
+fn match_header(path: &[u8], card: &[u8]) {
+    match faults::fault_of(card) {
+        Fault::Length(long) => {
+            err(path);
+            err(b": ");
+            count(STDERR_FILENO, card.len() as u64, 0);
+            err(b" bytes, and its header asks for ");
+            count(STDERR_FILENO, long, 0);
+            err(b"\n");
+        }
+        _ => {}
+    }
+}
+
 // A refusal on standard error: the card's fault, or what lies with the disk, an earlier cut or the number asked for.
 fn refuse(card: &[u8], r: u8) {
     if (r == 3) | (7 <= r) {
@@ -66,7 +82,9 @@ pub fn show(path: &[u8]) {
         return;
     }
     let n = got.count;
-    is_long_enough(path, n);
+    if is_long_enough(path, n) {
+        match_header(path, &buf[..n]);
+    }
     report::card(path, &buf[..n]);
 }
 
