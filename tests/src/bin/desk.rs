@@ -500,7 +500,11 @@ fn wrong(desk: &mut Desk, seed: u64) -> Result<(), String> {
         desk.tamper = Some(tamper);
         reported(desk, &format!("{}: {}", tamper.0, tamper.1), seed)?;
     }
-    Ok(())
+    desk.tamper = None;
+    desk.put("left", &[])?;
+    reported(desk, "a file is left behind", seed)?;
+    desk.program = PathBuf::from("false");
+    reported(desk, "the program ends with 1", seed)
 }
 
 fn desk(program: &str, shim: &str) -> Result<Desk, String> {
@@ -519,7 +523,7 @@ fn run() -> Result<String, String> {
     let mut desk = desk(program, shim)?;
     if words.iter().any(|word| word == "--wrong") {
         wrong(&mut desk, seed)?;
-        return Ok(format!("{} wrong models and wrong runs are reported", WRONG_MODELS.len() + TAMPERS.len()));
+        return Ok(format!("{} wrong models and wrong runs are reported", WRONG_MODELS.len() + TAMPERS.len() + 2));
     }
     right(&mut desk, seed)?;
     Ok(format!("{} ({:.1} s)", desk.tally.line(), start.elapsed().as_secs_f64()))
@@ -531,6 +535,24 @@ fn main() {
         Err(error) => {
             println!("DIFFERENCE: {error}");
             std::process::exit(1);
+        }
+    }
+}
+
+#[cfg(test)]
+mod tests {
+    use super::*;
+
+    #[test]
+    fn an_incomplete_tally_is_reported() {
+        assert!(Tally::default().complete().is_err());
+    }
+
+    #[test]
+    fn files_are_compared_byte_by_byte() {
+        assert!(same_file(&Some(vec![1, 2]), &[1, 2]).is_ok());
+        for wrong in [None, Some(vec![1]), Some(vec![1, 2, 0]), Some(vec![1, 3])] {
+            assert!(same_file(&wrong, &[1, 2]).is_err());
         }
     }
 }
