@@ -69,12 +69,20 @@ pub struct Walk {
     pub failed: bool,
 }
 
-// Puts the first `size` bytes into the file, and waits until they are durable.
+// Puts the first `size` bytes into the file, and waits until they are durable. A unit that went in part is put again, whole: half of an entry
+// may read as another.
 fn put(fd: i32, place: u32, bytes: &[u8], size: usize) -> bool
     requires { ⌜ Counts size (now bytes) ⌝ }
 {
-    if libc::pwrite(fd, &bytes[..size], place as i64) != size as isize {
+    let whole = size as isize;
+    let first = libc::pwrite(fd, &bytes[..size], place as i64);
+    if first < 0 {
         return false;
+    }
+    if first != whole {
+        if libc::pwrite(fd, &bytes[..size], place as i64) != whole {
+            return false;
+        }
     }
     libc::fdatasync(fd) == 0
 }

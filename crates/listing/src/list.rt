@@ -106,5 +106,9 @@ pub fn stores(g: Geometry, card: &[u8], w: Window) -> u64
         STDOUT_FILENO,
         b"  store   byte  bytes                               what\n",
     );
-    lines(g, card, w)
+    let n = lines(g, card, w);
+    if n == 0 {
+        say(STDOUT_FILENO, b"  none\n");
+    }
+    n
 }

@@ -61,7 +61,8 @@ fn slot(card: &[u8], j: u64) -> bool {
     match survey::slot_of(card, j) {
         Slot::At(p, n) => {
             plain(STDOUT_FILENO, p, 6);
-            plain(STDOUT_FILENO, n, 8);
+            out(b" ");
+            plain(STDOUT_FILENO, n, 7);
             out(b"\n");
             true
         }
@@ -101,10 +102,11 @@ fn wide(x: u32) -> u64 {
 }
 
 fn data_block(p: u32, none: &[u8]) {
+    out(b" ");
     if p == FRESH {
         out(none);
     } else {
-        plain(STDOUT_FILENO, wide(p), 10);
+        plain(STDOUT_FILENO, wide(p), 9);
     }
 }
 
@@ -115,9 +117,11 @@ fn fields(i: u64, e: Entry) {
     flag(codec::in_use(e), b" V");
     flag(codec::is_modified(e), b" M");
     flag(codec::has_log_role(e), b" R");
-    plain(STDOUT_FILENO, e.number, 8);
-    data_block(e.previous, b"     FRESH");
-    plain(STDOUT_FILENO, wide(e.current), 9);
+    out(b" ");
+    plain(STDOUT_FILENO, e.number, 7);
+    data_block(e.previous, b"    FRESH");
+    out(b" ");
+    plain(STDOUT_FILENO, wide(e.current), 8);
 }
 
 fn known(undoable: bool, settled: u32) {
@@ -126,7 +130,7 @@ fn known(undoable: bool, settled: u32) {
     } else {
         out(b"        no");
     }
-    data_block(settled, b"      none");
+    data_block(settled, b"     none");
 }
 
 // What was printed of an entry or a data block: nothing, since the card has no such one; nothing; a line or a number.
@@ -274,12 +278,21 @@ fn is_sound(card: &[u8]) -> bool {
     }
 }
 
+// The length behind the name. Of a file longer than any card no more is read.
+fn title(n: usize) {
+    if n <= 528512 {
+        out(b": ");
+        count(STDOUT_FILENO, n as u64, 0);
+        out(b" bytes\n");
+    } else {
+        out(b": more than 528,512 bytes\n");
+    }
+}
+
 // All that can be told of the card.
 pub fn card(name: &[u8], card: &[u8]) {
     out(name);
-    out(b": ");
-    count(STDOUT_FILENO, card.len() as u64, 0);
-    out(b" bytes\n");
+    title(card.len());
     header(card);
     if survey::ring_known(card) {
         ring(card);

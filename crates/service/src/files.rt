@@ -60,8 +60,10 @@ fn match_header(path: &[u8], card: &[u8]) {
     }
 }
 
-// A refusal on standard error: the card's fault, or what lies with the disk, an earlier cut or the number asked for.
-fn refuse(card: &[u8], r: u8) {
+// A refusal on standard error, behind the file's name: the card's fault, or what lies with the disk, an earlier cut or the number asked for.
+fn refuse(path: &[u8], card: &[u8], r: u8) {
+    err(path);
+    err(b": ");
     if (r == 3) | (7 <= r) {
         report::refusal(STDERR_FILENO, r);
     } else {
@@ -113,11 +115,20 @@ fn from_disk(path: &[u8], fd: i32, b: u64, at: usize, size: usize)
     listing::block(bytes);
 }
 
+// A refusal of a card over a disk: 3 is the disk's.
+fn refuse_pair(name: &[u8], path: &[u8], card: &[u8], r: u8) {
+    if r == 3 {
+        refuse(path, card, r);
+    } else {
+        refuse(name, card, r);
+    }
+}
+
 // Where block b of the card over a disk of `long` bytes lies, and its bytes.
-fn find(card: &[u8], path: &[u8], fd: i32, long: u64, b: u64) {
+fn find(name: &[u8], card: &[u8], path: &[u8], fd: i32, long: u64, b: u64) {
     match lookup::find_in(card, long, b) {
-        Found::Refused(r) => refuse(card, r),
-        Found::Outside(_) => refuse(card, 10),
+        Found::Refused(r) => refuse_pair(name, path, card, r),
+        Found::Outside(_) => refuse(name, card, 10),
         Found::Card(at, size) => {
             held(b, b"card", at);
             listing::block(&card[at..at + size]);
@@ -135,7 +146,7 @@ fn natural(x: i64) -> u64 {
 }
 
 // The block of a card that was read, over the disk's file.
-fn over_disk(card: &[u8], path: &[u8], b: u64) {
+fn over_disk(name: &[u8], card: &[u8], path: &[u8], b: u64) {
     let fd = os::open_read(path);
     if fd < 0 {
         os::fail(path);
@@ -145,7 +156,7 @@ fn over_disk(card: &[u8], path: &[u8], b: u64) {
     if long < 0 {
         os::fail(path);
     } else {
-        find(card, path, fd, natural(long), b);
+        find(name, card, path, fd, natural(long), b);
     }
     libc::close(fd);
 }
@@ -164,14 +175,15 @@ pub fn block(path: &[u8], disk: &[u8], b: u64) {
     }
     let n = got.count;
     if is_long_enough(path, n) {
-        over_disk(&buf[..n], disk, b);
+        over_disk(path, &buf[..n], disk, b);
     }
 }
 
 // What became of a recovery's stores.
 fn told(path: &[u8], r: Repair) {
     if r.failed {
-        os::fail(path);
+        err(path);
+        err(b": a store could not be written; see that the file can be, and recover again\n");
     }
     count(STDOUT_FILENO, r.made, 0);
     say(STDOUT_FILENO, b" of ");
@@ -189,7 +201,7 @@ fn told(path: &[u8], r: Repair) {
 fn repair(path: &[u8], fd: i32, card: &mut [u8], allowance: u64) {
     let s = recovery::examine(card);
     if s.refusal != 0 {
-        refuse(card, s.refusal);
+        refuse(path, card, s.refusal);
         return;
     }
     say(STDOUT_FILENO, b"recovery stores\n");
@@ -229,13 +241,19 @@ fn make(path: &[u8], g: Geometry, card: &mut [u8]) {
                 say(STDOUT_FILENO, b" bytes\n");
             }
         }
-        Outcome::Refused(r) => refuse(card, r),
+        Outcome::Refused(r) => refuse(path, card, r),
     }
+}
+
+fn misfit(path: &[u8], g: Geometry) {
+    err(path);
+    err(b": ");
+    report::fault(STDERR_FILENO, 1, faults::geometry_fault(g));
 }
 
 pub fn format(path: &[u8], g: Geometry) {
     if !codec::good_geometry(g) {
-        report::fault(STDERR_FILENO, 1, faults::geometry_fault(g));
+        misfit(path, g);
         return;
     }
     let mut buf = image::buffer();

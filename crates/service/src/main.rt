@@ -28,7 +28,19 @@ fn run(word: Word, count: usize) -> bool {
     }
 }
 
+// Takes the lowest free descriptor if it is one of the three standard ones: a card that was opened in the place of a closed standard output
+// would have the report written over it.
+fn hold() {
+    let fd = os::open_update(b"/dev/null");
+    if 2 < fd {
+        libc::close(fd);
+    }
+}
+
 fn main() {
+    hold();
+    hold();
+    hold();
     if !run(words::command(), os::arg_count()) {
         usage();
     }

@@ -41,42 +41,59 @@ fn number(i: usize) -> Parsed {
     text::parse(&buf[..n])
 }
 
+// Whether the argument just read was whole; says so where it was not.
+fn is_whole(what: &[u8]) -> bool {
+    if os::errno() == 0 {
+        return true;
+    }
+    os::fail(what);
+    false
+}
+
 pub fn show() -> bool {
     let mut path = io::buffer();
     let n = os::arg(2, &mut path);
-    files::show(&path[..n]);
+    if is_whole(b"CARD") {
+        files::show(&path[..n]);
+    }
     true
 }
 
 pub fn block() -> bool {
     let mut card = io::buffer();
     let mut disk = io::buffer();
+    let Parsed::Number(b) = number(4) else {
+        return false;
+    };
     let c = os::arg(2, &mut card);
-    let d = os::arg(3, &mut disk);
-    match number(4) {
-        Parsed::Number(b) => {
-            files::block(&card[..c], &disk[..d], b);
-            true
-        }
-        Parsed::Wrong => false,
+    if !is_whole(b"CARD") {
+        return true;
     }
+    let d = os::arg(3, &mut disk);
+    if is_whole(b"DISK") {
+        files::block(&card[..c], &disk[..d], b);
+    }
+    true
 }
 
 // Without an allowance recovery is made in full.
+fn allowance(count: usize) -> Parsed {
+    if count == 3 {
+        return Parsed::Number(0xFFFF_FFFF_FFFF_FFFF);
+    }
+    number(3)
+}
+
 pub fn recover(count: usize) -> bool {
+    let Parsed::Number(a) = allowance(count) else {
+        return false;
+    };
     let mut path = io::buffer();
     let n = os::arg(2, &mut path);
-    if count == 3 {
-        files::recover(&path[..n], 0xFFFF_FFFF_FFFF_FFFF);
-        return true;
+    if is_whole(b"CARD") {
+        files::recover(&path[..n], a);
     }
-    match number(3) {
-        Parsed::Number(a) => {
-            files::recover(&path[..n], a);
-            true
-        }
-        Parsed::Wrong => false,
-    }
+    true
 }
 
 pub fn format() -> bool {
@@ -94,14 +111,14 @@ pub fn format() -> bool {
     };
     let mut path = io::buffer();
     let n = os::arg(2, &mut path);
-    files::format(
-        &path[..n],
-        Geometry {
-            k: k,
-            slots: slots,
-            blocks: blocks,
-            disk: disk,
-        },
-    );
+    let g = Geometry {
+        k: k,
+        slots: slots,
+        blocks: blocks,
+        disk: disk,
+    };
+    if is_whole(b"CARD") {
+        files::format(&path[..n], g);
+    }
     true
 }

@@ -7,11 +7,8 @@ use Rattle.service.proofs.files.format.Tie as tie
 good-geometry-requires : tie.Need-good-geometry-requires
 good-geometry-requires c κs = search needs
 
-geometry-fault-requires : tie.Need-geometry-fault-requires
-geometry-fault-requires c κs = search needs
-
-fault-requires : tie.Need-fault-requires
-fault-requires c κs = search needs
+misfit-requires : tie.Need-misfit-requires
+misfit-requires c κs = search needs
 
 returns : tie.Need-returns
 returns c = search needs
@@ -39,8 +36,7 @@ format-spec =
     tie.close
     (tie.spec
     good-geometry-requires
-    geometry-fault-requires
-    fault-requires
+    misfit-requires
     returns
     buffer-requires
     card-length-requires
