@@ -248,7 +248,7 @@ fn ring(card: &[u8]) {
 
 fn entries(card: &[u8]) {
     out(
-        b"\nentries\n  place  bytes                               flags  number  previous  current  undoable   settled\n",
+        b"\nentries: V in use, M modified, R log role\n  place  bytes                               flags  number  previous  current  undoable   settled\n",
     );
     if !all(card, false) {
         out(b"  none in use\n");
