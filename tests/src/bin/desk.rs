@@ -78,8 +78,8 @@ impl Tally {
     fn complete(&self) -> Result<(), String> {
         let refusals = [1, 2, 3, 4, 5, 6, 7, 10].iter().all(|number| self.refused[*number] > 0);
         let rest = [self.stores, self.shown, self.on_card, self.on_disk, self.formats].iter().all(|count| *count > 0);
-        let stops = self.stops.iter().chain(&self.lengths).all(|count| *count > 0);
-        if refusals && rest && stops && self.longest > 20 {
+        let kinds = self.stops.iter().chain(&self.lengths).all(|count| *count > 0);
+        if refusals && rest && kinds && self.longest > 20 {
             Ok(())
         } else {
             Err(format!("something was not reached: {}", self.line()))
@@ -225,7 +225,8 @@ impl Desk {
         equal("standard error", &ran.err[..], err)
     }
 
-    /// A recovery that is stopped, and a second one that finishes: together they make each store once.
+    /// A recovery that is stopped, and a second one that finishes: together they make each store once. After one that
+    /// went on, the second has nothing to do.
     fn stops(&mut self, card: &[u8], list: &[Store], stop: Stop) -> Result<(), String> {
         self.put(CARD, card)?;
         let ran = self.run(&["recover", CARD], &stop.variables())?;
@@ -353,9 +354,9 @@ impl Desk {
         }
     }
 
-    /// A card with so many bytes behind it that no card is as long.
+    /// A card with other bytes behind it, as long as the largest card and longer than any.
     fn too_long(&mut self, random: &mut Random, at: &Snapshot) -> Result<(), String> {
-        for length in [LARGEST + 1, LARGEST + 2, 2 * LARGEST] {
+        for length in [LARGEST, LARGEST + 1, LARGEST + 2, 2 * LARGEST] {
             let mut card = at.card.clone();
             card.resize(length, random.next() as u8);
             self.damaged(&Snapshot { card, disk: at.disk.clone() })?;
@@ -482,9 +483,7 @@ const TAMPERS: [Tamper; 36] = [
     }),
     ("recover", "another refusal is told", |ran| ran.err = ran.err.replace("refused with 4", "refused with 5")),
     ("recover", "a refusal has no name", |ran| ran.err = ran.err.replace("card.img: refused", "refused")),
-    ("recover", "stores after a failure", |ran| {
-        push_if(ran, NOT_WRITTEN, "pwrite card.img 72 0000000000000000 8")
-    }),
+    ("recover", "stores after a failure", |ran| push_if(ran, NOT_WRITTEN, "pwrite card.img 72 0000000000000000 8")),
     ("recover", "a failure is not told", |ran| ran.err = ran.err.replace(NOT_WRITTEN, "")),
     ("recover", "a failure is told by its number", |ran| {
         ran.err = ran.err.replace(NOT_WRITTEN, "card.img: Input/output error\n")
@@ -626,5 +625,17 @@ mod tests {
         for wrong in [None, Some(vec![1]), Some(vec![1, 2, 0]), Some(vec![1, 3])] {
             assert!(same_file(&wrong, &[1, 2]).is_err());
         }
+    }
+
+    /// Half of a unit is left only where it was not made again whole.
+    #[test]
+    fn a_stop_leaves_its_bytes() {
+        let list = [Store::Entry(0, [1; 16]), Store::Word(16, [2; 8])];
+        let (whole, half) = ([vec![1; 16], vec![2; 8]].concat(), [vec![1; 8], vec![0; 16]].concat());
+        assert_eq!(left_by(&[0; 24], &list, Stop::Short(1)), whole);
+        assert_eq!(left_by(&[0; 24], &list, Stop::ShortTwice(1)), half);
+        assert_eq!(left_by(&[0; 24], &list, Stop::ShortFailed(1)), half);
+        assert_eq!(left_by(&[0; 24], &list, Stop::FailedStore(1)), [0; 24]);
+        assert_eq!(left_by(&[0; 24], &list, Stop::FailedSync(2)), whole);
     }
 }
