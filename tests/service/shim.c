@@ -6,6 +6,7 @@
  * SHIM_END=WHEN:j   the process ends before the j-th pwrite, after it, or after the j-th fdatasync (WHEN: before, after, synced)
  * SHIM_FAIL=CALL:j  the j-th such call fails with EIO and does nothing (CALL: pwrite, fdatasync, write, fsync)
  * SHIM_SHORT=CALL:j the j-th such call writes only the first half of its bytes (CALL: pwrite, write)
+ * For j several numbers may stand, as in pwrite:3,4.
  *
  * The calls are made by syscall, so that the log's own writes are not logged. */
 #define _GNU_SOURCE
@@ -23,11 +24,18 @@ static int is_regular(int fd) {
     return fstat(fd, &status) == 0 && S_ISREG(status.st_mode);
 }
 
-/* Whether the variable says `what`, a colon and this number. */
+/* Whether the variable says `what`, a colon and this number, alone or among others. */
 static int is_told(const char *variable, const char *what, long number) {
-    const char *told = getenv(variable);
+    char *told = getenv(variable);
     size_t length = strlen(what);
-    return told && strncmp(told, what, length) == 0 && told[length] == ':' && atol(told + length + 1) == number;
+    if (!told || strncmp(told, what, length) != 0 || told[length] != ':')
+        return 0;
+    told += length;
+    do {
+        if (strtol(told + 1, &told, 10) == number)
+            return 1;
+    } while (*told == ',');
+    return 0;
 }
 
 static void end_if_told(const char *when, long number) {

@@ -1,8 +1,19 @@
 //! The service program's text, parsed back, and what it must say of a card by the model. Layout is left to the stored
-//! outputs: here words and numbers count, not blanks and commas.
+//! outputs: in columns words and numbers count, not blanks and commas. The name in front and what is told on standard
+//! error are compared as they stand.
 
 use crate::model::{read_entry, undone, window_slots, Card, Entry, Geometry, Model, Store};
+use crate::stores_log::CARD;
 use crate::{Calls, State};
+
+/// The lengths between which a card's length lies.
+pub const SMALLEST: usize = 2304;
+pub const LARGEST: usize = 528_512;
+/// What is told on standard error of a store that was not written or not made durable.
+pub const NOT_WRITTEN: &str = "card.img: a store could not be written; see that the file can be, and recover again\n";
+const WINDOW: &str = "slot number";
+const ENTRIES: &str = "place bytes flags number previous current undoable settled";
+const STORES: &str = "store byte bytes what";
 
 #[derive(Clone, Debug, PartialEq, Eq)]
 pub enum Verdict {
@@ -16,7 +27,7 @@ pub type Row = Vec<String>;
 /// A report of `show`. A part that is not there is `None`; one that says there is nothing has no rows.
 #[derive(Clone, Debug, PartialEq, Eq)]
 pub struct Shown {
-    pub length: u64,
+    pub title: String,
     pub header: Vec<Row>,
     pub window: Option<Vec<Row>>,
     pub entries: Option<Vec<Row>>,
@@ -26,6 +37,14 @@ pub struct Shown {
 
 fn row(words: &[&str]) -> Row {
     words.iter().map(|word| word.to_string()).collect()
+}
+
+/// A count as the program prints it: 65,536.
+pub fn counted(count: usize) -> String {
+    match count {
+        0..=999 => count.to_string(),
+        _ => format!("{},{:03}", counted(count / 1000), count % 1000),
+    }
 }
 
 /// The words of a line, the commas of its numbers left out.
@@ -68,6 +87,34 @@ pub fn refusal(line: &str) -> Result<u32, String> {
     }
 }
 
+/// A refusal that stands alone on standard error, behind the name of the file that it is about.
+pub fn named_refusal(text: &str, name: &str) -> Result<u32, String> {
+    match text.strip_prefix(&format!("{name}: ")).and_then(|rest| rest.strip_suffix('\n')) {
+        Some(line) if !line.contains('\n') => refusal(line),
+        _ => Err(format!("no line of {name} alone: {text:?}")),
+    }
+}
+
+/// What is told on standard error, by the length alone, of a file that no card is as long as.
+pub fn length_line(card: &[u8]) -> Option<String> {
+    match card.len() {
+        length if length < SMALLEST => {
+            Some(format!("{CARD}: {} bytes, and the smallest card has 2,304\n", counted(length)))
+        }
+        length if length > LARGEST => {
+            Some(format!("{CARD}: longer than the largest card, which has 528,512 bytes\n"))
+        }
+        _ => None,
+    }
+}
+
+/// What is told of a file that is not as long as its header asks.
+pub fn asked_line(card: &[u8]) -> Option<String> {
+    let asked = Geometry::from_header(card).ok()?.card_length();
+    let line = || format!("{CARD}: {} bytes, and its header asks for {}\n", counted(card.len()), counted(asked));
+    (asked != card.len()).then(line)
+}
+
 pub fn verdict(line: &str) -> Result<Verdict, String> {
     let line = &format!("{line}\n");
     if line.starts_with("condition  settled, ") {
@@ -81,15 +128,26 @@ pub fn verdict(line: &str) -> Result<Verdict, String> {
     }
 }
 
-/// The rows of a part under its title, without `head` lines of column names; none where it only says that there is
-/// nothing.
-fn part(parts: &[Vec<&str>], title: &str, head: usize, nothing: &str) -> Option<Vec<Row>> {
-    let lines = parts.iter().find(|lines| lines[0] == title)?;
-    let rows = lines.get(1 + head..).unwrap_or(&[]);
-    if rows.len() == 1 && rows[0].trim() == nothing {
-        return Some(Vec::new());
+/// The rows under their column names, where there are such; none where a line says that there is nothing.
+fn rows(lines: &[&str], columns: &str, nothing: &str) -> Result<Vec<Row>, String> {
+    let rows = match lines {
+        _ if columns.is_empty() => lines,
+        [names, rows @ ..] if words(names) == words(columns) => rows,
+        _ => return Err(format!("no columns {columns}: {lines:?}")),
+    };
+    match rows {
+        [] => Err(format!("neither a row nor {nothing:?} below {columns:?}")),
+        [line] if *line == nothing => Ok(Vec::new()),
+        _ => Ok(rows.iter().map(|line| words(line)).collect()),
     }
-    Some(rows.iter().map(|line| words(line)).collect())
+}
+
+/// The rows of the part with this title, where it is there.
+fn part(parts: &[Vec<&str>], title: &str, columns: &str, nothing: &str) -> Result<Option<Vec<Row>>, String> {
+    match parts.iter().find(|lines| lines.first() == Some(&title)) {
+        Some(lines) => rows(&lines[1..], columns, nothing).map(Some),
+        None => Ok(None),
+    }
 }
 
 pub fn parse_shown(text: &str) -> Result<Shown, String> {
@@ -97,17 +155,26 @@ pub fn parse_shown(text: &str) -> Result<Shown, String> {
     let titles: Vec<&str> = parts.iter().map(|lines| lines.first().copied().unwrap_or("")).collect();
     let known = ["header", "window", "entries", "free data blocks"];
     let inner = titles.get(1..titles.len().saturating_sub(1)).unwrap_or(&[]);
-    if inner.first() != Some(&"header") || inner.iter().any(|title| !known.contains(title)) {
+    let in_order = known.iter().filter(|title| inner.contains(title)).eq(inner.iter());
+    if inner.first() != Some(&"header") || !in_order || parts[0].len() != 1 || parts[parts.len() - 1].len() != 1 {
         return Err(format!("other parts than there should be: {titles:?}"));
     }
     Ok(Shown {
-        length: between(titles[0], ": ", " bytes")?,
-        header: part(&parts, "header", 0, "").unwrap_or_default(),
-        window: part(&parts, "window", 1, "empty"),
-        entries: part(&parts, "entries", 1, "none in use"),
-        free: part(&parts, "free data blocks", 0, "none").map(|rows| rows.concat()),
+        title: titles[0].to_string(),
+        header: part(&parts, "header", "", "")?.unwrap_or_default(),
+        window: part(&parts, "window", WINDOW, "  empty")?,
+        entries: part(&parts, "entries", ENTRIES, "  none in use")?,
+        free: part(&parts, "free data blocks", "", "  none")?.map(|rows| rows.concat()),
         verdict: verdict(titles[titles.len() - 1])?,
     })
+}
+
+/// Name and length. Of a file longer than any card no more is read than tells that it is.
+fn title_of(card: &[u8]) -> String {
+    match card.len() {
+        length if length > LARGEST => format!("{CARD}: more than 528,512 bytes"),
+        length => format!("{CARD}: {} bytes", counted(length)),
+    }
 }
 
 /// A number of the header, a dash where the card does not reach so far.
@@ -147,6 +214,14 @@ fn hex(bytes: &[u8]) -> String {
     bytes.iter().map(|byte| format!("{byte:02X}")).collect()
 }
 
+/// A unit's bytes as document 01 writes them: an entry's flag byte and number, previous, current; a word in one.
+fn groups(bytes: &[u8]) -> Row {
+    match bytes.len() {
+        16 => vec![hex(&bytes[..8]), hex(&bytes[8..12]), hex(&bytes[12..])],
+        _ => vec![hex(bytes)],
+    }
+}
+
 /// Whether an entry is undoable, and its settled block.
 fn known_of(entry: &Entry, window: &[(u64, u64)]) -> Row {
     let undoable = entry.log_role || window.iter().any(|(_, number)| *number == entry.number);
@@ -159,14 +234,15 @@ fn known_of(entry: &Entry, window: &[(u64, u64)]) -> Row {
 fn entry_row(index: u64, bytes: &[u8; 16], geometry: Geometry, window: Option<&[(u64, u64)]>) -> Row {
     let flag = |bit: u8, letter: &str| if bytes[0] & bit != 0 { letter } else { "-" }.to_string();
     let previous = field(bytes, 8, 4).unwrap();
-    let mut row = vec![index.to_string(), hex(&bytes[..8]), hex(&bytes[8..12]), hex(&bytes[12..])];
+    let mut row = [vec![index.to_string()], groups(bytes)].concat();
     row.extend([flag(0x80, "V"), flag(0x02, "M"), flag(0x01, "R"), field(bytes, 1, 7).unwrap().to_string()]);
     row.push(if previous == 0xFFFF_FFFF { "FRESH".to_string() } else { previous.to_string() });
     row.push(field(bytes, 12, 4).unwrap().to_string());
     let read = read_entry(bytes, geometry.data_blocks, geometry.disk_blocks);
-    if let (Ok(Some(entry)), Some(window)) = (read, window) {
-        row.extend(known_of(&entry, window));
-    }
+    row.extend(match (read, window) {
+        (Ok(Some(entry)), Some(window)) => known_of(&entry, window),
+        _ => self::row(&["-", "-"]),
+    });
     row
 }
 
@@ -202,7 +278,7 @@ pub fn shown_of(model: &Model, card: &[u8]) -> Shown {
     let rows =
         |window: &Vec<(u64, u64)>| window.iter().map(|(slot, n)| row(&[&slot.to_string(), &n.to_string()])).collect();
     Shown {
-        length: card.len() as u64,
+        title: title_of(card),
         header: header_of(card),
         entries: geometry.and_then(|geometry| entries_of(card, geometry, window.as_deref())),
         window: window.as_ref().map(rows),
@@ -211,24 +287,10 @@ pub fn shown_of(model: &Model, card: &[u8]) -> Shown {
     }
 }
 
-/// Rows with nothing between their words: on a damaged card a number can be wider than its column and touch the one
-/// before it.
-fn run_together(rows: &Option<Vec<Row>>) -> Option<Vec<String>> {
-    rows.as_ref().map(|rows| rows.iter().map(|row| row.concat()).collect())
-}
-
 /// Whether the text says of the card what it should.
 pub fn same_shown(text: &str, wanted: &Shown) -> Result<(), String> {
     let found = parse_shown(text)?;
-    let mut alike = found.clone();
-    if matches!(wanted.verdict, Verdict::Refused(_)) {
-        for (alike, wanted) in [(&mut alike.window, &wanted.window), (&mut alike.entries, &wanted.entries)] {
-            if run_together(alike) == run_together(wanted) {
-                alike.clone_from(wanted);
-            }
-        }
-    }
-    if alike == *wanted {
+    if found == *wanted {
         Ok(())
     } else {
         Err(format!("shown {found:?}, not {wanted:?}"))
@@ -289,7 +351,7 @@ pub struct Told {
 
 pub fn parse_list(lines: &[&str]) -> Result<Vec<Row>, String> {
     match lines {
-        ["recovery stores", _, rows @ ..] => Ok(rows.iter().map(|line| words(line)).collect()),
+        ["recovery stores", list @ ..] => rows(list, STORES, "  none"),
         _ => Err(format!("no list of stores: {lines:?}")),
     }
 }
@@ -326,7 +388,7 @@ pub fn list_rows(card: &[u8], list: &[Store]) -> Vec<Row> {
     let opened = Card::open(card, None).unwrap();
     let row = |(index, store): (usize, &Store)| {
         let (_, at, bytes) = store.unit();
-        words(&format!("{} {at} {} {}", index + 1, hex(bytes), meaning(&opened, store)))
+        words(&format!("{} {at} {} {}", index + 1, groups(bytes).join(" "), meaning(&opened, store)))
     };
     list.iter().enumerate().map(row).collect()
 }
@@ -382,49 +444,137 @@ condition  unsettled, undoable entries 2, slots in the window 1
     #[test]
     fn a_wrong_report_is_seen() {
         let wanted = shown_of(&Model::default(), &card());
-        let from = SHOWN.find("2,304").unwrap();
-        for (at, mark) in SHOWN.char_indices().filter(|(at, mark)| *at >= from && mark.is_ascii_digit()) {
+        for (at, mark) in SHOWN.char_indices().filter(|(_, mark)| mark.is_ascii_digit()) {
             let other = if mark == '7' { "8" } else { "7" };
             let wrong = format!("{}{other}{}", &SHOWN[..at], &SHOWN[at + 1..]);
             assert!(same_shown(&wrong, &wanted).is_err(), "{wrong}");
         }
         let changes = [
+            ("card.img", "disk.img"),
+            (": 2,304", ": 2304"),
             ("yes", "no"),
             ("none", "0"),
             ("FRESH", "0"),
             ("unsettled", "settled"),
             (" R  ", " -  "),
             ("  0   3\n", " none\n"),
+            ("undoable ", "settled  "),
+            ("window\n", "entries\n"),
         ];
         for (right, other) in changes {
             assert!(SHOWN.contains(right));
             assert!(same_shown(&SHOWN.replacen(right, other, 1), &wanted).is_err(), "{right}");
         }
-        for line in
-            SHOWN.lines().filter(|line| line.starts_with("  ") && !line.contains("place") && !line.contains("slot"))
-        {
+        for line in SHOWN.lines().filter(|line| line.starts_with("  ")) {
             assert!(same_shown(&SHOWN.replace(&format!("{line}\n"), ""), &wanted).is_err(), "{line}");
             assert!(same_shown(&SHOWN.replace(line, &format!("{line}\n{line}")), &wanted).is_err(), "{line}");
         }
     }
 
-    /// Words may touch only where the card is refused.
+    /// The report of a refused card: without free data blocks, its last line the refusal.
+    fn refused(report: &str, line: &str) -> String {
+        format!("{}{line}\n", &report[..report.find("free data blocks").unwrap()])
+    }
+
+    const SLOT: &str = "refused with 4: the number in slot 1, in the window, is not below D. Cause: a damaged card.";
+
+    /// However wide a number is, it stands apart from the one before.
     #[test]
-    fn touching_columns_are_for_damaged_cards() {
+    fn columns_of_a_damaged_card_stand_apart() {
         let mut damaged = card();
         damaged[136..144].fill(0xFF);
-        let touching = SHOWN
-            .replace("     1       5\n", "     118446744073709551615\n")
-            .replace("free data blocks\n    0   3\n\n", "");
-        let line = touching.lines().last().unwrap().to_string();
-        let refused = touching.replace(&line, "refused with 4: the number in slot 1. Cause: a damaged card.");
+        let report = refused(&SHOWN.replace("     1       5\n", "     1 18446744073709551615\n"), SLOT);
         let wanted = shown_of(&Model::default(), &damaged);
-        same_shown(&refused, &wanted).unwrap();
-        assert!(same_shown(&refused.replace("09551615\n", "09551616\n"), &wanted).is_err());
-        assert!(same_shown(&refused.replace("with 4", "with 5"), &wanted).is_err());
-        assert!(same_shown(&refused.replace("a damaged card.", "the fitter."), &wanted).is_err());
-        let touching = SHOWN.replace("     1       5\n", "     15\n");
-        assert!(same_shown(&touching, &shown_of(&Model::default(), &card())).is_err());
+        same_shown(&report, &wanted).unwrap();
+        for (right, other) in [
+            ("     1 1844", "     11844"),
+            ("09551615\n", "09551616\n"),
+            ("     FRESH", "FRESH"),
+            ("with 4", "with 5"),
+            ("a damaged card.", "the fitter."),
+        ] {
+            assert!(report.contains(right));
+            assert!(same_shown(&report.replacen(right, other, 1), &wanted).is_err(), "{right}");
+        }
+    }
+
+    /// What cannot be told of an entry is a dash in each of its columns.
+    #[test]
+    fn a_damaged_entry_has_dashes() {
+        let mut damaged = card();
+        damaged[192] = 0x81;
+        damaged[193..200].fill(0xFF);
+        let report = SHOWN.replace(
+            "8300000000000003 00000000 00000002  V M R       3         0        2       yes         0",
+            "81FFFFFFFFFFFFFF 00000000 00000002  V - R 72057594037927935         0        2         -         -",
+        );
+        let flags = "refused with 5: the flag byte of entry 0 is not 80, 82 or 83. Cause: a damaged card.";
+        let report = refused(&report, flags);
+        let wanted = shown_of(&Model::default(), &damaged);
+        same_shown(&report, &wanted).unwrap();
+        for other in ["\n", "         -\n", "        no         2\n", "         - -         -\n"] {
+            assert!(same_shown(&report.replace("         -         -\n", other), &wanted).is_err(), "{other}");
+        }
+    }
+
+    /// A file that no card is as long as: no window, nothing of an entry that needs one.
+    #[test]
+    fn a_file_longer_than_any_card_is_not_measured() {
+        let mut long = card();
+        long.resize(LARGEST + 1, 0);
+        let report = SHOWN
+            .replace("card.img: 2,304 bytes", "card.img: more than 528,512 bytes")
+            .replace("window\n  slot  number\n     1       5\n\n", "")
+            .replace("       yes         0\n", "         -         -\n")
+            .replace("       yes      none\n", "         -         -\n");
+        let asks = "refused with 2: the header asks for a card of 2,304 bytes. Cause: the fitter.";
+        let report = refused(&report, asks);
+        let wanted = shown_of(&Model::default(), &long);
+        same_shown(&report, &wanted).unwrap();
+        assert!(same_shown(&report.replace("more than 528,512", "528,513"), &wanted).is_err());
+        long.push(0);
+        assert_eq!(shown_of(&Model::default(), &long), wanted);
+    }
+
+    #[test]
+    fn lengths_are_told() {
+        let told = |length: usize| {
+            let mut card = card();
+            card.resize(length, 0);
+            (length_line(&card).unwrap_or_default(), asked_line(&card).unwrap_or_default())
+        };
+        let asks = |length: &str| format!("card.img: {length} bytes, and its header asks for 2,304\n");
+        let long = "card.img: longer than the largest card, which has 528,512 bytes\n";
+        assert_eq!(told(0), ("card.img: 0 bytes, and the smallest card has 2,304\n".to_string(), String::new()));
+        assert_eq!(told(2303).0, "card.img: 2,303 bytes, and the smallest card has 2,304\n");
+        assert_eq!(told(SMALLEST), (String::new(), String::new()));
+        assert_eq!(told(2305), (String::new(), asks("2,305")));
+        assert_eq!(told(LARGEST), (String::new(), asks("528,512")));
+        assert_eq!(told(LARGEST + 1).0, long);
+        let mut no_header = card();
+        no_header.push(0);
+        no_header[4] = 2;
+        assert_eq!(asked_line(&no_header), None);
+    }
+
+    #[test]
+    fn counts_have_commas() {
+        let told = [(0, "0"), (999, "999"), (1000, "1,000"), (65_036, "65,036"), (1_000_001, "1,000,001")];
+        for (count, text) in told {
+            assert_eq!(counted(count), text);
+        }
+    }
+
+    /// One line, behind the right name.
+    #[test]
+    fn a_refusal_has_its_files_name() {
+        let line = "card.img: refused with 7: the card is not settled. Cause: an earlier cut.\n";
+        assert_eq!(named_refusal(line, CARD), Ok(7));
+        assert!(named_refusal(line, "disk.img").is_err());
+        assert!(named_refusal(&line.replace("card.img: ", ""), CARD).is_err());
+        assert!(named_refusal(&format!("{line}{line}"), CARD).is_err());
+        assert!(named_refusal(line.trim_end(), CARD).is_err());
+        assert!(named_refusal(&line.replace("with 7", "with 6"), CARD).is_err());
     }
 
     #[test]
@@ -447,10 +597,10 @@ condition  unsettled, undoable entries 2, slots in the window 1
         let list = Model::default().recover_list(&card()).unwrap();
         let text = "\
 recovery stores
-  store   byte  bytes                             what
-      1    192  82000000000000030000000000000000  entry 0 back to data block 0
-      2    208  00000000000000000000000000000000  entry 1 zeroed
-      3     72  0000000000000002                  Tail to Head, 2
+  store   byte  bytes                               what
+      1    192  8200000000000003 00000000 00000000  entry 0 back to data block 0
+      2    208  0000000000000000 00000000 00000000  entry 1 zeroed
+      3     72  0000000000000002                    Tail to Head, 2
 1 of 3 stores made: cut
 condition  unsettled, undoable entries 1, slots in the window 1
 ";
@@ -458,7 +608,24 @@ condition  unsettled, undoable entries 1, slots in the window 1
         assert_eq!(told.list, list_rows(&card(), &list));
         assert_eq!((told.made, told.count, &told.end[..]), (1, 3, "cut"));
         assert_eq!(told.verdict, Verdict::Unsettled { undoable: 1, window: 1 });
-        let other = parse_told(&text.replace("zeroed", "back to data block 1")).unwrap();
-        assert_ne!(other.list, told.list);
+        for (right, other) in [
+            ("zeroed", "back to data block 1"),
+            ("0003 0000", "00030000"),
+            ("0000 00000000  entry 1", "000000000000  entry 1"),
+            ("0000000000000002 ", "00000000 00000002 "),
+        ] {
+            assert!(text.contains(right));
+            assert_ne!(parse_told(&text.replacen(right, other, 1)).unwrap().list, told.list, "{right}");
+        }
+        assert!(parse_told(&text.replace("what", "")).is_err());
+    }
+
+    #[test]
+    fn an_empty_list_says_so() {
+        let list = ["recovery stores", "  store   byte  bytes                               what", "  none"];
+        assert_eq!(parse_list(&list), Ok(Vec::new()));
+        assert!(parse_list(&list[..2]).is_err());
+        assert!(parse_list(&[list[0], list[2]]).is_err());
+        assert_ne!(parse_list(&[&list[..], &list[2..]].concat()), Ok(Vec::new()));
     }
 }

@@ -1,12 +1,13 @@
 //! The log that the shim keeps of a program's calls on files, and what must stand in it: recovery's stores in their
-//! order, each by one pwrite, each durable before the next.
+//! order, each by one pwrite, each durable before the next. A store that went in part is made once more, whole.
 
 use crate::model::Store;
 
 /// The file that all stores must go to.
 pub const CARD: &str = "card.img";
 
-/// Where a recovery stops by itself or is stopped, at store `j`, counted from 1.
+/// What becomes of a recovery at store `j`, counted from 1: its process ends, a call fails, or the store goes in part:
+/// once, twice, or before it fails.
 #[derive(Clone, Copy, Debug, PartialEq, Eq)]
 pub enum Stop {
     Before(usize),
@@ -15,54 +16,87 @@ pub enum Stop {
     FailedStore(usize),
     FailedSync(usize),
     Short(usize),
+    ShortTwice(usize),
+    ShortFailed(usize),
 }
 
 impl Stop {
-    pub const KINDS: [fn(usize) -> Stop; 6] =
-        [Stop::Before, Stop::After, Stop::Synced, Stop::FailedStore, Stop::FailedSync, Stop::Short];
+    pub const KINDS: [fn(usize) -> Stop; 8] = [
+        Stop::Before,
+        Stop::After,
+        Stop::Synced,
+        Stop::FailedStore,
+        Stop::FailedSync,
+        Stop::Short,
+        Stop::ShortTwice,
+        Stop::ShortFailed,
+    ];
 
-    /// The environment variable that tells the shim so.
-    pub fn variable(&self) -> (&'static str, String) {
+    /// The environment variables that tell the shim so. A store made once more is the next pwrite.
+    pub fn variables(&self) -> Vec<(&'static str, String)> {
         match self {
-            Stop::Before(j) => ("SHIM_END", format!("before:{j}")),
-            Stop::After(j) => ("SHIM_END", format!("after:{j}")),
-            Stop::Synced(j) => ("SHIM_END", format!("synced:{j}")),
-            Stop::FailedStore(j) => ("SHIM_FAIL", format!("pwrite:{j}")),
-            Stop::FailedSync(j) => ("SHIM_FAIL", format!("fdatasync:{j}")),
-            Stop::Short(j) => ("SHIM_SHORT", format!("pwrite:{j}")),
+            Stop::Before(j) => vec![("SHIM_END", format!("before:{j}"))],
+            Stop::After(j) => vec![("SHIM_END", format!("after:{j}"))],
+            Stop::Synced(j) => vec![("SHIM_END", format!("synced:{j}"))],
+            Stop::FailedStore(j) => vec![("SHIM_FAIL", format!("pwrite:{j}"))],
+            Stop::FailedSync(j) => vec![("SHIM_FAIL", format!("fdatasync:{j}"))],
+            Stop::Short(j) => vec![("SHIM_SHORT", format!("pwrite:{j}"))],
+            Stop::ShortTwice(j) => vec![("SHIM_SHORT", format!("pwrite:{j},{}", j + 1))],
+            Stop::ShortFailed(j) => {
+                vec![("SHIM_SHORT", format!("pwrite:{j}")), ("SHIM_FAIL", format!("pwrite:{}", j + 1))]
+            }
         }
     }
 
-    /// Whether the process ends there; else a call fails and the program goes on.
+    /// Whether the process ends there.
     pub fn ends(&self) -> bool {
         matches!(self, Stop::Before(_) | Stop::After(_) | Stop::Synced(_))
     }
 
-    /// The stores whose bytes are in the file whole.
-    pub fn in_file(&self) -> usize {
+    /// Whether the recovery goes on as if nothing had happened.
+    pub fn goes_on(&self) -> bool {
+        matches!(self, Stop::Short(_))
+    }
+
+    /// The stores, of a list of `count`, whose bytes are in the file whole.
+    pub fn in_file(&self, count: usize) -> usize {
         match self {
-            Stop::Before(j) | Stop::FailedStore(j) | Stop::Short(j) => j - 1,
+            Stop::Before(j) | Stop::FailedStore(j) | Stop::ShortTwice(j) | Stop::ShortFailed(j) => j - 1,
             Stop::After(j) | Stop::Synced(j) | Stop::FailedSync(j) => *j,
+            Stop::Short(_) => count,
         }
     }
 
-    /// The stores that the program knows to be durable.
-    pub fn durable(&self) -> usize {
+    /// The store of which only the first half is in the file.
+    pub fn half_in_file(&self) -> Option<usize> {
         match self {
-            Stop::Synced(j) => *j,
-            Stop::Before(j) | Stop::FailedStore(j) | Stop::Short(j) | Stop::After(j) | Stop::FailedSync(j) => j - 1,
+            Stop::ShortTwice(j) | Stop::ShortFailed(j) => Some(*j),
+            _ => None,
+        }
+    }
+
+    /// The stores, of a list of `count`, that the program knows to be durable.
+    pub fn durable(&self, count: usize) -> usize {
+        match self {
+            Stop::After(j) | Stop::FailedSync(j) => j - 1,
+            _ => self.in_file(count),
         }
     }
 }
 
+/// The line of a store of which so many bytes were written, or -1.
 fn store_line(store: &Store, result: i64) -> String {
     let (_, at, bytes) = store.unit();
     let hex: String = bytes.iter().map(|byte| format!("{byte:02X}")).collect();
     format!("pwrite {CARD} {at} {hex} {result}")
 }
 
-fn length(store: &Store) -> i64 {
-    store.unit().2.len() as i64
+fn whole_line(store: &Store) -> String {
+    store_line(store, store.unit().2.len() as i64)
+}
+
+fn half_line(store: &Store) -> String {
+    store_line(store, store.unit().2.len() as i64 / 2)
 }
 
 fn sync_line(result: i64) -> String {
@@ -71,20 +105,23 @@ fn sync_line(result: i64) -> String {
 
 /// The log of these stores, made in full.
 pub fn in_full(list: &[Store]) -> Vec<String> {
-    list.iter().flat_map(|store| [store_line(store, length(store)), sync_line(0)]).collect()
+    list.iter().flat_map(|store| [whole_line(store), sync_line(0)]).collect()
 }
 
-/// The log of a recovery that is stopped.
+/// The log of a recovery that is stopped, or goes on after a store that went in part.
 pub fn stopped(list: &[Store], stop: Stop) -> Vec<String> {
-    let mut log = in_full(&list[..stop.durable()]);
-    match stop {
-        Stop::Before(_) | Stop::Synced(_) => {}
-        Stop::After(j) => log.push(store_line(&list[j - 1], length(&list[j - 1]))),
-        Stop::FailedStore(j) => log.push(store_line(&list[j - 1], -1)),
-        Stop::FailedSync(j) => log.extend([store_line(&list[j - 1], length(&list[j - 1])), sync_line(-1)]),
-        Stop::Short(j) => log.push(store_line(&list[j - 1], length(&list[j - 1]) / 2)),
-    }
-    log
+    let before = |j: usize| in_full(&list[..j - 1]);
+    let (log, last) = match stop {
+        Stop::Before(j) => (before(j), vec![]),
+        Stop::After(j) => (before(j), vec![whole_line(&list[j - 1])]),
+        Stop::Synced(j) => (in_full(&list[..j]), vec![]),
+        Stop::FailedStore(j) => (before(j), vec![store_line(&list[j - 1], -1)]),
+        Stop::FailedSync(j) => (before(j), vec![whole_line(&list[j - 1]), sync_line(-1)]),
+        Stop::Short(j) => (before(j), [vec![half_line(&list[j - 1])], in_full(&list[j - 1..])].concat()),
+        Stop::ShortTwice(j) => (before(j), vec![half_line(&list[j - 1]); 2]),
+        Stop::ShortFailed(j) => (before(j), vec![half_line(&list[j - 1]), store_line(&list[j - 1], -1)]),
+    };
+    [log, last].concat()
 }
 
 /// Whether the log is the one that should be; the first difference if not.
@@ -151,5 +188,35 @@ mod tests {
         }
         assert_eq!(stopped(&list(), Stop::Synced(1)), stopped(&list(), Stop::Before(2)));
         assert_eq!(stopped(&list(), Stop::Synced(3)), in_full(&list()));
+    }
+
+    /// A store that went in part is made again before it is made durable, and the rest follows.
+    #[test]
+    fn a_store_in_part_is_made_again() {
+        let wanted = [
+            "pwrite card.img 208 82828282828282828282828282828282 8",
+            "pwrite card.img 208 82828282828282828282828282828282 16",
+            "fdatasync card.img 0",
+            "pwrite card.img 72 0000000000000002 8",
+            "fdatasync card.img 0",
+        ];
+        assert_eq!(stopped(&list()[1..], Stop::Short(1)), wanted);
+        let wanted = ["pwrite card.img 72 0000000000000002 4", "pwrite card.img 72 0000000000000002 4"];
+        assert_eq!(stopped(&list()[2..], Stop::ShortTwice(1)), wanted);
+        let wanted = ["pwrite card.img 72 0000000000000002 4", "pwrite card.img 72 0000000000000002 -1"];
+        assert_eq!(stopped(&list()[2..], Stop::ShortFailed(1)), wanted);
+    }
+
+    /// What a stop leaves in the file and what its log says fit together.
+    #[test]
+    fn stores_in_the_file_are_in_the_log() {
+        for kind in Stop::KINDS {
+            let (stop, log) = (kind(2), stopped(&list(), kind(2)));
+            let whole = list().iter().filter(|store| log.contains(&whole_line(store))).count();
+            let half = list().iter().position(|store| log.contains(&half_line(store)));
+            let synced = log.iter().filter(|line| **line == sync_line(0)).count();
+            assert_eq!((stop.in_file(3), stop.durable(3)), (whole, synced), "{stop:?}");
+            assert_eq!(stop.half_in_file(), half.filter(|_| whole < 3).map(|at| at + 1), "{stop:?}");
+        }
     }
 }

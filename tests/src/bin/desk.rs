@@ -19,8 +19,6 @@ use tinca_tests::stores_log::{in_full, same_log, stopped, Stop, CARD};
 use tinca_tests::{Calls, Geometry, Place};
 
 const DISK: &str = "disk.img";
-const SMALLEST: usize = 2304;
-const LARGEST: usize = 528_512;
 /// Lists up to this length are stopped at each of their stores.
 const SHORT_LIST: usize = 4;
 
@@ -43,8 +41,10 @@ struct Tally {
     runs: u64,
     stores: u64,
     longest: usize,
-    stops: [u64; 6],
+    stops: [u64; Stop::KINDS.len()],
     refused: [u64; 11],
+    /// Files shorter and longer than any card, and such as their header does not ask for.
+    lengths: [u64; 3],
     shown: u64,
     on_card: u64,
     on_disk: u64,
@@ -55,8 +55,9 @@ impl Tally {
     fn line(&self) -> String {
         let refused: Vec<String> = (1..11).map(|number| format!("{number}:{}", self.refused[number])).collect();
         format!(
-            "{} cards, {} runs: {} stores made in their order, the longest list {}; {} recoveries stopped and \
-             run again; {} cards shown; blocks {} on card, {} on disk; {} geometries formatted; refused {}",
+            "{} cards, {} runs: {} stores made in their order, the longest list {}; {} recoveries stopped or \
+             held up and run again; {} cards shown; blocks {} on card, {} on disk; {} geometries formatted; \
+             {} too short, {} too long, {} not as long as asked; refused {}",
             self.cards,
             self.runs,
             self.stores,
@@ -66,6 +67,9 @@ impl Tally {
             self.on_card,
             self.on_disk,
             self.formats,
+            self.lengths[0],
+            self.lengths[1],
+            self.lengths[2],
             refused.join(" ")
         )
     }
@@ -74,8 +78,8 @@ impl Tally {
     fn complete(&self) -> Result<(), String> {
         let refusals = [1, 2, 3, 4, 5, 6, 7, 10].iter().all(|number| self.refused[*number] > 0);
         let rest = [self.stores, self.shown, self.on_card, self.on_disk, self.formats].iter().all(|count| *count > 0);
-        let stops = self.stops.iter().all(|count| *count > 0);
-        if refusals && rest && stops && self.longest > 20 {
+        let kinds = self.stops.iter().chain(&self.lengths).all(|count| *count > 0);
+        if refusals && rest && kinds && self.longest > 20 {
             Ok(())
         } else {
             Err(format!("something was not reached: {}", self.line()))
@@ -123,13 +127,15 @@ fn same_file(found: &Option<Vec<u8>>, wanted: &[u8]) -> Result<(), String> {
     }
 }
 
-/// A file that no card is as long as is told on standard error, by its length alone.
-fn length_line(card: &[u8]) -> Option<&'static str> {
-    match card.len() {
-        length if length < SMALLEST => Some(" bytes, and the smallest card has 2,304\n"),
-        length if length > LARGEST => Some("longer than the largest card, which has 528,512 bytes\n"),
-        _ => None,
+/// The bytes that a stop leaves: whole stores, and half of one where it went in part and was not made again.
+fn left_by(card: &[u8], list: &[Store], stop: Stop) -> Vec<u8> {
+    let mut left = after(card, &list[..stop.in_file(list.len())]);
+    if let Some(j) = stop.half_in_file() {
+        let (_, at, bytes) = list[j - 1].unit();
+        let half = bytes.len() / 2;
+        left[at..at + half].copy_from_slice(&bytes[..half]);
     }
+    left
 }
 
 impl Desk {
@@ -206,40 +212,33 @@ impl Desk {
     }
 
     /// What the program says where it was stopped: nothing after the list where it ended, that it failed where a call
-    /// failed.
+    /// failed, and as ever where it went on.
     fn said(&self, card: &[u8], list: &[Store], stop: Stop, ran: &Ran) -> Result<(), String> {
         if stop.ends() {
             let lines: Vec<&str> = ran.out.lines().collect();
             equal("list", parse_list(&lines)?, list_rows(card, list))?;
             return equal("standard error", &ran.err[..], "");
         }
-        let file = ran.file.as_deref().unwrap_or(&[]);
-        equal("recover", parse_told(&ran.out)?, self.told(card, list, stop.durable(), "failed", file))?;
-        // errno says nothing of a write that was short
-        let trouble = if matches!(stop, Stop::Short(_)) { "" } else { "Input/output error\n" };
-        let told = ran.err.starts_with("card.img: ") && ran.err.ends_with(trouble) && ran.err.lines().count() == 1;
-        equal("the trouble is told", told, true).map_err(|error| format!("{error}: {:?}", ran.err))
+        let (end, err) = if stop.goes_on() { ("done", "") } else { ("failed", NOT_WRITTEN) };
+        let file = left_by(card, list, stop);
+        equal("recover", parse_told(&ran.out)?, self.told(card, list, stop.durable(list.len()), end, &file))?;
+        equal("standard error", &ran.err[..], err)
     }
 
-    /// A recovery that is stopped, and a second one that finishes: together they make each store once.
+    /// A recovery that is stopped, and a second one that finishes: together they make each store once. After one that
+    /// went on, the second has nothing to do.
     fn stops(&mut self, card: &[u8], list: &[Store], stop: Stop) -> Result<(), String> {
         self.put(CARD, card)?;
-        let (name, value) = stop.variable();
-        let ran = self.run(&["recover", CARD], &[(name, value)])?;
+        let ran = self.run(&["recover", CARD], &stop.variables())?;
         same_log(&ran.log, &stopped(list, stop))?;
-        let mut left = after(card, &list[..stop.in_file()]);
-        if let Stop::Short(j) = stop {
-            let (_, at, bytes) = list[j - 1].unit();
-            let half = bytes.len() / 2;
-            left[at..at + half].copy_from_slice(&bytes[..half]);
-        }
+        let left = left_by(card, list, stop);
         same_file(&ran.file, &left)?;
         self.said(card, list, stop, &ran)?;
         let kind =
             Stop::KINDS.iter().position(|kind| std::mem::discriminant(&kind(1)) == std::mem::discriminant(&stop));
         self.tally.stops[kind.unwrap()] += 1;
-        if !matches!(stop, Stop::Short(_)) {
-            return self.recovers(&left, &list[stop.in_file()..], None);
+        if stop.half_in_file().is_none() {
+            return self.recovers(&left, &list[stop.in_file(list.len())..], None);
         }
         // a unit of which half was made is no unit any more: what is left to do is then the model's to say
         match self.model.recover_list(&left) {
@@ -248,18 +247,23 @@ impl Desk {
         }
     }
 
-    /// A command that is refused: one line on standard error, no store, no byte changed.
+    /// A run that was refused: one line on standard error, behind the name of the file that it is about; no store.
+    fn refused(&mut self, ran: &Ran, number: u32) -> Result<(), String> {
+        same_log(&ran.log, &[])?;
+        equal("standard output", &ran.out[..], "")?;
+        let name = if number == 3 { DISK } else { CARD };
+        self.tally.refused[number as usize] += 1;
+        equal("refusal", named_refusal(&ran.err, name)?, number)
+    }
+
+    /// A command that is refused, or whose card's file has no card's length: no byte changed.
     fn refuses(&mut self, words: &[&str], card: &[u8], number: u32) -> Result<(), String> {
         let ran = self.run(words, &[])?;
-        same_log(&ran.log, &[])?;
         same_file(&ran.file, card)?;
+        let Some(line) = length_line(card) else { return self.refused(&ran, number) };
+        same_log(&ran.log, &[])?;
         equal("standard output", &ran.out[..], "")?;
-        equal("lines on standard error", ran.err.lines().count(), 1)?;
-        if let Some(line) = length_line(card) {
-            return equal(&format!("the length is told in {:?}", ran.err), ran.err.ends_with(line), true);
-        }
-        self.tally.refused[number as usize] += 1;
-        equal("refusal", refusal(ran.err.trim_end())?, number)
+        equal("standard error", &ran.err[..], &line)
     }
 
     fn shows(&mut self, card: &[u8]) -> Result<(), String> {
@@ -267,15 +271,13 @@ impl Desk {
         let ran = self.run(&["show", CARD], &[])?;
         same_log(&ran.log, &[])?;
         same_file(&ran.file, card)?;
-        let line = length_line(card).unwrap_or("");
-        equal("standard error", ran.err.ends_with(line) && line.is_empty() == ran.err.is_empty(), true)?;
-        let mut wanted = shown_of(&self.model, card);
-        if card.len() > LARGEST {
-            // no more of the file is read than tells that it is too long
-            wanted.length = parse_shown(&ran.out)?.length;
-        }
+        let line = length_line(card).or_else(|| asked_line(card)).unwrap_or_default();
+        equal("standard error", &ran.err, &line)?;
         self.tally.shown += 1;
-        same_shown(&ran.out, &wanted)
+        self.tally.lengths[0] += (card.len() < SMALLEST) as u64;
+        self.tally.lengths[1] += (card.len() > LARGEST) as u64;
+        self.tally.lengths[2] += line.contains("asks for") as u64;
+        same_shown(&ran.out, &shown_of(&self.model, card))
     }
 
     /// Block `number`, of the card that now is in the file, over the disk that is there.
@@ -352,6 +354,16 @@ impl Desk {
         }
     }
 
+    /// A card with other bytes behind it, as long as the largest card and longer than any.
+    fn too_long(&mut self, random: &mut Random, at: &Snapshot) -> Result<(), String> {
+        for length in [LARGEST, LARGEST + 1, LARGEST + 2, 2 * LARGEST] {
+            let mut card = at.card.clone();
+            card.resize(length, random.next() as u8);
+            self.damaged(&Snapshot { card, disk: at.disk.clone() })?;
+        }
+        Ok(())
+    }
+
     /// Makes a card's file; `variable` tells the shim what fails on the way.
     fn formatted(&mut self, geometry: Geometry, variable: Option<(&str, &str)>) -> Result<Ran, String> {
         let _ = std::fs::remove_file(self.folder.0.join(CARD));
@@ -373,7 +385,7 @@ impl Desk {
             equal("made durable", ran.log.last().map(|line| &line[..]), Some("fsync card.img 0"))?;
             let writes = ran.log.iter().filter(|line| line.starts_with("write card.img ")).count();
             equal("calls", ran.log.len(), writes + 1)?;
-            equal("format", ran.out.replace(',', ""), format!("card.img: made {} bytes\n", card.len()))?;
+            equal("format", ran.out, format!("card.img: made, {} bytes\n", counted(card.len())))?;
             equal("standard error", &ran.err[..], "")?;
         }
         for value in ["write:1", "fsync:1"] {
@@ -383,6 +395,21 @@ impl Desk {
             equal("standard error", &ran.err[..], "card.img: Input/output error\n")?;
         }
         self.tally.formats += 1;
+        self.misfits(geometry)
+    }
+
+    /// A geometry with one number that is not allowed: refused, no file made.
+    fn misfits(&mut self, right: Geometry) -> Result<(), String> {
+        for wrong in [
+            Geometry { k: 13, ..right },
+            Geometry { slots: right.slots + 1, ..right },
+            Geometry { data_blocks: right.data_blocks + 1, ..right },
+            Geometry { disk_blocks: 65_537, ..right },
+        ] {
+            let ran = self.formatted(wrong, None)?;
+            equal("no file is made", ran.file.is_none(), true)?;
+            self.refused(&ran, 1)?;
+        }
         Ok(())
     }
 }
@@ -412,7 +439,8 @@ fn part(desk: &mut Desk, seed: u64, geometry: Geometry, cards: u64, damaged: u64
         let at = some_damaged(&mut random, geometry);
         desk.damaged(&at).map_err(|error| format!("{geometry:?}, damaged card {turn}: {error}"))?;
     }
-    Ok(())
+    let at = history(&mut random, geometry, 3);
+    desk.too_long(&mut random, &at).map_err(|error| format!("{geometry:?}, too long: {error}"))
 }
 
 fn right(desk: &mut Desk, seed: u64) -> Result<(), String> {
@@ -431,31 +459,74 @@ fn right(desk: &mut Desk, seed: u64) -> Result<(), String> {
 }
 
 /// What a wrong program's run of a command might look like. Where a run has nothing of the kind, it stays as it is.
-const TAMPERS: [Tamper; 19] = [
+const TAMPERS: [Tamper; 36] = [
     ("recover", "a store is not made durable", |ran| ran.log.retain(|line| !line.starts_with("fdatasync"))),
     ("recover", "a store is made twice", |ran| ran.log.extend(ran.log.first().cloned())),
     ("recover", "stores change places", |ran| ran.log.reverse()),
     ("recover", "the last store is not made", |ran| ran.log.truncate(ran.log.len().saturating_sub(2))),
+    ("recover", "a store in part is not made again", |ran| with_second_store(ran, |log, at| drop(log.remove(at)))),
+    ("recover", "a store in part is made durable", |ran| {
+        with_second_store(ran, |log, at| log.insert(at, "fdatasync card.img 0".to_string()))
+    }),
+    ("recover", "half a store is left", |ran| with_second_store(ran, |log, at| log.truncate(at))),
     ("recover", "another byte is changed", |ran| change(&mut ran.file)),
     ("recover", "another store is listed", |ran| ran.out = ran.out.replacen("  72  ", "  64  ", 1)),
+    ("recover", "an entry's bytes run together", |ran| ran.out = ran.out.replace("0000 0000", "00000000")),
+    ("recover", "an empty list is not told", |ran| ran.out = ran.out.replace("  none\n", "")),
     ("recover", "stores are miscounted", |ran| ran.out = ran.out.replacen(" stores made", "0 stores made", 1)),
     ("recover", "a cut is not told", |ran| ran.out = ran.out.replace("made: cut", "made: done")),
     ("recover", "a refused card is written to", |ran| {
         push_if(ran, "refused with", "pwrite card.img 72 0000000000000000 8")
     }),
-    ("recover", "another refusal is told", |ran| ran.err = ran.err.replace("refused with 4", "refused with 5")),
-    ("recover", "stores after a failure", |ran| {
-        push_if(ran, "Input/output", "pwrite card.img 72 0000000000000000 8")
+    ("recover", "a file too long is written to", |ran| {
+        push_if(ran, "longer than the largest", "pwrite card.img 72 0000000000000000 8")
     }),
-    ("recover", "a failure is not told", |ran| ran.err = ran.err.replace("card.img: Input/output error\n", "")),
+    ("recover", "another refusal is told", |ran| ran.err = ran.err.replace("refused with 4", "refused with 5")),
+    ("recover", "a refusal has no name", |ran| ran.err = ran.err.replace("card.img: refused", "refused")),
+    ("recover", "stores after a failure", |ran| push_if(ran, NOT_WRITTEN, "pwrite card.img 72 0000000000000000 8")),
+    ("recover", "a failure is not told", |ran| ran.err = ran.err.replace(NOT_WRITTEN, "")),
+    ("recover", "a failure is told by its number", |ran| {
+        ran.err = ran.err.replace(NOT_WRITTEN, "card.img: Input/output error\n")
+    }),
+    ("recover", "a failure is called a cut", |ran| ran.out = ran.out.replace("made: failed", "made: cut")),
     ("show", "another number is shown", |ran| ran.out = ran.out.replace("version         1", "version         2")),
     ("show", "a shown card is changed", |ran| change(&mut ran.file)),
+    ("show", "columns of a damaged card touch", |ran| {
+        if ran.out.contains("refused with") {
+            ran.out = ran.out.replace("     FRESH", "FRESH")
+        }
+    }),
+    ("show", "dashes are left out", |ran| ran.out = ran.out.replace("         -         -\n", "\n")),
+    ("show", "a file too long is measured", |ran| ran.out = ran.out.replace(": more than 528,512", ": 528,513")),
+    ("show", "a file too long is not told", |ran| clear_if(&mut ran.err, "longer than the largest")),
+    ("show", "the length asked for is not told", |ran| clear_if(&mut ran.err, "its header asks for")),
     ("block", "other bytes are listed", |ran| ran.out = with_second_line_as_first(&ran.out)),
     ("block", "another holder is named", |ran| ran.out = ran.out.replacen("by the disk", "by the card", 1)),
+    ("block", "the disk's refusal has the card's name", |ran| {
+        ran.err = ran.err.replace("disk.img: refused", "card.img: refused")
+    }),
+    ("block", "a file too long is refused", |ran| {
+        ran.err = ran.err.replace("longer than the largest card, which has", "refused with 2: longer than")
+    }),
     ("format", "a new card is another one", |ran| change(&mut ran.file)),
     ("format", "a new card is not durable", |ran| drop(ran.log.pop())),
     ("format", "a broken file is left", |ran| ran.file = ran.file.take().or(Some(Vec::new()))),
+    ("format", "a refusal has no name", |ran| ran.err = ran.err.replace("card.img: refused", "refused")),
 ];
+
+/// Changes the log at the second of two stores that follow each other, as where the first went in part.
+fn with_second_store(ran: &mut Ran, change: fn(&mut Vec<String>, usize)) {
+    let is_store = |line: &String| line.starts_with("pwrite");
+    if let Some(at) = ran.log.windows(2).position(|pair| pair.iter().all(is_store)) {
+        change(&mut ran.log, at + 1);
+    }
+}
+
+fn clear_if(text: &mut String, said: &str) {
+    if text.contains(said) {
+        text.clear();
+    }
+}
 
 fn change(file: &mut Option<Vec<u8>>) {
     file.iter_mut().flatten().take(1).for_each(|byte| *byte ^= 1);
@@ -554,5 +625,17 @@ mod tests {
         for wrong in [None, Some(vec![1]), Some(vec![1, 2, 0]), Some(vec![1, 3])] {
             assert!(same_file(&wrong, &[1, 2]).is_err());
         }
+    }
+
+    /// Half of a unit is left only where it was not made again whole.
+    #[test]
+    fn a_stop_leaves_its_bytes() {
+        let list = [Store::Entry(0, [1; 16]), Store::Word(16, [2; 8])];
+        let (whole, half) = ([vec![1; 16], vec![2; 8]].concat(), [vec![1; 8], vec![0; 16]].concat());
+        assert_eq!(left_by(&[0; 24], &list, Stop::Short(1)), whole);
+        assert_eq!(left_by(&[0; 24], &list, Stop::ShortTwice(1)), half);
+        assert_eq!(left_by(&[0; 24], &list, Stop::ShortFailed(1)), half);
+        assert_eq!(left_by(&[0; 24], &list, Stop::FailedStore(1)), [0; 24]);
+        assert_eq!(left_by(&[0; 24], &list, Stop::FailedSync(2)), whole);
     }
 }
