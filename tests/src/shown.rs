@@ -10,7 +10,7 @@ use crate::{Calls, State};
 pub const SMALLEST: usize = 2304;
 pub const LARGEST: usize = 528_512;
 /// What is told on standard error of a store that was not written or not made durable.
-pub const NOT_WRITTEN: &str = "card.img: a store could not be written; see that the file can be, and recover again\n";
+pub const NOT_WRITTEN: &str = "card.img: a store could not be written and made durable, and half of it may be in the file: recover a copy made before\n";
 const WINDOW: &str = "slot number";
 const ENTRIES: &str = "place bytes flags number previous current undoable settled";
 const STORES: &str = "store byte bytes what";

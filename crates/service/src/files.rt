@@ -101,14 +101,25 @@ fn held(b: u64, by: &[u8], at: usize) {
     say(STDOUT_FILENO, b" on\n");
 }
 
+// Why a block could not be read: an error, or the file has become shorter.
+fn unread(path: &[u8], got: isize) {
+    if got < 0 {
+        os::fail(path);
+    } else {
+        err(path);
+        err(b": ended before the block did\n");
+    }
+}
+
 // A block of the disk, read from its file.
 fn from_disk(path: &[u8], fd: i32, b: u64, at: usize, size: usize)
     requires { ⌜ (size ≤ 4096) × (at < 268435456) ⌝ }
 {
     let mut room = io::buffer();
     let bytes = &mut room[..size];
-    if libc::pread(fd, bytes, at as i64) != size as isize {
-        os::fail(path);
+    let got = libc::pread(fd, bytes, at as i64);
+    if got != size as isize {
+        unread(path, got);
         return;
     }
     held(b, b"disk", at);
@@ -183,7 +194,9 @@ pub fn block(path: &[u8], disk: &[u8], b: u64) {
 fn told(path: &[u8], r: Repair) {
     if r.failed {
         err(path);
-        err(b": a store could not be written; see that the file can be, and recover again\n");
+        err(
+            b": a store could not be written and made durable, and half of it may be in the file: recover a copy made before\n",
+        );
     }
     count(STDOUT_FILENO, r.made, 0);
     say(STDOUT_FILENO, b" of ");
@@ -194,6 +207,15 @@ fn told(path: &[u8], r: Repair) {
         say(STDOUT_FILENO, b" stores made: cut\n");
     } else {
         say(STDOUT_FILENO, b" stores made: done\n");
+    }
+}
+
+// The condition of the card as the file now has it, if it can be read whole.
+fn read_back(path: &[u8], fd: i32, card: &mut [u8]) {
+    libc::lseek(fd, 0, libc::SEEK_SET);
+    let got = load(path, fd, card);
+    if (got.count == card.len()) & !got.failed {
+        report::condition(card);
     }
 }
 
@@ -208,9 +230,7 @@ fn repair(path: &[u8], fd: i32, card: &mut [u8], allowance: u64) {
     listing::stores(s.geometry, card, s.window);
     let r = image::recover(fd, card, allowance);
     told(path, r);
-    libc::lseek(fd, 0, libc::SEEK_SET);
-    load(path, fd, card);
-    report::condition(card);
+    read_back(path, fd, card);
 }
 
 pub fn recover(path: &[u8], allowance: u64) {
