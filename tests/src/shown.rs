@@ -10,7 +10,10 @@ use crate::{Calls, State};
 pub const SMALLEST: usize = 2304;
 pub const LARGEST: usize = 528_512;
 /// What is told on standard error of a store that was not written or not made durable.
-pub const NOT_WRITTEN: &str = "card.img: a store could not be written and made durable, and half of it may be in the file: recover a copy made before\n";
+pub const NOT_WRITTEN: &str = "card.img: a store could not be written and made durable, \
+    and half of it may be in the file: recover a copy made before\n";
+/// The title of the table of entries, which explains its flags.
+const ENTRIES_TITLE: &str = "entries: V in use, M modified, R log role";
 const WINDOW: &str = "slot number";
 const ENTRIES: &str = "place bytes flags number previous current undoable settled";
 const STORES: &str = "store byte bytes what";
@@ -153,7 +156,7 @@ fn part(parts: &[Vec<&str>], title: &str, columns: &str, nothing: &str) -> Resul
 pub fn parse_shown(text: &str) -> Result<Shown, String> {
     let parts: Vec<Vec<&str>> = text.trim_end().split("\n\n").map(|part| part.lines().collect()).collect();
     let titles: Vec<&str> = parts.iter().map(|lines| lines.first().copied().unwrap_or("")).collect();
-    let known = ["header", "window", "entries", "free data blocks"];
+    let known = ["header", "window", ENTRIES_TITLE, "free data blocks"];
     let inner = titles.get(1..titles.len().saturating_sub(1)).unwrap_or(&[]);
     let in_order = known.iter().filter(|title| inner.contains(title)).eq(inner.iter());
     if inner.first() != Some(&"header") || !in_order || parts[0].len() != 1 || parts[parts.len() - 1].len() != 1 {
@@ -163,7 +166,7 @@ pub fn parse_shown(text: &str) -> Result<Shown, String> {
         title: titles[0].to_string(),
         header: part(&parts, "header", "", "")?.unwrap_or_default(),
         window: part(&parts, "window", WINDOW, "  empty")?,
-        entries: part(&parts, "entries", ENTRIES, "  none in use")?,
+        entries: part(&parts, ENTRIES_TITLE, ENTRIES, "  none in use")?,
         free: part(&parts, "free data blocks", "", "  none")?.map(|rows| rows.concat()),
         verdict: verdict(titles[titles.len() - 1])?,
     })
@@ -424,7 +427,7 @@ window
   slot  number
      1       5
 
-entries
+entries: V in use, M modified, R log role
   place  bytes                               flags  number  previous  current  undoable   settled
       0  8300000000000003 00000000 00000002  V M R       3         0        2       yes         0
       1  8300000000000005 FFFFFFFF 00000001  V M R       5     FRESH        1       yes      none
@@ -459,7 +462,7 @@ condition  unsettled, undoable entries 2, slots in the window 1
             (" R  ", " -  "),
             ("  0   3\n", " none\n"),
             ("undoable ", "settled  "),
-            ("window\n", "entries\n"),
+            ("window\n", "entries: V in use, M modified, R log role\n"),
         ];
         for (right, other) in changes {
             assert!(SHOWN.contains(right));
