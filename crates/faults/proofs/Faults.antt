@@ -21,6 +21,7 @@ use Rattle.protocol.specs.Recover.{recoverRefusal}
 use Rattle.protocol.proofs.Below.{absurd-bool, either, below-or-above, same-or-other, and-right, all-at, all-of}
 use Rattle.protocol.proofs.Below.{first-none, first-found, first-missed}
 use Rattle.protocol.proofs.Checks.{orElse-first, orElse-next}
+use Rattle.survey.proofs.Laws.{pick-true, pick-false}
 use Rattle.faults.specs.declared.Fault.{Fault}
 use Rattle.faults.specs.declared.Fault.the-variants.{Sound, Short, HeaderLength, Version, K, Slots, Blocks, Disk, Reserved}
 use Rattle.faults.specs.declared.Fault.the-variants.{Length, Head, Tail, Flags, NotZero, Number, Current, Previous}
@@ -28,14 +29,6 @@ use Rattle.faults.specs.declared.Fault.the-variants.{SameNumber, SameCur
 use Rattle.faults.specs.Fault.{refusalOf, _orNext_, fails, geometryFault, headerFault, lengthFault, firstMisfit, windowFault}
 use Rattle.faults.specs.Fault.{ringFault, goodPrevious, entryFaultOf, firstBad, entryFault, sameSettled, pairFaultOf}
 use Rattle.faults.specs.Fault.{firstAlike, firstPaired, pairFault, damageFault, fitFault, faultOf}
-
--- ---- a choice by a test
-
-pub pick-true : {A : Type 0} (b : Bool) (x y : A) → b ≡ true → x ≡ cond b x y
-pick-true b x y e = rw e
-
-pub pick-false : {A : Type 0} (b : Bool) (x y : A) → b ≡ false → y ≡ cond b x y
-pick-false b x y e = rw e
 
 -- ---- faults in order
 

@@ -31,7 +31,8 @@ use Rattle.faults.specs.declared.Fault.the-variants.{Current, Previous, 
 use Rattle.faults.specs.Fault.{refusalOf, _orNext_, fails, geometryFault, headerFault, lengthFault, firstMisfit, windowFault}
 use Rattle.faults.specs.Fault.{ringFault, goodPrevious, entryFaultOf, firstBad, entryFault, sameSettled, pairFaultOf}
 use Rattle.faults.specs.Fault.{firstAlike, firstPaired, pairFault, damageFault, fitFault, faultOf}
-use Rattle.faults.proofs.Faults.{pick-true, pick-false, next-first, next-on, all-first}
+use Rattle.survey.proofs.Laws.{pick-true, pick-false}
+use Rattle.faults.proofs.Faults.{next-first, next-on, all-first}
 use Rattle.faults.proofs.Faults.{geometry-refusal, header-refusal, fit-refusal, ring-refusal, entry-refusal}
 
 -- ---- one test of a chain: z is what the chain comes to

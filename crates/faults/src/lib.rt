@@ -4,10 +4,8 @@ use protocol::FRESH;
 use protocol::Geometry;
 use ring::Window;
 ghost use mathlib.Core.Path.{_≡_};
-ghost use mathlib.Core.Bool.{cond};
 ghost use Prim.Native.Nat.{_<_};
 ghost use lib.Dec.{ltb};
-ghost use Rattle.protocol.specs.Entry.{isUnused};
 ghost use Rattle.protocol.specs.Ring.{settledBlock};
 ghost use Rattle.protocol.specs.Check.{apart};
 ghost use Rattle.ring.specs.Fitted.{Fitted, Placed, WindowOf};
@@ -131,17 +129,11 @@ fn good_previous(n: u64, p: u32) -> bool
     below(p, n) | (p == FRESH)
 }
 
-fn is_unused(e: Entry) -> bool
-    ensures { λ r. ⌜ r ≡ isUnused e ⌝ }
-{
-    (e.flags == 0) & ((e.number == 0) & ((e.previous == 0) & (e.current == 0)))
-}
-
 // 5: the first wrong field of the entry e at place i.
 fn entry_fault_of(n: u64, d: u64, i: u64, e: Entry) -> Fault
     ensures { λ r. ⌜ r ≡ entryFaultOf n d i e ⌝ }
 {
-    if is_unused(e) {
+    if survey::is_unused(e) {
         return Fault::Sound;
     }
     if e.flags == 0 {
@@ -179,20 +171,13 @@ fn entry_fault(g: Geometry, card: &[u8]) -> Fault
     Fault::Sound
 }
 
-// The settled block of an entry in use.
-fn settled(undoable: bool, e: Entry) -> u32
-    ensures { λ r. ⌜ r ≡ cond undoable (e .previous) (e .current) ⌝ }
-{
-    if undoable { e.previous } else { e.current }
-}
-
 // The settled block of entry i.
 fn settled_block(g: Geometry, card: &[u8], w: Window, i: usize) -> u32
     requires { ⌜ Fitted g (now card) × WindowOf g (now card) w × (i < g .blocks) ⌝ }
     ensures { λ r. ⌜ r ≡ settledBlock g (now (card .entry)) i ⌝ }
 {
     let e = checks::entry_of(g, card, i);
-    settled(checks::undoable(g, card, w, e), e)
+    survey::settled(checks::undoable(g, card, w, e), e)
 }
 
 // 6: whether entries i and j have equal settled blocks.

@@ -8,6 +8,7 @@ use borrow.Author.Tests.{ne-eqb, eq-eqb}
 use Rattle.protocol.specs.declared.Geometry.{Geometry}
 use Rattle.protocol.specs.Store.{card, flat, storesOf}
 use Rattle.protocol.specs.Recover.{recoverRuns, recoverRefusal, recoverWork}
+use Rattle.protocol.proofs.Below.{absurd-bool}
 use Rattle.stores.proofs.Laws.{refused-after, made-after}
 use Rattle.recovery.specs.declared.Checked.{Checked}
 use Rattle.recovery.specs.Step.{Examined}
@@ -26,6 +27,7 @@ module _ (a : ℕ) (c : List ℕ) (s : Checked) (x : Examined c s) where
         within = omega arith;
         listed = omega arith;
         whole = λ e. omega arith;
+        short = λ e. absurd-bool e refl;
       }
 
   pub repaired-walked : s .refusal ≡ 0 → (d : List ℕ) (w : Walk) → Walked (flat (recoverRuns (s .geometry) c)) a c d w
@@ -41,4 +43,5 @@ module _ (a : ℕ) (c : List ℕ) (s : Checked) (x : Examined c s) where
         within = y .within;
         listed = y .listed;
         whole = y .whole;
+        short = y .short;
       }

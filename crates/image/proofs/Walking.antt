@@ -15,7 +15,7 @@ use mir.Val.{Fits}
 use Rattle.io.specs.Counts.{Counts}
 use Rattle.protocol.specs.declared.Geometry.{Geometry}
 use Rattle.protocol.specs.Below.{eachBelow}
-use Rattle.protocol.specs.Store.{card, Store, Run, madeOn, flat}
+use Rattle.protocol.specs.Store.{card, Store, madeOn, flat}
 use Rattle.protocol.proofs.Below.{absurd-bool, or-true, or-false}
 use Rattle.protocol.proofs.Stores.{made-append}
 use Rattle.stores.proofs.Laws.{did-length, flat-each}
@@ -26,7 +26,7 @@ use Rattle.recovery.specs.declared.Progress.{Progress}
 use Rattle.recovery.specs.declared.Step.{Step}
 use Rattle.recovery.specs.Step.{runsAt, stepStores, Listed}
 use Rattle.recovery.specs.Went.{Went}
-use Rattle.recovery.proofs.Turns.{fitted-stays, window-stays, step-stays, list-whole}
+use Rattle.recovery.proofs.Turns.{fitted-stays, window-stays, step-stays, list-ends}
 use Rattle.protocol.specs.Recover.{recoverRuns}
 use Rattle.image.specs.declared.Walk.{Walk}
 use Rattle.image.specs.Walked.{Walked}
@@ -60,15 +60,25 @@ module _ (ss ts : List Store) (a : ℕ) (c d : List ℕ) (so : Walk) (x : Walked
         within = x .within;
         listed = omega (arith, x .listed);
         whole = λ z. go z (or-true (so .failed) (leb a (so .made)) h);
+        short = λ z. omega (arith, x .short z);
       }
     where
       go : so .failed ≡ false → (so .failed ≡ true) ⊎ (leb a (so .made) ≡ true) → so .made ≡ min a (so .count + 1)
       go z (inl f) = absurd-bool f z
       go z (inr k) = omega (arith, leb-true a (so .made) k, x .within, x .listed)
 
-  pub walk-failed : length ts ≡ 1 → Walked (ss ++ ts) a c d (record { count = so .count + 1; made = so .made; failed = true })
-  walk-failed l =
-      record { counted = longer l; made-is = same-made; within = x .within; listed = omega (arith, x .listed); whole = λ z. absurd-bool refl z }
+  pub walk-failed : length ts ≡ 1 → so .failed || leb a (so .made) ≡ false
+      → Walked (ss ++ ts) a c d (record { count = so .count + 1; made = so .made; failed = true })
+  walk-failed l h =
+      let below = leb-false a (so .made) (or-false (so .failed) (leb a (so .made)) h .1) in
+      record {
+        counted = longer l;
+        made-is = same-made;
+        within = x .within;
+        listed = omega (arith, x .listed);
+        whole = λ z. absurd-bool refl z;
+        short = λ z. omega (arith, below, x .listed);
+      }
 
   pub walk-made : length ts ≡ 1 → so .failed || leb a (so .made) ≡ false → (z : List ℕ) (p : Progress) → Went ts 1 d z p
       → Walked (ss ++ ts) a c z (record { count = so .count + 1; made = so .made + 1; failed = false })
@@ -87,13 +97,14 @@ module _ (ss ts : List Store) (a : ℕ) (c d : List ℕ) (so : Walk) (x : Walked
         within = omega (arith, below);
         listed = omega (arith, x .listed);
         whole = λ e. omega (arith, below, full, x .counted);
+        short = λ e. absurd-bool e refl;
       }
 
 -- ---- the list
 
 pub walked-first : (g : Geometry) (c : List ℕ) (a : ℕ) → Walked (flat (eachBelow (runsAt g c) 0)) a c c (record { count = 0; made = 0; failed = false })
 unfolding eachBelow flat madeOn
-walked-first g c a = record { counted = refl; made-is = refl; within = omega arith; listed = omega arith; whole = λ e. omega arith }
+walked-first g c a = record { counted = refl; made-is = refl; within = omega arith; listed = omega arith; whole = λ e. omega arith; short = λ e. absurd-bool e refl }
 
 -- what has come so far, as recovery's own loop has it under an allowance of the stores made
 pub walked-went : (ss : List Store) (a : ℕ) (c d : List ℕ) (so : Walk) → Walked ss a c d so
@@ -119,17 +130,12 @@ module _ (g : Geometry) (c₀ : List ℕ) (i a : ℕ) (c : List ℕ) (so : Walk)
 
 pub walked-last : (g : Geometry) (c : List ℕ) (a : ℕ) (d : List ℕ) (so : Walk) (i n : ℕ) → n < i → i ≤ n + 1 → n ≡ g .blocks
     → Walked (flat (eachBelow (runsAt g c) i)) a c d so → Walked (flat (recoverRuns g c)) a c d so
-walked-last g c a d so i n h k e x =
-    let q : i ≡ g .blocks + 1 = omega arith in
-    subst (λ (rs : List Run). Walked (flat rs) a c d so) (ap (eachBelow (runsAt g c)) q ∙ list-whole g c) x
+walked-last g c a d so i n h k e x = list-ends g c i n h k e (λ (ss : List Store). Walked ss a c d so) x
 
 pub walked-length : (ss : List Store) (a : ℕ) (c d : List ℕ) (so : Walk) → Walked ss a c d so → length d ≡ length c
 walked-length ss a c d so x = did-length (walked-went ss a c d so x .did)
 
 -- ---- small numbers
-
-pub count-fits : (g : Geometry) (c : List ℕ) (at n : ℕ) → Fitted g c → n ≤ at → at ≤ g .blocks → Fits w64 (n + 1)
-count-fits g c at n f h k = omega (arith, fitted-blocks g c f)
 
 pub made-fits : (g : Geometry) (c : List ℕ) (at n m : ℕ) → Fitted g c → m ≤ n → n ≤ at → at ≤ g .blocks → Fits w64 (m + 1)
 made-fits g c at n m f l h k = omega (arith, fitted-blocks g c f)

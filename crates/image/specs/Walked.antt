@@ -1,7 +1,7 @@
 -- What stores that may fail at any one have come to. Whether a write to a file fails is not ours to say; what holds either way stands here.
-use Prim.Native.Nat.{ℕ, _≤_, min}
+use Prim.Native.Nat.{ℕ, _≤_, _<_, min}
 use mathlib.Core.List.{List}
-use mathlib.Core.Bool.{false, cond}
+use mathlib.Core.Bool.{true, false, cond}
 use mathlib.Core.Path.{_≡_}
 use lib.ListN.{length, take}
 use lib.Dec.{eqb}
@@ -10,16 +10,17 @@ use Rattle.protocol.specs.Recover.{recoverRefusal, recoverWork}
 use Rattle.image.specs.declared.Walk.{Walk}
 use Rattle.image.specs.declared.Repair.{Repair}
 
--- of the stores ss the first ones are made, d after them and c before: all that the allowance a lets happen, or fewer where a write failed
+-- of the stores ss the first ones are made, d after them and c before: all that the allowance a lets happen, or where a write failed fewer
 pub record Walked (ss : List Store) (a : ℕ) (c d : List ℕ) (r : Walk) : Type 0 where
   pub counted : r .count ≡ length ss
   pub made-is : d ≡ madeOn card (take (r .made) ss) c
   pub within : r .made ≤ a
   pub listed : r .made ≤ r .count
   pub whole : r .failed ≡ false → r .made ≡ min a (r .count)
+  pub short : r .failed ≡ true → r .made < min a (r .count)
 
--- recovery of a file's card: refused, or its list's first stores are made, as many as are said; without a failure these are all that the
--- allowance lets happen
+-- recovery of a file's card: refused, or its list's first stores are made, as many as are said; these are all that the allowance lets
+-- happen, or where a failure is said fewer
 pub record Repaired (a : ℕ) (c d : List ℕ) (r : Repair) : Type 0 where
   pub refusal-is : r .refusal ≡ recoverRefusal c
   pub count-is : r .count ≡ cond (eqb (recoverRefusal c) 0) (storesOf (recoverWork c)) 0
@@ -27,3 +28,4 @@ pub record Repaired (a : ℕ) (c d : List ℕ) (r : Repair) : Type 0 where
   pub within : r .made ≤ a
   pub listed : r .made ≤ r .count
   pub whole : r .failed ≡ false → r .made ≡ min a (r .count)
+  pub short : r .failed ≡ true → r .made < min a (r .count)

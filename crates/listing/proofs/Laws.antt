@@ -5,21 +5,17 @@ use mathlib.Core.Path.{_≡_, refl, sym, ap, _∙_}
 use native.Mathlib.Omega.{arith}
 use lib.ListN.{length}
 use lib.Seq.{take-all}
-use mir.Syntax.{w64}
-use mir.Val.{Fits}
 use Rattle.numbers.specs.Bytes.{part, patch}
 use Rattle.numbers.proofs.Laws.{length-part, length-patch, part-patch-same}
 use Rattle.protocol.specs.declared.Geometry.{Geometry}
 use Rattle.protocol.specs.Below.{eachBelow}
-use Rattle.protocol.specs.Store.{flat}
+use Rattle.protocol.specs.Store.{Store, flat}
 use Rattle.protocol.specs.Recover.{recoverRuns}
-use Rattle.ring.specs.Fitted.{Fitted}
-use Rattle.ring.proofs.Laws.{fitted-blocks}
 use Rattle.stores.proofs.Laws.{length-each}
 use Rattle.recovery.specs.declared.Spelled.{Spelled}
 use Rattle.recovery.specs.declared.Step.{Step}
 use Rattle.recovery.specs.Step.{runsAt, stepStores, spelledStores, Listed}
-use Rattle.recovery.proofs.Turns.{list-whole}
+use Rattle.recovery.proofs.Turns.{list-ends}
 use Rattle.recovery.proofs.Spelling.{no-store, one-store}
 
 pub copied-whole : (xs bs out : List ℕ) (at : ℕ) → length xs ≡ 16 → at + 16 ≤ length bs → out ≡ patch xs 0 (part bs at 16) → out ≡ part bs at 16
@@ -47,9 +43,4 @@ module _ (g : Geometry) (c : List ℕ) (i count : ℕ) (x : count ≡ length (fl
 
 pub lines-last : (g : Geometry) (c : List ℕ) (count i n : ℕ) → n < i → i ≤ n + 1 → n ≡ g .blocks
     → count ≡ length (flat (eachBelow (runsAt g c) i)) → count ≡ length (flat (recoverRuns g c))
-lines-last g c count i n h k e x =
-    let q : i ≡ g .blocks + 1 = omega arith in
-    x ∙ ap (λ (j : ℕ). length (flat (eachBelow (runsAt g c) j))) q ∙ ap (λ rs. length (flat rs)) (list-whole g c)
-
-pub lines-fit : (g : Geometry) (c : List ℕ) (at count : ℕ) → Fitted g c → count ≤ at → at ≤ g .blocks → Fits w64 (count + 1)
-lines-fit g c at count f h k = omega (arith, fitted-blocks g c f)
+lines-last g c count i n h k e x = list-ends g c i n h k e (λ (ss : List Store). count ≡ length ss) x

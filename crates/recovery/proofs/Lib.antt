@@ -1,4 +1,4 @@
--- When a store is left out, and how recovery's turns come together.
+-- When a store is left out, how recovery's steps come together, and a step as bytes.
 pub mod Passed
 pub mod Skipped
 pub mod Spelling

@@ -9,25 +9,21 @@ use borrow.Author.Tests.{ne-eqb}
 use mir.Syntax.{w32}
 use mir.Val.{Fits}
 use Rattle.numbers.specs.Bytes.{bytesBE, part, patch}
-use Rattle.numbers.proofs.Laws.{length-bytes, part-patch-same}
+use Rattle.numbers.proofs.Laws.{part-patch-same}
 use Rattle.protocol.specs.declared.Entry.{Entry}
 use Rattle.protocol.specs.declared.Geometry.{Geometry}
 use Rattle.protocol.specs.Layout.{goodGeometry, entryPlace}
 use Rattle.protocol.specs.Entry.{entryBytes}
 use Rattle.protocol.specs.Store.{Store, card, entryStore, tailStore, wordStore}
 use Rattle.protocol.proofs.Checks.{Limits, limits}
-use Rattle.protocol.proofs.Codec.{length-entry}
 use Rattle.recovery.specs.declared.Spelled.{Spelled}
 use Rattle.recovery.specs.declared.Step.{Step}
 use Rattle.recovery.specs.declared.Step.the-variants.{Nothing, Undo, Tail}
 use Rattle.recovery.specs.Step.{stepStores, undoes, spelledStores}
 use Rattle.recovery.proofs.Turns.{undo-fits}
 
-pub entry-spelled : (e : Entry) (xs bs : List ℕ) → length xs ≡ 16 → bs ≡ patch xs 0 (entryBytes e) → part bs 0 16 ≡ entryBytes e
-entry-spelled e xs bs l q = ap (λ (z : List ℕ). part z 0 16) q ∙ part-patch-same xs 0 (entryBytes e) 16 (length-entry e) (omega arith)
-
-pub word-spelled : (v : ℕ) (xs bs : List ℕ) → length xs ≡ 16 → bs ≡ patch xs 0 (bytesBE 8 v) → part bs 0 8 ≡ bytesBE 8 v
-word-spelled v xs bs l q = ap (λ (z : List ℕ). part z 0 8) q ∙ part-patch-same xs 0 (bytesBE 8 v) 8 (length-bytes 8 v) (omega arith)
+pub front-spelled : (n : ℕ) (xs out bs : List ℕ) → length xs ≡ 16 → length bs ≡ n → n ≤ 16 → out ≡ patch xs 0 bs → part out 0 n ≡ bs
+front-spelled n xs out bs l k h q = ap (λ (z : List ℕ). part z 0 n) q ∙ part-patch-same xs 0 bs n k (omega arith)
 
 module _ (g : Geometry) (i : ℕ) (u : Step) (bs : List ℕ) where
   pub spelled-nothing : u ≡ Nothing → spelledStores (record { place = 0; size = 0; bytes = bs }) ≡ stepStores g i u

@@ -1,5 +1,5 @@
--- Recovery's turns: what each way through a turn has done, that the turns before it have left the window and the later entries as they
--- stood, and how the turns and Tail's store come together. By the stores of the first i turns being confined to the first i entries.
+-- Recovery's list, place by place: what each way through a step answers and does, that the steps before it have left the window and the later
+-- entries as they stood, and how the steps come together. By the stores of the first i places being confined to the first i entries.
 -- Assumes nothing.
 use Prim.Native.Nat.{ℕ, zero, suc, _+_, _*_, _≤_, _<_}
 use mathlib.Core.List.{List, [], _∷_, _++_}
@@ -298,11 +298,16 @@ list-whole g c =
     (ap (λ (rs : List Run). rs ++ runsAt g c (g .blocks)) (entries-below g c (g .blocks) (omega arith))
     ∙ ap (λ (rs : List Run). eachBelow (undoRuns g c) (g .blocks) ++ rs) (at-tail g c (g .blocks) (omega arith)))
 
+-- what holds of the stores of all places holds of recovery's list
+pub list-ends : (g : Geometry) (c : List ℕ) (i n : ℕ) → n < i → i ≤ n + 1 → n ≡ g .blocks → (P : List Store → Type 0)
+    → P (flat (eachBelow (runsAt g c) i)) → P (flat (recoverRuns g c))
+list-ends g c i n h k e P x =
+    let q : i ≡ g .blocks + 1 = omega arith in
+    subst (λ (rs : List Run). P (flat rs)) (ap (eachBelow (runsAt g c)) q ∙ list-whole g c) x
+
 pub turn-last : (g : Geometry) (c : List ℕ) (a : ℕ) (d : List ℕ) (p : Progress) (i n : ℕ) → n < i → i ≤ n + 1 → n ≡ g .blocks
     → Went (flat (eachBelow (runsAt g c) i)) a c d p → Went (flat (recoverRuns g c)) a c d p
-turn-last g c a d p i n h k e x =
-    let q : i ≡ g .blocks + 1 = omega arith in
-    subst (λ (rs : List Run). Went (flat rs) a c d p) (ap (eachBelow (runsAt g c)) q ∙ list-whole g c) x
+turn-last g c a d p i n h k e x = list-ends g c i n h k e (λ (ss : List Store). Went ss a c d p) x
 
 pub tail-place-fits : (g : Geometry) (c : List ℕ) → Fitted g c → 72 + 8 ≤ length c
 tail-place-fits g c f = omega (arith, fitted-long g c f)
@@ -310,6 +315,9 @@ tail-place-fits g c f = omega (arith, fitted-long g c f)
 -- the place and the count stay small
 pub place-fits : (g : Geometry) (c : List ℕ) (i n : ℕ) → Fitted g c → n ≡ g .blocks → i ≤ n → Fits w64 (i + 1)
 place-fits g c i n f e l = omega (arith, fitted-blocks g c f)
+
+pub step-fits : (g : Geometry) (c : List ℕ) (at n : ℕ) → Fitted g c → n ≤ at → at ≤ g .blocks → Fits w64 (n + 1)
+step-fits g c at n f h k = omega (arith, fitted-blocks g c f)
 
 pub count-fits : (g : Geometry) (c : List ℕ) (i n m k : ℕ) → Fitted g c → n ≡ g .blocks → i ≤ n → m ≤ i → k ≤ 1 → Fits w64 (m + k)
 count-fits g c i n m k f e l h z = omega (arith, fitted-blocks g c f)

@@ -17,7 +17,7 @@ fn usage() {
     );
 }
 
-// Whether the command has as many words behind it as it takes, and did its work.
+// Whether the command has as many arguments as it takes and they can be read; it then does its work.
 fn run(word: Word, count: usize) -> bool {
     match word {
         Word::Show => (count == 3) && words::show(),

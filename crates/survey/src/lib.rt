@@ -86,14 +86,15 @@ pub fn slot_of(card: &[u8], j: u64) -> Slot
     Slot::At(place, ring::window_number(g, card, w, j))
 }
 
-fn is_unused(e: Entry) -> bool
+// Whether all four fields are zero.
+pub fn is_unused(e: Entry) -> bool
     ensures { λ r. ⌜ r ≡ isUnused e ⌝ }
 {
     (e.flags == 0) & ((e.number == 0) & ((e.previous == 0) & (e.current == 0)))
 }
 
 // The settled block of an entry in use.
-fn settled(undoable: bool, e: Entry) -> u32
+pub fn settled(undoable: bool, e: Entry) -> u32
     ensures { λ r. ⌜ r ≡ cond undoable (e .previous) (e .current) ⌝ }
 {
     if undoable { e.previous } else { e.current }

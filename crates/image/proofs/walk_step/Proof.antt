@@ -1,7 +1,8 @@
 -- `walk_step` takes what has come so far one step further: one law for each way through it.
 use borrow.Author.Needs.{needs}
+use Rattle.recovery.proofs.Turns.{step-fits}
 use Rattle.recovery.proofs.Spelling.{no-store, one-store}
-use Rattle.image.proofs.Walking.{sixteen-counts, walk-nothing, walk-left, walk-failed, walk-made, count-fits, made-fits}
+use Rattle.image.proofs.Walking.{sixteen-counts, walk-nothing, walk-left, walk-failed, walk-made, made-fits}
 use Rattle.image.proofs.walk_step.Statement.{statement}
 use Rattle.image.proofs.walk_step.Tie as tie
 
@@ -12,7 +13,7 @@ returns : tie.Need-returns
 returns c = (λ ss c₀ x. walk-nothing ss _ _ c₀ _ _ x (no-store _ _ (c .before .spell .ensures .0) (c .if1 .taken)), search needs)
 
 add-count : tie.Need-add-count
-add-count c = search (count-fits, needs)
+add-count c = search (step-fits, needs)
 
 returns-2 : tie.Need-returns-2
 returns-2 c =
@@ -28,7 +29,7 @@ put-requires c κs = let s = c .before .before .before .before .before .before .
 returns-3 : tie.Need-returns-3
 returns-3 c =
     let s = c .before .before .before .before .before .before .before .before in
-    (λ ss c₀ x. walk-failed ss _ _ c₀ _ _ x (one-store _ _ (s .before .spell .ensures .0) (s .if1 .left)), search needs)
+    (λ ss c₀ x. walk-failed ss _ _ c₀ _ _ x (one-store _ _ (s .before .spell .ensures .0) (s .if1 .left)) (c .before .before .before .before .if2 .left), search needs)
 
 make-step-requires : tie.Need-make-step-requires
 make-step-requires c κs = search needs

@@ -6,8 +6,8 @@ use borrow.Author.Needs.{needs}
 use Rattle.protocol.specs.Below.{eachBelow}
 use Rattle.protocol.specs.Store.{flat}
 use Rattle.recovery.specs.Step.{runsAt}
-use Rattle.recovery.proofs.Turns.{place-fits}
-use Rattle.listing.proofs.Laws.{lines-first, lines-skip, lines-more, lines-last, lines-fit}
+use Rattle.recovery.proofs.Turns.{place-fits, step-fits}
+use Rattle.listing.proofs.Laws.{lines-first, lines-skip, lines-more, lines-last}
 use Rattle.listing.proofs.list.lines.Statement.{statement}
 use Rattle.listing.proofs.list.lines.Tie as tie
 
@@ -30,7 +30,7 @@ spell-requires : tie.Need-spell-requires Inv-loop μ-loop
 spell-requires c κs = search needs
 
 add-count : tie.Need-add-count Inv-loop μ-loop
-add-count c = search (lines-fit, needs)
+add-count c = search (step-fits, needs)
 
 line-requires : tie.Need-line-requires Inv-loop μ-loop
 line-requires c κs = search needs
