@@ -29,12 +29,18 @@ pub put-then : (s₀ s₁ s₂ : List ℕ) (at : ℕ) (bs : List ℕ) (to : ℕ)
     → at + length bs ≡ to → s₂ ≡ patch s₀ at (bs ++ cs)
 put-then s₀ s₁ s₂ at bs to cs p q h = q ∙ (λ t. patch (p t) (sym h t) cs) ∙ sym (patch-append s₀ at bs cs)
 
+-- bytes put right before what was put
+pub put-before : (s₀ s₁ s₂ : List ℕ) (at : ℕ) (bs : List ℕ) (to : ℕ) (cs : List ℕ) → s₁ ≡ patch s₀ to cs → s₂ ≡ patch s₁ at bs
+    → at + length bs ≡ to → s₂ ≡ patch s₀ at (bs ++ cs)
+put-before s₀ s₁ s₂ at bs to cs p q h =
+    q
+    ∙ ap (λ (s : List ℕ). patch s at bs) p
+    ∙ sym (patch-comm s₀ at bs to cs (omega arith))
+    ∙ put-then s₀ _ _ at bs to cs refl refl h
+
 -- one byte set before what was put
 set-before : (s : List ℕ) (at b : ℕ) (bs : List ℕ) → set (patch s (at + 1) bs) at b ≡ patch s at (b ∷ bs)
-set-before s at b bs =
-    sym (patch-one (patch s (at + 1) bs) at b)
-    ∙ sym (patch-comm s at (b ∷ []) (at + 1) bs (omega arith))
-    ∙ put-then s _ _ at (b ∷ []) (at + 1) bs refl refl (omega arith)
+set-before s at b bs = sym (patch-one (patch s (at + 1) bs) at b) ∙ put-before s _ _ at (b ∷ []) (at + 1) bs refl refl (omega arith)
 
 -- three numbers, each put behind the one before it, and the flag byte before them
 pub put-fields : (s₀ s₁ s₂ s₃ : List ℕ) (at : ℕ) (e : Entry) → s₁ ≡ patch s₀ (at + 1) (bytesBE 7 (e .number))

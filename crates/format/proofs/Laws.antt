@@ -1,4 +1,4 @@
--- The header's fields put one after the other, the zeros behind them, and format's answer in each case. By the laws of patches side by
+-- The header's fields put one before the other over zeros, and format's answer in each case. By the laws of patches side by
 -- side and by cases on the tests; assumes nothing.
 use Prim.Native.Nat.{ℕ, _+_, _*_, _/_, _%_}
 use mathlib.Core.List.{List, _∷_, _++_, append-assoc}
@@ -14,24 +14,25 @@ use Rattle.protocol.specs.Layout.{goodGeometry, cardLength, headerBytes}
 use Rattle.protocol.specs.Check.{refuse, cardFits}
 use Rattle.protocol.specs.Format.{outcomeOf, formatRefusal, formatted, afterFormat}
 use Rattle.protocol.proofs.Checks.{Limits, limits, refuse-passed, refuse-failed, orElse-first, orElse-next}
-use Rattle.codec.proofs.Laws.{put-then}
+use Rattle.numbers.proofs.Laws.{patch-append, patch-comm, patch-patch}
+use Rattle.codec.proofs.Laws.{put-then, put-before}
 use Rattle.format.specs.Fields.{fieldBytes}
 
--- six numbers, each put behind the one before it
-pub fields-put : (g : Geometry) (s₀ s₁ s₂ s₃ s₄ s₅ s₆ : List ℕ) → s₁ ≡ patch s₀ 0 (bytesBE 4 64)
-    → s₂ ≡ patch s₁ 4 (bytesBE 1 1)
-    → s₃ ≡ patch s₂ 5 (bytesBE 1 (g .k))
-    → s₄ ≡ patch s₃ 6 (bytesBE 2 (g .slots))
-    → s₅ ≡ patch s₄ 8 (bytesBE 4 (g .blocks))
-    → s₆ ≡ patch s₅ 12 (bytesBE 4 (g .disk))
+-- six numbers, each put before the one behind it
+pub fields-put : (g : Geometry) (s₀ s₁ s₂ s₃ s₄ s₅ s₆ : List ℕ) → s₁ ≡ patch s₀ 12 (bytesBE 4 (g .disk))
+    → s₂ ≡ patch s₁ 8 (bytesBE 4 (g .blocks))
+    → s₃ ≡ patch s₂ 6 (bytesBE 2 (g .slots))
+    → s₄ ≡ patch s₃ 5 (bytesBE 1 (g .k))
+    → s₅ ≡ patch s₄ 4 (bytesBE 1 1)
+    → s₆ ≡ patch s₅ 0 (bytesBE 4 64)
     → s₆ ≡ patch s₀ 0 (fieldBytes g)
 unfolding fieldBytes bytesBE
 fields-put g s₀ s₁ s₂ s₃ s₄ s₅ s₆ p₁ p₂ p₃ p₄ p₅ p₆ =
-    let q₂ = put-then s₀ s₁ s₂ 0 (bytesBE 4 64) 4 (bytesBE 1 1) p₁ p₂ refl in
-    let q₃ = put-then s₀ s₂ s₃ 0 _ 5 (bytesBE 1 (g .k)) q₂ p₃ refl in
-    let q₄ = put-then s₀ s₃ s₄ 0 _ 6 (bytesBE 2 (g .slots)) q₃ p₄ refl in
-    let q₅ = put-then s₀ s₄ s₅ 0 _ 8 (bytesBE 4 (g .blocks)) q₄ p₅ refl in
-    put-then s₀ s₅ s₆ 0 _ 12 (bytesBE 4 (g .disk)) q₅ p₆ refl
+    let q₂ = put-before s₀ s₁ s₂ 8 (bytesBE 4 (g .blocks)) 12 (bytesBE 4 (g .disk)) p₁ p₂ refl in
+    let q₃ = put-before s₀ s₂ s₃ 6 (bytesBE 2 (g .slots)) 8 _ q₂ p₃ refl in
+    let q₄ = put-before s₀ s₃ s₄ 5 (bytesBE 1 (g .k)) 6 _ q₃ p₄ refl in
+    let q₅ = put-before s₀ s₄ s₅ 4 (bytesBE 1 1) 5 _ q₄ p₅ refl in
+    put-before s₀ s₅ s₆ 0 (bytesBE 4 64) 4 _ q₅ p₆ refl
 
 -- the header is its fields and zeros: k fits a byte
 header-fields : (g : Geometry) → goodGeometry g ≡ true → fieldBytes g ++ replicate 48 0 ≡ headerBytes g
@@ -47,20 +48,32 @@ length-fields : (g : Geometry) → length (fieldBytes g) ≡ 16
 unfolding fieldBytes bytesBE
 length-fields g = refl
 
-pub laid-out : (g : Geometry) (c s₁ s₂ : List ℕ) → goodGeometry g ≡ true → s₁ ≡ patch c 0 (fieldBytes g)
-    → s₂ ≡ patch s₁ 16 (replicate (112 + 8 * g .slots + 16 * g .blocks) 0)
+-- bytes put over the front of what was put
+put-over : (s₀ s₁ s₂ : List ℕ) (at : ℕ) (bs cs ds : List ℕ) → s₁ ≡ patch s₀ at (bs ++ cs) → s₂ ≡ patch s₁ at ds → length bs ≡ length ds
+    → s₂ ≡ patch s₀ at (ds ++ cs)
+put-over s₀ s₁ s₂ at bs cs ds p q e =
+    q
+    ∙ ap (λ (s : List ℕ). patch s at ds) (p ∙ patch-append s₀ at bs cs)
+    ∙ sym (patch-comm (patch s₀ at bs) at ds (at + length bs) cs (omega arith))
+    ∙ ap (λ (s : List ℕ). patch s (at + length bs) cs) (patch-patch s₀ at bs ds e)
+    ∙ put-then s₀ _ _ at ds (at + length bs) cs refl refl (omega arith)
+
+-- the fields put over zeros
+pub laid-out : (g : Geometry) (c s₁ s₂ : List ℕ) → goodGeometry g ≡ true
+    → s₁ ≡ patch c 0 (replicate (128 + 8 * g .slots + 16 * g .blocks) 0)
+    → s₂ ≡ patch s₁ 0 (fieldBytes g)
     → s₂ ≡ formatted g c
 unfolding formatted
 laid-out g c s₁ s₂ h p q =
     let m : ℕ = 64 + 8 * g .slots + 16 * g .blocks in
-    let rest : List ℕ = replicate m 0 in
-    let count : 112 + 8 * g .slots + 16 * g .blocks ≡ 48 + m = omega arith in
-    let zeros : replicate 48 0 ++ rest ≡ replicate (112 + 8 * g .slots + 16 * g .blocks) 0 =
-    replicate-append-replicate 48 m 0 ∙ ap (λ (n : ℕ). replicate n 0) (sym count) in
-    put-then c s₁ s₂ 0 (fieldBytes g) 16 _ p q (omega (arith, length-fields g))
-    ∙ ap (λ (z : List ℕ). patch c 0 (fieldBytes g ++ z)) (sym zeros)
-    ∙ ap (patch c 0) (sym (append-assoc (fieldBytes g) _ rest))
-    ∙ ap (λ (h : List ℕ). patch c 0 (h ++ rest)) (header-fields g h)
+    let count : 128 + 8 * g .slots + 16 * g .blocks ≡ 16 + (48 + m) = omega arith in
+    let front : List ℕ = replicate 16 0 in
+    let zeros : replicate (128 + 8 * g .slots + 16 * g .blocks) 0 ≡ front ++ replicate (48 + m) 0 =
+    ap (λ (n : ℕ). replicate n 0) count ∙ sym (replicate-append-replicate 16 (48 + m) 0) in
+    put-over c s₁ s₂ 0 front _ (fieldBytes g) (p ∙ ap (patch c 0) zeros) q (sym (length-fields g))
+    ∙ ap (λ (z : List ℕ). patch c 0 (fieldBytes g ++ z)) (sym (replicate-append-replicate 48 m 0))
+    ∙ ap (patch c 0) (sym (append-assoc (fieldBytes g) _ (replicate m 0)))
+    ∙ ap (λ (f : List ℕ). patch c 0 (f ++ replicate m 0)) (header-fields g h)
 
 -- ---- the answers: t is the test of the limits, n the length that was computed
 

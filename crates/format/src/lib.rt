@@ -1,4 +1,4 @@
-// Format: the header written, the control bytes, slots and entries zeroed, the data blocks left.
+// Format: the control bytes, slots and entries zeroed, the header written, the data blocks left.
 use codec::card_length;
 use codec::good_geometry;
 use numbers::fill;
@@ -15,26 +15,27 @@ ghost use Rattle.protocol.specs.Layout.{goodGeometry, cardLength};
 ghost use Rattle.protocol.specs.Format.{outcomeOf, formatRefusal, formatted, afterFormat};
 ghost use Rattle.format.specs.Fields.{fieldBytes};
 
-// Writes the header's fields, one after the other.
+// Writes the header's fields over zeros, the length last: until then the header is refused with 1.
 fn put_fields(card: &mut [u8], g: Geometry)
     requires { ⌜ 16 ≤ length (now card) ⌝ }
     ensures { λ _. ⌜ now (card .exit) ≡ patch (now (card .entry)) 0 (fieldBytes g) ⌝ }
 {
-    put(card, 0, 4, 64);
-    put(card, 4, 1, 1);
-    put(card, 5, 1, g.k);
-    put(card, 6, 2, g.slots);
-    put(card, 8, 4, g.blocks);
     put(card, 12, 4, g.disk);
+    put(card, 8, 4, g.blocks);
+    put(card, 6, 2, g.slots);
+    put(card, 5, 1, g.k);
+    put(card, 4, 1, 1);
+    put(card, 0, 4, 64);
 }
 
-// Writes the header and zeros what follows it up to the data blocks.
+// Zeros all up to the data blocks, the old header first, and then writes the header: a format cut short leaves no card that is accepted with
+// a part of what it held before.
 fn lay_out(card: &mut [u8], g: Geometry)
     requires { ⌜ (goodGeometry g ≡ true) × (length (now card) ≡ cardLength g) ⌝ }
     ensures { λ _. ⌜ now (card .exit) ≡ formatted g (now (card .entry)) ⌝ }
 {
+    fill(card, 0, (128 + 8 * g.slots + 16 * g.blocks) as usize, 0);
     put_fields(card, g);
-    fill(card, 16, (112 + 8 * g.slots + 16 * g.blocks) as usize, 0);
 }
 
 // Formats the card, or refuses and leaves every byte of it. The limits are tested first: outside of them the length may not fit a number.

@@ -1,4 +1,4 @@
-// State, read and look: what a card and its disk hold, at every input, however damaged.
+// State, read, look and the list of what is cached: what a card and its disk hold, at every input, however damaged.
 use protocol::Condition;
 use protocol::Geometry;
 use protocol::Held;
@@ -14,6 +14,7 @@ ghost use Rattle.protocol.specs.Read.{heldBy, outputAfter, lookedAt, conditionO
 ghost use Rattle.lookup.specs.Place.{Listed, Copied, placeIn, soughtAt, foundIn, foundAt, fetchedAt};
 ghost use Rattle.ring.specs.Fitted.{Fitted, Placed, WindowOf};
 ghost use Rattle.lookup.specs.Counted.{counted};
+ghost use Rattle.lookup.specs.Cached.{cachedIn, cachedAt};
 ghost use Rattle.protocol.specs.Below.{countBelow};
 ghost use Rattle.protocol.specs.Ring.{isSettled};
 
@@ -23,6 +24,13 @@ pub enum Found {
     Outside(usize),
     Card(usize, usize),
     Disk(usize, usize),
+}
+
+// What an entry caches: a block's number and whether it is modified, nothing, or refused by checks 1, 2 and 4 to 7.
+pub enum Cached {
+    Block(u64, bool),
+    Nothing,
+    Refused(u8),
 }
 
 fn wide(k: u32) -> u64
@@ -236,4 +244,35 @@ pub fn state(card: &[u8]) -> Reported
         geometry: g,
         condition: c,
     })
+}
+
+// What entry i of a card that passed its checks caches.
+fn cached_in(g: Geometry, card: &[u8], i: u64) -> Cached
+    requires { ⌜ Fitted g (now card) ⌝ }
+    ensures { λ r. ⌜ r ≡ cachedIn g (now (card .entry)) i ⌝ }
+{
+    if g.blocks <= i {
+        return Cached::Nothing;
+    }
+    let e = checks::entry_of(g, card, i as usize);
+    if !codec::in_use(e) {
+        return Cached::Nothing;
+    }
+    Cached::Block(e.number, codec::is_modified(e))
+}
+
+// What the entry at place i of a settled card caches.
+pub fn cached_at(card: &[u8], i: u64) -> Cached
+    ensures { λ r. ⌜ r ≡ cachedAt (now (card .entry)) i ⌝ }
+{
+    let f = ring::fit_refusal(card);
+    if f != 0 {
+        return Cached::Refused(f);
+    }
+    let g = ring::geometry_of(card);
+    let r = checks::card_refusal(g, card);
+    if r != 0 {
+        return Cached::Refused(r);
+    }
+    cached_in(g, card, i)
 }

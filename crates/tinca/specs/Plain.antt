@@ -1,5 +1,6 @@
--- The answers of document 01 as plain numbers, each case with its kind.
+-- The answers as plain numbers, each case with its kind.
 use Prim.Native.Nat.{ℕ}
+use mathlib.Core.Bool.{true, false}
 use Rattle.protocol.specs.declared.Answer.{Answer}
 use Rattle.protocol.specs.declared.Answer.the-variants.{Done, Cut, Refused}
 use Rattle.protocol.specs.declared.Condition.{Condition}
@@ -10,9 +11,12 @@ use Rattle.protocol.specs.declared.Outcome.the-variants.{Done as FormatDone, Re
 use Rattle.protocol.specs.declared.Reported.{Reported}
 use Rattle.protocol.specs.declared.Reported.the-variants.{Is, Refused as StateRefused}
 use Rattle.protocol.specs.declared.State.{State}
+use Rattle.lookup.specs.declared.Cached.{Cached}
+use Rattle.lookup.specs.declared.Cached.the-variants.{Block, Nothing, Refused as CachedRefused}
 use Rattle.lookup.specs.declared.Found.{Found}
 use Rattle.lookup.specs.declared.Found.the-variants.{Card, Disk, Outside, Refused as FoundRefused}
 use Rattle.tinca.specs.declared.TincaAnswer.{TincaAnswer}
+use Rattle.tinca.specs.declared.TincaEntry.{TincaEntry}
 use Rattle.tinca.specs.declared.TincaPlace.{TincaPlace}
 use Rattle.tinca.specs.declared.TincaState.{TincaState}
 
@@ -45,3 +49,10 @@ plainCondition g (Unsettled u w) =
 abbrev pub plainState : Reported → TincaState
 plainState (Is s) = plainCondition (s .geometry) (s .condition)
 plainState (StateRefused r) = record { kind = 2; refusal = r; k = 0; slots = 0; blocks = 0; disk = 0; first = 0; second = 0 }
+
+-- 0 a block is cached, modified 1 or 0; 1 nothing; 2 refused
+abbrev pub plainEntry : Cached → TincaEntry
+plainEntry (Block b true) = record { kind = 0; refusal = 0; block = b; modified = 1 }
+plainEntry (Block b false) = record { kind = 0; refusal = 0; block = b; modified = 0 }
+plainEntry Nothing = record { kind = 1; refusal = 0; block = 0; modified = 0 }
+plainEntry (CachedRefused r) = record { kind = 2; refusal = r; block = 0; modified = 0 }

@@ -1,4 +1,5 @@
-// The C interface of the cache: every call of document 01, with answers as plain structs. include/tinca.h declares it for C.
+// The C interface of the cache: its calls, with answers as plain structs. include/tinca.h declares it for C.
+use lookup::Cached;
 use lookup::Found;
 use protocol::Answer;
 use protocol::Condition;
@@ -14,7 +15,8 @@ ghost use Rattle.protocol.specs.Load.{loadWork, evictWork};
 ghost use Rattle.protocol.specs.Recover.{recoverWork};
 ghost use Rattle.protocol.specs.Read.{outputAfter, stateOf};
 ghost use Rattle.lookup.specs.Place.{foundAt, fetchedAt};
-ghost use Rattle.tinca.specs.Plain.{plainAnswer, plainOutcome, plainPlace, plainState};
+ghost use Rattle.lookup.specs.Cached.{cachedAt};
+ghost use Rattle.tinca.specs.Plain.{plainAnswer, plainOutcome, plainPlace, plainState, plainEntry};
 
 // kind 0 done, with the stores made; 1 cut; 2 refused, with the number
 #[repr(C)]
@@ -44,6 +46,15 @@ pub struct TincaState {
     pub disk: u64,
     pub first: u64,
     pub second: u64,
+}
+
+// kind 0 cached: the block's number, modified 1 or 0; 1 nothing; 2 refused, with the number
+#[repr(C)]
+pub struct TincaEntry {
+    pub kind: u32,
+    pub refusal: u32,
+    pub block: u64,
+    pub modified: u64,
 }
 
 fn answer(a: Answer) -> TincaAnswer
@@ -171,6 +182,33 @@ fn state(s: Reported) -> TincaState
     }
 }
 
+fn entry_told(kind: u32, refusal: u32, block: u64, modified: u64) -> TincaEntry
+    ensures { λ r. ⌜ r ≡ record { kind = kind; refusal = refusal; block = block; modified = modified } ⌝ }
+{
+    TincaEntry {
+        kind: kind,
+        refusal: refusal,
+        block: block,
+        modified: modified,
+    }
+}
+
+fn entry(c: Cached) -> TincaEntry
+    ensures { λ r. ⌜ r ≡ plainEntry c ⌝ }
+{
+    match c {
+        Cached::Block(b, modified) => {
+            if modified {
+                entry_told(0, 0, b, 1)
+            } else {
+                entry_told(0, 0, b, 0)
+            }
+        }
+        Cached::Nothing => entry_told(1, 0, 0, 0),
+        Cached::Refused(r) => entry_told(2, r as u32, 0, 0),
+    }
+}
+
 #[no_mangle]
 pub extern "C" fn tinca_format(
     k: u64,
@@ -253,4 +291,11 @@ pub extern "C" fn tinca_state_of(card: &[u8]) -> TincaState
     ensures { λ r. ⌜ r ≡ plainState (stateOf (now (card .entry))) ⌝ }
 {
     state(lookup::state(card))
+}
+
+#[no_mangle]
+pub extern "C" fn tinca_cached(card: &[u8], place: u64) -> TincaEntry
+    ensures { λ r. ⌜ r ≡ plainEntry (cachedAt (now (card .entry)) place) ⌝ }
+{
+    entry(lookup::cached_at(card, place))
 }

@@ -1,14 +1,10 @@
--- `lay_out` makes the formatted card: the fields, and zeros behind them. The card's length bounds every sum.
+-- `lay_out` makes the formatted card: zeros, and the fields over them. The card's length bounds every sum.
 use native.Mathlib.Omega.{arith}
 use borrow.Author.Needs.{needs}
 use Rattle.protocol.specs.Layout.{cardLength}
 use Rattle.format.proofs.Laws.{laid-out}
 use Rattle.format.proofs.lay_out.Statement.{statement}
 use Rattle.format.proofs.lay_out.Tie as tie
-
-put-fields-requires : tie.Need-put-fields-requires
-unfolding cardLength
-put-fields-requires c κs = omega arith
 
 mul-fill : tie.Need-mul-fill
 unfolding cardLength
@@ -30,6 +26,10 @@ fill-requires : tie.Need-fill-requires
 unfolding cardLength
 fill-requires c κs = omega arith
 
+put-fields-requires : tie.Need-put-fields-requires
+unfolding cardLength
+put-fields-requires c κs = omega arith
+
 same-length : tie.Need-same-length
 same-length c = search needs
 
@@ -37,4 +37,4 @@ returns : tie.Need-returns
 returns c = search (laid-out, needs)
 
 pub lay-out-spec : {M : Type 1} → statement M
-lay-out-spec = tie.close (tie.spec put-fields-requires mul-fill add-fill mul-fill-2 add-fill-2 fill-requires same-length returns)
+lay-out-spec = tie.close (tie.spec mul-fill add-fill mul-fill-2 add-fill-2 fill-requires put-fields-requires same-length returns)
