@@ -1,4 +1,4 @@
-/* Formats a card, saves two blocks, loses the power in the next save, recovers and reads. */
+/* Formats a card, saves two blocks, loses the power in the next save, recovers, reads and drains the card. */
 #include <inttypes.h>
 #include <stdio.h>
 #include <stdlib.h>
@@ -6,40 +6,53 @@
 
 #include "tinca.h"
 
-enum { K = 9, SLOTS = 8, DATA_BLOCKS = 4, DISK_BLOCKS = 16, BLOCK = 512 };
+enum { K = 9, SLOTS = 8, DATA_BLOCKS = 4, DISK_BLOCKS = 16, BLOCK = TINCA_BLOCK_LENGTH(K) };
 
-static uint8_t card[128 + 8 * SLOTS + 16 * DATA_BLOCKS + DATA_BLOCKS * BLOCK];
-static uint8_t disk[DISK_BLOCKS * BLOCK];
+static uint8_t card[TINCA_CARD_LENGTH(K, SLOTS, DATA_BLOCKS)];
+static uint8_t disk[TINCA_DISK_LENGTH(K, DISK_BLOCKS)];
 
 static void told(const char *call, tinca_answer answer)
 {
-    if (answer.kind == 0)
+    if (answer.kind == TINCA_DONE)
         printf("%s: done, %" PRIu64 " stores\n", call, answer.stores);
-    else if (answer.kind == 1)
+    else if (answer.kind == TINCA_CUT)
         printf("%s: cut\n", call);
     else
-        printf("%s: refused with %" PRIu32 "\n", call, answer.refusal);
+        printf("%s: refused with %" PRIu32 ": %s\n", call, answer.refusal, tinca_refusal_text(answer.refusal));
 }
 
 static void show(uint64_t block)
 {
     uint8_t out[BLOCK];
     tinca_place place = tinca_read(card, sizeof card, disk, sizeof disk, block, out, sizeof out);
-    if (place.kind == 2)
-        printf("block %" PRIu64 ": refused with %" PRIu32 "\n", block, place.refusal);
+    if (place.kind == TINCA_REFUSED)
+        printf("block %" PRIu64 ": refused with %" PRIu32 ": %s\n", block, place.refusal, tinca_refusal_text(place.refusal));
     else
-        printf("block %" PRIu64 ": %s, bytes %d\n", block, place.kind == 0 ? "on the card" : "on the disk", out[0]);
+        printf("block %" PRIu64 ": %s, bytes %d\n", block, place.kind == TINCA_ON_CARD ? "on the card" : "on the disk", out[0]);
 }
 
 static void state(void)
 {
     tinca_state state = tinca_state_of(card, sizeof card);
-    if (state.kind == 0)
-        printf("settled: %" PRIu64 " in use, %" PRIu64 " modified\n", state.first, state.second);
-    else if (state.kind == 1)
-        printf("unsettled: %" PRIu64 " to undo, %" PRIu64 " slots in the window\n", state.first, state.second);
+    if (state.kind == TINCA_SETTLED)
+        printf("settled: %" PRIu64 " in use, %" PRIu64 " modified\n", state.in_use, state.modified);
+    else if (state.kind == TINCA_UNSETTLED)
+        printf("unsettled: %" PRIu64 " to undo, %" PRIu64 " slots in the window\n", state.undoable, state.window);
     else
-        printf("refused with %" PRIu32 "\n", state.refusal);
+        printf("refused with %" PRIu32 ": %s\n", state.refusal, tinca_refusal_text(state.refusal));
+}
+
+/* Evicts all that is cached, so that the disk alone has every block. */
+static void drain(void)
+{
+    uint64_t place;
+    for (place = 0; place < DATA_BLOCKS; place++) {
+        tinca_entry entry = tinca_cached(card, sizeof card, place);
+        if (entry.kind == TINCA_IN_USE) {
+            printf("place %" PRIu64 " caches block %" PRIu64 ", %s\n", place, entry.block, entry.modified ? "modified" : "clean");
+            told("evict it", tinca_evict(card, sizeof card, disk, sizeof disk, entry.block, UINT64_MAX));
+        }
+    }
 }
 
 int main(void)
@@ -67,6 +80,12 @@ int main(void)
     show(5);
 
     told("second save again", tinca_commit(card, sizeof card, numbers, 2, data, sizeof data, UINT64_MAX));
+    show(3);
+    show(5);
+
+    told("load 9", tinca_load(card, sizeof card, disk, sizeof disk, 9, UINT64_MAX));
+    drain();
+    state();
     show(3);
     show(5);
     return EXIT_SUCCESS;

@@ -1,34 +1,39 @@
 /*
- * tinca: a write-back cache card, proved against power cuts at every store.
+ * tinca: a write-back cache card in front of a disk, proved against power cuts at every store.
  *
- * What is promised. Each storing call makes its stores in the order of document 01, one whole unit after the other: an
- * 8-byte word, a 16-byte entry, a 512-byte disk sector. Wherever they stop, a recovery that answers "done" leaves the
- * card settled, and a settled card reads, byte for byte, as the last commit that answered "done" left it. This holds
- * over every list of calls from a formatted card, recoveries cut again and again among them. It is proved of the code.
+ * Promised. A call that stores makes its stores in a fixed order, each of a whole unit: an 8-byte word, a 16-byte entry, a
+ * 512-byte disk sector. Wherever they stop, a recovery that answers "done" leaves the card settled, and a settled card reads,
+ * byte for byte, as the last commit that answered "done" left it. This holds over every list of calls from a formatted card,
+ * recoveries cut again and again among them. It is proved of the code. Each call takes every input, always returns, and
+ * refuses by number before any store, so that a refusal changes nothing.
  *
- * What is not. The proof speaks of whole stores in the order in which the program makes them. The compiled code stores an
- * entry by several instructions, and a processor's cache and a memory controller may delay or reorder stores to plain
- * memory: docs/ORDER.md says what a station must do so that each unit reaches the card whole and in order. One card, one
- * disk, one call at a time: nothing here locks. Card, disk, data, numbers and output may not overlap.
+ * Not promised. The proof speaks of whole units in the order in which the program makes them. The compiled code makes a unit
+ * by one instruction or by several (an entry takes a dozen), and a processor's cache hands them to the card in an order of its
+ * own: a process that stores straight into a card's memory and dies inside a unit can leave a save torn. docs/ORDER.md says
+ * what a station must do. The card has no checksum: some damage by other hands reads as another lawful card.
  *
- * A slice is a pointer and a length. A pointer may be null only where its length is 0. Every other argument may be
- * anything: each call takes every input, always returns, and refuses by number before any store.
+ * The names. k, S, N, D are given to tinca_format and stand in the card's header from then on; tinca_state_of tells them.
  *
- * Refusals, lowest first:
- *    1  card under 128 bytes, or a header field out of its limits; format: a bad k, S, N or D
- *    2  card of the wrong length (128 + 8 S + 16 N + N B bytes, B two to the power k)
- *    3  disk of the wrong length (D B bytes)
- *    4  Head or Tail not below S, or a number in the window not below D
- *    5  an entry that is not allowed
- *    6  two entries in use with equal numbers, current blocks or settled blocks
- *    7  card not settled: recover it
- *    8  commit of 0 blocks or of more than S - 1
- *    9  data not count * B bytes; output not B bytes
- *   10  a block number not below D
- *   11  the same number twice in a commit
- *   12  load of a cached block
- *   13  evict of a block that is not cached
- *   14  too few free data blocks
+ *     k            B = 2^k bytes in a block            9 to 12 (512 to 4,096 bytes)
+ *     slots        S, the ring's slots                 8 to 256, a multiple of 8; a commit takes at most S - 1 blocks
+ *     data_blocks  N, the blocks that the card caches  4 to 128, a multiple of 4
+ *     disk_blocks  D, the disk's blocks                1 to 65,536
+ *     block        the number of a disk block, below D
+ *     place        the place of an entry on the card, below N
+ *
+ * The allowance of a call is how many of its stores still happen: it says where the power fails, for tests and drills. A
+ * station in service passes UINT64_MAX; its power fails where it does, and that is the same card as some allowance leaves.
+ *
+ * Slices. A pointer and a length in bytes, but for `numbers`, whose length is a count. A pointer may be null where its length
+ * is 0; a null with another length is used as an address, which ends the process. `numbers` is aligned as a uint64_t is. All
+ * others may lie at any address; a card that units must reach whole lies at a multiple of 16 (docs/ORDER.md). Slices that a
+ * call only reads may overlap. One that it writes (card, disk, out, as they are not const) may overlap no other: the proofs
+ * then say nothing of the bytes that it leaves.
+ *
+ * Threads. Nothing here locks or keeps anything between calls: one thread a card at a time, with its disk. Different cards
+ * are independent.
+ *
+ * docs/CARD.md has the bytes of the card, each call's stores in order, and the rule on cuts.
  */
 #ifndef TINCA_H
 #define TINCA_H
@@ -36,18 +41,98 @@
 #include <stddef.h>
 #include <stdint.h>
 
+/* Of this header and the library beside it. The middle number grows where a call changes. */
+#define TINCA_VERSION "0.1.0"
+
+/* Lengths in bytes, as constants where their arguments are: of a block, of a card, of a disk. */
+#define TINCA_BLOCK_LENGTH(k) ((size_t)1 << (k))
+#define TINCA_CARD_LENGTH(k, slots, data_blocks) \
+    (128 + 8 * (size_t)(slots) + 16 * (size_t)(data_blocks) + (size_t)(data_blocks) * TINCA_BLOCK_LENGTH(k))
+#define TINCA_DISK_LENGTH(k, disk_blocks) ((size_t)(disk_blocks) * TINCA_BLOCK_LENGTH(k))
+
 #ifdef __cplusplus
 extern "C" {
 #endif
 
-/* kind 0 done, with the count of stores (format: 0); 1 cut, the allowance was below that count; 2 refused, with the number */
+/* The field `kind` of an answer. 2 is refused in all of them; fields that a kind does not name are 0. */
+enum {
+    TINCA_DONE = 0, /* tinca_answer */
+    TINCA_CUT = 1,
+    TINCA_ON_CARD = 0, /* tinca_place */
+    TINCA_ON_DISK = 1,
+    TINCA_SETTLED = 0, /* tinca_state */
+    TINCA_UNSETTLED = 1,
+    TINCA_IN_USE = 0, /* tinca_entry */
+    TINCA_UNUSED = 1,
+    TINCA_REFUSED = 2
+};
+
+/* The field `refusal` of a refused answer. The lowest number whose condition holds is given. */
+enum {
+    TINCA_BAD_HEADER = 1,
+    TINCA_BAD_CARD_LENGTH = 2,
+    TINCA_BAD_DISK_LENGTH = 3,
+    TINCA_BAD_RING = 4,
+    TINCA_BAD_ENTRY = 5,
+    TINCA_EQUAL_ENTRIES = 6,
+    TINCA_NOT_SETTLED = 7,
+    TINCA_BAD_COUNT = 8,
+    TINCA_BAD_LENGTH = 9,
+    TINCA_BAD_NUMBER = 10,
+    TINCA_NUMBER_TWICE = 11,
+    TINCA_ALREADY_CACHED = 12,
+    TINCA_NOT_CACHED = 13,
+    TINCA_NO_ROOM = 14
+};
+
+/* What a refusal's number means, in words. */
+static inline const char *tinca_refusal_text(uint32_t number)
+{
+    switch (number) {
+    case 0:
+        return "not refused";
+    case TINCA_BAD_HEADER:
+        return "the card is under 128 bytes or a header field is wrong; for format, k, S, N or D is out of its limits";
+    case TINCA_BAD_CARD_LENGTH:
+        return "the card has the wrong length";
+    case TINCA_BAD_DISK_LENGTH:
+        return "the disk has the wrong length";
+    case TINCA_BAD_RING:
+        return "Head or Tail is not below S, or a number in the window is not below D";
+    case TINCA_BAD_ENTRY:
+        return "an entry is none that the cache writes";
+    case TINCA_EQUAL_ENTRIES:
+        return "two entries in use have equal numbers, current blocks or settled blocks";
+    case TINCA_NOT_SETTLED:
+        return "the card is not settled and must be recovered first";
+    case TINCA_BAD_COUNT:
+        return "a commit of no block or of more than S - 1";
+    case TINCA_BAD_LENGTH:
+        return "the data is not B bytes for each number, or the output is not B bytes";
+    case TINCA_BAD_NUMBER:
+        return "a block number is not below D";
+    case TINCA_NUMBER_TWICE:
+        return "a commit has the same number twice";
+    case TINCA_ALREADY_CACHED:
+        return "the block to load is cached";
+    case TINCA_NOT_CACHED:
+        return "the block to evict is not cached";
+    case TINCA_NO_ROOM:
+        return "there are too few free data blocks";
+    default:
+        return "no such refusal";
+    }
+}
+
+/* TINCA_DONE: stores is m, the count of the call's stores (format: 0). TINCA_CUT: the allowance was below m; as many stores
+ * were made as it said, and `stores` is 0. TINCA_REFUSED: refusal is the number. */
 typedef struct {
     uint32_t kind;
     uint32_t refusal;
     uint64_t stores;
 } tinca_answer;
 
-/* kind 0 the card holds the block, 1 the disk does, at that offset and length; 2 refused, with the number */
+/* TINCA_ON_CARD: the block lies in the card, at that offset, B bytes long. TINCA_ON_DISK: in the disk. */
 typedef struct {
     uint32_t kind;
     uint32_t refusal;
@@ -55,31 +140,53 @@ typedef struct {
     uint64_t length;
 } tinca_place;
 
-/* kind 0 settled: entries in use, modified ones; 1 unsettled: undoable entries, the window's slots; 2 refused: all zero */
+/* TINCA_SETTLED: in_use and modified count entries. TINCA_UNSETTLED, after a cut: undoable counts entries, window slots. */
 typedef struct {
     uint32_t kind;
     uint32_t refusal;
     uint64_t k, slots, data_blocks, disk_blocks;
-    uint64_t first, second;
+    union {
+        uint64_t in_use;
+        uint64_t undoable;
+    };
+    union {
+        uint64_t modified;
+        uint64_t window;
+    };
 } tinca_state;
 
-/* Makes a fresh card and leaves its data blocks. Done, or refused with 1 or 2. */
+/* TINCA_IN_USE: the entry caches that block; modified is 1 where the disk has an older version, else 0. TINCA_UNUSED: none. */
+typedef struct {
+    uint32_t kind;
+    uint32_t refusal;
+    uint64_t block;
+    uint64_t modified;
+} tinca_entry;
+
+/* Makes a fresh card: nothing cached, settled. It leaves the bytes of the data blocks, and what the old card had cached and
+ * not yet written to the disk is lost. The card's length is TINCA_CARD_LENGTH. Done, or refused with 1 (a limit of k, S, N or
+ * D) or 2 (a card of another length, a short one too). */
 tinca_answer tinca_format(uint64_t k, uint64_t slots, uint64_t data_blocks, uint64_t disk_blocks, uint8_t *card, size_t card_len);
 
-/* Saves `count` blocks of `data` under their numbers as one transaction. Done, cut, or refused with 1, 2, 4 to 11 or 14. */
+/* Saves `count` blocks of `data`, in turn, under their numbers as one transaction: all of them or, after a cut and a recovery,
+ * none. It needs as many free data blocks as it has blocks, those that are cached already too. m = count * (B/8 + 4) + 1.
+ * Done, cut, or refused with 1, 2, 4 to 11 or 14. */
 tinca_answer tinca_commit(uint8_t *card, size_t card_len, const uint64_t *numbers, size_t count, const uint8_t *data, size_t data_len,
                           uint64_t allowance);
 
-/* Caches a disk block. Done, cut, or refused with 1 to 7, 10, 12 or 14. */
+/* Caches a disk block. m = B/8 + 1. Done, cut, or refused with 1 to 7, 10, 12 or 14. */
 tinca_answer tinca_load(uint8_t *card, size_t card_len, const uint8_t *disk, size_t disk_len, uint64_t block, uint64_t allowance);
 
-/* Writes a cached block to the disk if it is modified, and drops it from the card. Done, cut, or refused with 1 to 7, 10 or 13. */
+/* Writes a cached block to the disk if it is modified, and then drops it from the card. m = B/512 + 1 if modified, else 1.
+ * Done, cut, or refused with 1 to 7, 10 or 13. */
 tinca_answer tinca_evict(uint8_t *card, size_t card_len, uint8_t *disk, size_t disk_len, uint64_t block, uint64_t allowance);
 
-/* Undoes what a cut commit left. Done, cut, or refused with 1, 2 or 4 to 6. */
+/* Undoes what a cut commit left; on a settled card it makes no store. To be called at start-up, before all else: a station
+ * cannot know whether its power failed in a commit. A cut one goes on where it stopped. Done, cut, or refused with 1, 2 or 4
+ * to 6. */
 tinca_answer tinca_recover(uint8_t *card, size_t card_len, uint64_t allowance);
 
-/* Copies a block to `out`, and tells where it lies. Refused with 1 to 7, 9 or 10: `out` is then untouched. */
+/* Copies a block to `out`, B bytes, and tells where it lies. Refused with 1 to 7, 9 or 10; `out` is then untouched. */
 tinca_place tinca_read(const uint8_t *card, size_t card_len, const uint8_t *disk, size_t disk_len, uint64_t block, uint8_t *out, size_t out_len);
 
 /* Tells where a block lies, without copying. Refused with 1 to 7 or 10. */
@@ -87,6 +194,10 @@ tinca_place tinca_look(const uint8_t *card, size_t card_len, const uint8_t *disk
 
 /* The card's geometry and condition. Refused with 1, 2 or 4 to 6. */
 tinca_state tinca_state_of(const uint8_t *card, size_t card_len);
+
+/* What the entry at a place caches: the places below N are all that the card holds, to be drained by evictions or chosen
+ * from. A place from N on is unused. Refused with 1, 2 or 4 to 7. */
+tinca_entry tinca_cached(const uint8_t *card, size_t card_len, uint64_t place);
 
 #ifdef __cplusplus
 }
