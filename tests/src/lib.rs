@@ -9,6 +9,7 @@ pub mod model;
 pub mod random;
 pub mod scratch;
 pub mod shown;
+pub mod stages;
 pub mod stores_log;
 
 pub use model::{Answer, Geometry, Place, State};
