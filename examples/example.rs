@@ -1,15 +1,24 @@
-//! Formats a card, saves two blocks, loses the power in the next save, recovers and reads.
+//! Formats a card, saves two blocks, loses the power in the next save, recovers, reads and drains the card.
 
 use tinca_tests::ffi::Library;
-use tinca_tests::{Answer, Calls, Place, State};
+use tinca_tests::{Answer, Cached, Calls, Place, State};
 
 const BLOCK: usize = 512;
+
+/// The refusals that occur here, in the words of the C header.
+fn text(number: u32) -> &'static str {
+    match number {
+        7 => "the card is not settled and must be recovered first",
+        11 => "a commit has the same number twice",
+        _ => unreachable!(),
+    }
+}
 
 fn told(call: &str, answer: Answer) {
     match answer {
         Answer::Done(stores) => println!("{call}: done, {stores} stores"),
         Answer::Cut => println!("{call}: cut"),
-        Answer::Refused(number) => println!("{call}: refused with {number}"),
+        Answer::Refused(number) => println!("{call}: refused with {number}: {}", text(number)),
         Answer::Malformed(..) => unreachable!(),
     }
 }
@@ -19,7 +28,7 @@ fn show(card: &[u8], disk: &[u8], block: u64) {
     match Library.read(card, disk, block, &mut out) {
         Place::Card(..) => println!("block {block}: on the card, bytes {}", out[0]),
         Place::Disk(..) => println!("block {block}: on the disk, bytes {}", out[0]),
-        Place::Refused(number) => println!("block {block}: refused with {number}"),
+        Place::Refused(number) => println!("block {block}: refused with {number}: {}", text(number)),
         Place::Malformed(..) => unreachable!(),
     }
 }
@@ -28,8 +37,18 @@ fn state(card: &[u8]) {
     match Library.state(card) {
         State::Settled { in_use, modified, .. } => println!("settled: {in_use} in use, {modified} modified"),
         State::Unsettled { undoable, window, .. } => println!("unsettled: {undoable} to undo, {window} slots in the window"),
-        State::Refused(number) => println!("refused with {number}"),
+        State::Refused(number) => println!("refused with {number}: {}", text(number)),
         State::Malformed(..) => unreachable!(),
+    }
+}
+
+/// Evicts all that is cached, so that the disk alone has every block.
+fn drain(card: &mut [u8], disk: &mut [u8], data_blocks: u64) {
+    for place in 0..data_blocks {
+        if let Cached::Block { number, modified } = Library.cached(card, place) {
+            println!("place {place} caches block {number}, {}", if modified { "modified" } else { "clean" });
+            told("evict it", Library.evict(card, disk, number, u64::MAX));
+        }
     }
 }
 
@@ -53,6 +72,12 @@ fn main() {
     show(&card, &disk, 5);
 
     told("second save again", Library.commit(&mut card, &[3, 5], &[8; 2 * BLOCK], u64::MAX));
+    show(&card, &disk, 3);
+    show(&card, &disk, 5);
+
+    told("load 9", Library.load(&mut card, &disk, 9, u64::MAX));
+    drain(&mut card, &mut disk, 4);
+    state(&card);
     show(&card, &disk, 3);
     show(&card, &disk, 5);
 }

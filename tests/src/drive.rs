@@ -2,13 +2,13 @@
 
 use crate::model::Model;
 use crate::random::{mix, Random};
-use crate::{Answer, Calls, Geometry, Place, State};
+use crate::{Answer, Cached, Calls, Geometry, Place, State};
 use std::collections::HashMap;
 
-pub const CALLS: [&str; 8] = ["format", "commit", "load", "evict", "recover", "read", "look", "state"];
+pub const CALLS: [&str; 9] = ["format", "commit", "load", "evict", "recover", "read", "look", "state", "cached"];
 
 /// The refusals that each call may give, in the order of `CALLS`.
-pub const REFUSALS: [&[usize]; 8] = [
+pub const REFUSALS: [&[usize]; 9] = [
     &[1, 2],
     &[1, 2, 4, 5, 6, 7, 8, 9, 10, 11, 14],
     &[1, 2, 3, 4, 5, 6, 7, 10, 12, 14],
@@ -17,14 +17,15 @@ pub const REFUSALS: [&[usize]; 8] = [
     &[1, 2, 3, 4, 5, 6, 7, 9, 10],
     &[1, 2, 3, 4, 5, 6, 7, 10],
     &[1, 2, 4, 5, 6],
+    &[1, 2, 4, 5, 6, 7],
 ];
 
-/// Per call: done (card, settled), cut (disk, unsettled), then the refusals by number.
+/// Per call: done (card, settled, in use), cut (disk, unsettled, unused), then the refusals by number.
 #[derive(Clone, Default, Debug)]
 pub struct Tally {
-    pub first: [u64; 8],
-    pub second: [u64; 8],
-    pub refused: [[u64; 15]; 8],
+    pub first: [u64; 9],
+    pub second: [u64; 9],
+    pub refused: [[u64; 15]; 9],
 }
 
 impl Tally {
@@ -34,7 +35,7 @@ impl Tally {
     }
 
     pub fn add(&mut self, other: &Tally) {
-        for call in 0..8 {
+        for call in 0..9 {
             self.first[call] += other.first[call];
             self.second[call] += other.second[call];
             for number in 0..15 {
@@ -43,20 +44,22 @@ impl Tally {
         }
     }
 
-    /// One line: calls, dones, cuts, where blocks were found, conditions, refusals by number.
+    /// One line: calls, dones, cuts, where blocks were found, conditions, entries told, refusals by number.
     pub fn line(&self) -> String {
         let mut line = format!(
-            "{} calls: {} done, {} cut, {} on card, {} on disk, {} settled, {} unsettled; refused",
+            "{} calls: {} done, {} cut, {} on card, {} on disk, {} settled, {} unsettled, {} in use, {} unused; refused",
             self.calls(),
             self.first[..5].iter().sum::<u64>(),
             self.second[..5].iter().sum::<u64>(),
             self.first[5] + self.first[6],
             self.second[5] + self.second[6],
             self.first[7],
-            self.second[7]
+            self.second[7],
+            self.first[8],
+            self.second[8]
         );
         for number in 1..15 {
-            let count: u64 = (0..8).map(|call| self.refused[call][number]).sum();
+            let count: u64 = (0..9).map(|call| self.refused[call][number]).sum();
             line += &format!(" {number}:{count}");
         }
         line
@@ -64,7 +67,7 @@ impl Tally {
 
     /// Every answer that a call may give has occurred, and no other.
     pub fn complete(&self) -> Result<(), String> {
-        for call in 0..8 {
+        for call in 0..9 {
             let name = CALLS[call];
             if self.first[call] == 0 {
                 return Err(format!("{name}: its first kind of answer never occurred"));
@@ -305,6 +308,29 @@ impl<'a> Pair<'a> {
         }
         Ok(b)
     }
+
+    pub fn cached(&mut self, place: u64) -> Result<Cached, String> {
+        let a = self.one.cached(self.card[0].get(), place);
+        let b = self.other.cached(self.card[1].get(), place);
+        if a != b {
+            return Err(format!("cached({place}): answers {a:?} and {b:?}"));
+        }
+        match b {
+            Cached::Block { .. } => self.tally.first[8] += 1,
+            Cached::Nothing => self.tally.second[8] += 1,
+            Cached::Refused(number) => self.tally.refused[8][number as usize] += 1,
+            Cached::Malformed(..) => return Err(format!("malformed answer {b:?}")),
+        }
+        Ok(b)
+    }
+
+    /// What is cached at each place of the card, and at places that it does not have.
+    pub fn listed(&mut self, data_blocks: u64) -> Result<(), String> {
+        for place in (0..=data_blocks).chain([128, 1 << 32, u64::MAX]) {
+            self.cached(place)?;
+        }
+        self.compared(|| "cached".to_string())
+    }
 }
 
 /// The bytes that disk block `block` holds before a history.
@@ -461,6 +487,7 @@ pub fn every_cut<'a>(one: &'a dyn Calls, other: &'a dyn Calls, geometry: Geometr
                 return Err(format!("{step:?} of {m} stores, allowance {allowance}: {answer:?}"));
             }
             let state = pair.state()?;
+            pair.listed(geometry.data_blocks)?;
             for block in 0..blocks {
                 if settled(state) {
                     after.holds(&mut pair, block)?;
@@ -583,6 +610,7 @@ pub fn random_history<'a>(
             }
             _ => {
                 pair.state()?;
+                pair.listed(geometry.data_blocks)?;
             }
         }
         let now = if turn % 4 == 0 { pair.state()? } else { continue };
@@ -749,6 +777,7 @@ fn every_call(pair: &mut Pair, random: &mut Random, geometry: Geometry, from: &S
     let block = geometry.block();
     pair.set(from);
     pair.state()?;
+    pair.listed(geometry.data_blocks)?;
     let (number, length) = (some(random), if random.once_in(8) { block - 1 } else { block });
     pair.read(number, length)?;
     pair.look(some(random))?;
@@ -885,6 +914,7 @@ pub fn arguments<'a>(one: &'a dyn Calls, other: &'a dyn Calls, seed: u64) -> Res
                         pair.set_card(&card);
                         pair.format(k, s, n, d)?;
                         pair.state()?;
+                        pair.cached(n)?;
                     }
                 }
             }

@@ -1,6 +1,6 @@
 //! The functions of include/tinca.h.
 
-use crate::{Answer, Calls, Geometry, Place, State};
+use crate::{Answer, Cached, Calls, Geometry, Place, State};
 
 #[repr(C)]
 #[derive(Clone, Copy, Debug, PartialEq, Eq)]
@@ -32,6 +32,15 @@ pub struct RawState {
     pub second: u64,
 }
 
+#[repr(C)]
+#[derive(Clone, Copy, Debug, PartialEq, Eq)]
+pub struct RawEntry {
+    pub kind: u32,
+    pub refusal: u32,
+    pub block: u64,
+    pub modified: u64,
+}
+
 extern "C" {
     fn tinca_format(k: u64, slots: u64, data_blocks: u64, disk_blocks: u64, card: *mut u8, card_len: usize) -> RawAnswer;
     fn tinca_commit(
@@ -57,6 +66,7 @@ extern "C" {
     ) -> RawPlace;
     fn tinca_look(card: *const u8, card_len: usize, disk: *const u8, disk_len: usize, block: u64) -> RawPlace;
     fn tinca_state_of(card: *const u8, card_len: usize) -> RawState;
+    fn tinca_cached(card: *const u8, card_len: usize, place: u64) -> RawEntry;
 }
 
 /// The library. A slice of no bytes is handed over as a null pointer.
@@ -107,6 +117,15 @@ pub fn state(raw: RawState) -> State {
     }
 }
 
+pub fn cached(raw: RawEntry) -> Cached {
+    match raw {
+        RawEntry { kind: 0, refusal: 0, block, modified: modified @ 0..=1 } => Cached::Block { number: block, modified: modified == 1 },
+        RawEntry { kind: 1, refusal: 0, block: 0, modified: 0 } => Cached::Nothing,
+        RawEntry { kind: 2, refusal, block: 0, modified: 0 } => Cached::Refused(refusal),
+        _ => Cached::Malformed(raw.kind, raw.refusal, raw.block, raw.modified),
+    }
+}
+
 impl Calls for Library {
     fn format(&self, k: u64, slots: u64, data_blocks: u64, disk_blocks: u64, card: &mut [u8]) -> Answer {
         answer(unsafe { tinca_format(k, slots, data_blocks, disk_blocks, lent_mut(card), card.len()) })
@@ -145,5 +164,8 @@ impl Calls for Library {
 
     fn state(&self, card: &[u8]) -> State {
         state(unsafe { tinca_state_of(lent(card), card.len()) })
+    }
+    fn cached(&self, card: &[u8], place: u64) -> Cached {
+        cached(unsafe { tinca_cached(lent(card), card.len(), place) })
     }
 }

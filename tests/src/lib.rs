@@ -12,7 +12,7 @@ pub mod shown;
 pub mod stages;
 pub mod stores_log;
 
-pub use model::{Answer, Geometry, Place, State};
+pub use model::{Answer, Cached, Geometry, Place, State};
 
 /// The calls of the interface. The library is one implementation, the model another.
 pub trait Calls {
@@ -24,4 +24,5 @@ pub trait Calls {
     fn read(&self, card: &[u8], disk: &[u8], block: u64, out: &mut [u8]) -> Place;
     fn look(&self, card: &[u8], disk: &[u8], block: u64) -> Place;
     fn state(&self, card: &[u8]) -> State;
+    fn cached(&self, card: &[u8], place: u64) -> Cached;
 }

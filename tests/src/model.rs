@@ -29,6 +29,15 @@ pub enum State {
     Malformed(u32, u32),
 }
 
+/// What the entry at a place caches.
+#[derive(Clone, Copy, Debug, PartialEq, Eq)]
+pub enum Cached {
+    Block { number: u64, modified: bool },
+    Nothing,
+    Refused(u32),
+    Malformed(u32, u32, u64, u64),
+}
+
 #[derive(Clone, Copy, Debug, PartialEq, Eq)]
 pub struct Geometry {
     pub k: u64,
@@ -336,9 +345,11 @@ pub enum Slip {
     FormatClearsBlocks,
     ReadTouchesOnRefusal,
     CountsEveryEntry,
+    CachedUnsettled,
+    CachedCounted,
 }
 
-pub const SLIPS: [Slip; 18] = [
+pub const SLIPS: [Slip; 20] = [
     Slip::CleanUndo,
     Slip::FreshAtSwitch,
     Slip::FreshAtUndo,
@@ -357,6 +368,8 @@ pub const SLIPS: [Slip; 18] = [
     Slip::FormatClearsBlocks,
     Slip::ReadTouchesOnRefusal,
     Slip::CountsEveryEntry,
+    Slip::CachedUnsettled,
+    Slip::CachedCounted,
 ];
 
 /// The model; with a slip, a deliberately wrong one.
@@ -649,6 +662,23 @@ impl Calls for Model {
                 undoable: card.in_use().filter(|entry| card.undoable(entry)).count() as u64,
                 window: card.window.len() as u64,
             }
+        }
+    }
+
+    fn cached(&self, card: &[u8], place: u64) -> Cached {
+        let opened = if self.slips(Slip::CachedUnsettled) { Card::open(card, None) } else { Card::open_settled(card, None) };
+        let card = match opened {
+            Ok(card) => card,
+            Err(number) => return Cached::Refused(number),
+        };
+        let entry = match usize::try_from(place) {
+            Ok(place) if self.slips(Slip::CachedCounted) => card.in_use().nth(place).copied(),
+            Ok(place) => card.entries.get(place).copied().flatten(),
+            Err(_) => None,
+        };
+        match entry {
+            Some(entry) => Cached::Block { number: entry.number, modified: entry.modified },
+            None => Cached::Nothing,
         }
     }
 }

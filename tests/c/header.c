@@ -1,0 +1,46 @@
+/* What the header alone promises: constants, layouts as the library's, a sentence for each refusal, which it prints as rows of a table. */
+#include <stdio.h>
+#include <string.h>
+
+#include "tinca.h"
+
+#ifdef __cplusplus
+#define SAME(a, b) static_assert((a) == (b), #a)
+#else
+#define SAME(a, b) _Static_assert((a) == (b), #a)
+#endif
+
+/* lengths are constants: the smallest and the largest card and disk */
+SAME(TINCA_BLOCK_LENGTH(9), 512);
+SAME(TINCA_CARD_LENGTH(9, 8, 4), 2304);
+SAME(TINCA_CARD_LENGTH(12, 256, 128), 528512);
+SAME(TINCA_DISK_LENGTH(9, 1), 512);
+SAME(TINCA_DISK_LENGTH(12, 65536), 268435456);
+
+/* the structs as the library lays them out: the numbers one after the other */
+SAME(sizeof(tinca_answer), 16);
+SAME(sizeof(tinca_place), 24);
+SAME(sizeof(tinca_state), 56);
+SAME(sizeof(tinca_entry), 24);
+SAME(offsetof(tinca_answer, stores), 8);
+SAME(offsetof(tinca_place, length), 16);
+SAME(offsetof(tinca_state, in_use), 40);
+SAME(offsetof(tinca_state, undoable), 40);
+SAME(offsetof(tinca_state, modified), 48);
+SAME(offsetof(tinca_state, window), 48);
+SAME(offsetof(tinca_entry, block), 8);
+SAME(offsetof(tinca_entry, modified), 16);
+
+int main(void)
+{
+    const char *none = tinca_refusal_text(TINCA_NO_ROOM + 1);
+    uint32_t number;
+    if (strcmp(tinca_refusal_text(0), none) == 0 || strcmp(tinca_refusal_text(UINT32_MAX), none) != 0)
+        return 1;
+    for (number = TINCA_BAD_HEADER; number <= TINCA_NO_ROOM; number++) {
+        if (strcmp(tinca_refusal_text(number), none) == 0)
+            return 1;
+        printf("| %u | %s |\n", (unsigned)number, tinca_refusal_text(number));
+    }
+    return 0;
+}
