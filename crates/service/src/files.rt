@@ -18,6 +18,28 @@ fn err(s: &[u8]) {
     say(STDERR_FILENO, s);
 }
 
+// Whether the path leads to what is no regular file; says so. Such a thing is never opened: a FIFO would keep the program waiting.
+fn is_special(path: &[u8]) -> bool {
+    if !kind::is_special(path) {
+        return false;
+    }
+    err(path);
+    err(b": not a regular file\n");
+    true
+}
+
+// The file, open for reading; or -1, and it is said why.
+fn open(path: &[u8]) -> i32 {
+    if is_special(path) {
+        return -1;
+    }
+    let fd = os::open_read(path);
+    if fd < 0 {
+        os::fail(path);
+    }
+    fd
+}
+
 // Reads the file behind fd, and says what went wrong.
 fn load(path: &[u8], fd: i32, buf: &mut [u8]) -> Got
     ensures { λ r. ⌜ Counts (r .count) (now (buf .exit)) ⌝ }
@@ -72,9 +94,8 @@ fn refuse(path: &[u8], card: &[u8], r: u8) {
 }
 
 pub fn show(path: &[u8]) {
-    let fd = os::open_read(path);
+    let fd = open(path);
     if fd < 0 {
-        os::fail(path);
         return;
     }
     let mut buf = image::buffer();
@@ -158,9 +179,8 @@ fn natural(x: i64) -> u64 {
 
 // The block of a card that was read, over the disk's file.
 fn over_disk(name: &[u8], card: &[u8], path: &[u8], b: u64) {
-    let fd = os::open_read(path);
+    let fd = open(path);
     if fd < 0 {
-        os::fail(path);
         return;
     }
     let long = libc::lseek(fd, 0, libc::SEEK_END);
@@ -173,9 +193,8 @@ fn over_disk(name: &[u8], card: &[u8], path: &[u8], b: u64) {
 }
 
 pub fn block(path: &[u8], disk: &[u8], b: u64) {
-    let fd = os::open_read(path);
+    let fd = open(path);
     if fd < 0 {
-        os::fail(path);
         return;
     }
     let mut buf = image::buffer();
@@ -234,6 +253,9 @@ fn repair(path: &[u8], fd: i32, card: &mut [u8], allowance: u64) {
 }
 
 pub fn recover(path: &[u8], allowance: u64) {
+    if is_special(path) {
+        return;
+    }
     let fd = os::open_update(path);
     if fd < 0 {
         os::fail(path);
