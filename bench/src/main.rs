@@ -35,6 +35,14 @@ struct RawState {
     counts: [u64; 2],
 }
 
+#[repr(C)]
+struct RawEntry {
+    kind: u32,
+    refusal: u32,
+    block: u64,
+    modified: u64,
+}
+
 extern "C" {
     fn tinca_format(k: u64, slots: u64, data_blocks: u64, disk_blocks: u64, card: *mut u8, length: usize) -> RawAnswer;
     fn tinca_commit(
@@ -59,6 +67,7 @@ extern "C" {
         out_length: usize,
     ) -> RawPlace;
     fn tinca_state_of(card: *const u8, length: usize) -> RawState;
+    fn tinca_cached(card: *const u8, length: usize, place: u64) -> RawEntry;
 }
 
 const ALL: u64 = u64::MAX;
@@ -238,7 +247,7 @@ fn others(k: u64, rounds: usize) -> Vec<(&'static str, f64)> {
     }
     let mut out = vec![0u8; block];
     let (card, disk) = (card.as_mut_ptr(), disk.as_mut_ptr());
-    let mut times = vec![Vec::new(); 8];
+    let mut times = vec![Vec::new(); 9];
     let mut time = |index: usize, run: &mut dyn FnMut(usize)| {
         let start = Instant::now();
         for turn in 0..32 {
@@ -268,6 +277,11 @@ fn others(k: u64, rounds: usize) -> Vec<(&'static str, f64)> {
             assert_eq!((state.kind, state.refusal, state.counts[0]), (0, 0, 64));
             black_box(state.geometry);
         });
+        time(8, &mut |turn| {
+            let entry = unsafe { tinca_cached(card, length, turn as u64) };
+            assert_eq!(entry.refusal, 0);
+            black_box((entry.kind, entry.block, entry.modified));
+        });
     }
     // recovery of a commit of 16 that was cut before its last store
     let mut cut = before.clone();
@@ -281,8 +295,17 @@ fn others(k: u64, rounds: usize) -> Vec<(&'static str, f64)> {
         done(unsafe { tinca_recover(card.as_mut_ptr(), length, ALL) });
         times[6].push(start.elapsed().as_nanos() as f64);
     }
-    let names =
-        ["load", "evict, clean", "evict, modified", "read from card", "read from disk", "recover, settled", "recover, 16 to undo", "state"];
+    let names = [
+        "load",
+        "evict, clean",
+        "evict, modified",
+        "read from card",
+        "read from disk",
+        "recover, settled",
+        "recover, 16 to undo",
+        "state",
+        "cached",
+    ];
     names.into_iter().zip(times.into_iter().map(median)).collect()
 }
 

@@ -956,6 +956,24 @@ mod tests {
         assert_eq!(drill(&Model::default()), DRILL);
     }
 
+    /// The rows of docs/CARD.md that say which call gives which refusal, as numbers.
+    fn told_refusals(page: &str) -> Vec<(&str, Vec<usize>)> {
+        let rows = page.lines().skip_while(|line| !line.starts_with("| call | 1 |")).skip(2).take_while(|line| line.starts_with('|'));
+        rows.map(|row| {
+            let cells: Vec<&str> = row.split('|').map(str::trim).collect();
+            let numbers = (1..=14).filter(|number| cells[number + 1] == "x").collect();
+            (cells[1], numbers)
+        })
+        .collect()
+    }
+
+    #[test]
+    fn the_page_tells_the_refusals_of_each_call() {
+        let told = told_refusals(include_str!("../../docs/CARD.md"));
+        let given: Vec<(&str, Vec<usize>)> = CALLS.iter().zip(REFUSALS).map(|(call, numbers)| (*call, numbers.to_vec())).collect();
+        assert_eq!(told, given);
+    }
+
     #[test]
     fn a_model_equals_itself() {
         let model = Model::default();

@@ -258,7 +258,8 @@ fn cached_in(g: Geometry, card: &[u8], i: u64) -> Cached
     if !codec::in_use(e) {
         return Cached::Nothing;
     }
-    Cached::Block(e.number, codec::is_modified(e))
+    let modified = codec::is_modified(e);
+    Cached::Block(e.number, modified)
 }
 
 // What the entry at place i of a settled card caches.
