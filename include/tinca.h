@@ -1,16 +1,17 @@
 /*
  * tinca: a write-back cache card in front of a disk, proved against power cuts at every store.
  *
- * Promised. A call that stores makes its stores in a fixed order, each of a whole unit: an 8-byte word, a 16-byte entry, a
- * 512-byte disk sector. Wherever they stop, a recovery that answers "done" leaves the card settled, and a settled card reads,
- * byte for byte, as the last commit that answered "done" left it. This holds over every list of calls from a formatted card,
- * recoveries cut again and again among them. It is proved of the code. Each call takes every input, always returns, and
- * refuses by number before any store, so that a refusal changes nothing.
+ * Promised. Each call that stores has a list of stores, worked out in docs/CARD.md: of an 8-byte word, a 16-byte entry or a
+ * 512-byte disk sector each. Wherever that list stops between two stores, a recovery that answers "done" leaves the card
+ * settled, and a settled card reads, byte for byte, as the last commit that answered "done" left it. This holds over every
+ * list of calls from a formatted card, recoveries cut again and again among them. It is proved of the code: the bytes that a
+ * call leaves are those after so many stores of its list. Each call takes every input, always returns, and refuses by number
+ * before any store, so that a refusal changes nothing.
  *
- * Not promised. The proof speaks of whole units in the order in which the program makes them. The compiled code makes a unit
- * by one instruction or by several (an entry takes a dozen), and a processor's cache hands them to the card in an order of its
- * own: a process that stores straight into a card's memory and dies inside a unit can leave a save torn. docs/ORDER.md says
- * what a station must do. The card has no checksum: some damage by other hands reads as another lawful card.
+ * Not promised. That the machine stores by these units: the compiled code makes an entry by a dozen instructions, and a
+ * processor's cache hands them to the card in an order of its own. A process that works straight in a card's memory and dies
+ * inside a unit can leave a save torn, or a card that is refused. docs/ORDER.md says what a station must do. The card has no
+ * checksum: some damage by other hands reads as another lawful card.
  *
  * The names. k, S, N, D are given to tinca_format and stand in the card's header from then on; tinca_state_of tells them.
  *
@@ -22,7 +23,7 @@
  *     place        the place of an entry on the card, below N
  *
  * The allowance of a call is how many of its stores still happen: it says where the power fails, for tests and drills. A
- * station in service passes UINT64_MAX; its power fails where it does, and that is the same card as some allowance leaves.
+ * station in service passes UINT64_MAX.
  *
  * Slices. A pointer and a length in bytes, but for `numbers`, whose length is a count. A pointer may be null where its length
  * is 0; a null with another length is used as an address, which ends the process. `numbers` is aligned as a uint64_t is. All
@@ -33,7 +34,8 @@
  * Threads. Nothing here locks or keeps anything between calls: one thread a card at a time, with its disk. Different cards
  * are independent.
  *
- * docs/CARD.md has the bytes of the card, each call's stores in order, and the rule on cuts.
+ * docs/CARD.md has the bytes of the card, each call's stores in order, and the rule on cuts. An install has these pages in
+ * share/doc/tinca.
  */
 #ifndef TINCA_H
 #define TINCA_H
@@ -182,8 +184,8 @@ tinca_answer tinca_load(uint8_t *card, size_t card_len, const uint8_t *disk, siz
 tinca_answer tinca_evict(uint8_t *card, size_t card_len, uint8_t *disk, size_t disk_len, uint64_t block, uint64_t allowance);
 
 /* Undoes what a cut commit left; on a settled card it makes no store. To be called at start-up, before all else: a station
- * cannot know whether its power failed in a commit. A cut one goes on where it stopped. Done, cut, or refused with 1, 2 or 4
- * to 6. */
+ * cannot know whether its power failed in a commit. After a cut one the next goes on where it stopped. Done, cut, or refused
+ * with 1, 2 or 4 to 6. */
 tinca_answer tinca_recover(uint8_t *card, size_t card_len, uint64_t allowance);
 
 /* Copies a block to `out`, B bytes, and tells where it lies. Refused with 1 to 7, 9 or 10; `out` is then untouched. */
