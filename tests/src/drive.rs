@@ -947,6 +947,7 @@ pub const DRILL: &str = "allowance,commit,recovery,byte\n64,cut,0,0\n65,cut,1,0\
 #[cfg(test)]
 mod tests {
     use super::*;
+    use crate::ffi::Library;
     use crate::model::*;
 
     const SMALL: Geometry = Geometry { k: 9, slots: 8, data_blocks: 4, disk_blocks: 6 };
@@ -972,6 +973,34 @@ mod tests {
         let told = told_refusals(include_str!("../../docs/CARD.md"));
         let given: Vec<(&str, Vec<usize>)> = CALLS.iter().zip(REFUSALS).map(|(call, numbers)| (*call, numbers.to_vec())).collect();
         assert_eq!(told, given);
+    }
+
+    /// A card on which block 3 was saved, changed in one byte by other hands.
+    fn saved_and_damaged(at: usize, byte: u8) -> (Vec<u8>, Vec<u8>) {
+        let (mut card, disk) = (vec![0; SMALL.card_length()], vec![0; SMALL.disk_length()]);
+        assert_eq!(Library.format(SMALL.k, SMALL.slots, SMALL.data_blocks, SMALL.disk_blocks, &mut card), Answer::Done(0));
+        assert_eq!(Library.commit(&mut card, &[3], &[7; 512], u64::MAX), Answer::Done(69));
+        assert_ne!(card[at], byte);
+        card[at] = byte;
+        (card, disk)
+    }
+
+    fn first_byte(card: &[u8], disk: &[u8]) -> u8 {
+        let mut out = vec![1; SMALL.block()];
+        assert!(!matches!(Library.read(card, disk, 3, &mut out), Place::Refused(_)));
+        out[0]
+    }
+
+    /// The card has no checksums: both examples of README.md and docs/CARD.md pass every check and lose the save.
+    #[test]
+    fn some_damage_reads_as_another_lawful_card() {
+        let (mut card, disk) = saved_and_damaged(79, 2);
+        assert_eq!(Library.recover(&mut card, u64::MAX), Answer::Done(2));
+        assert_eq!(first_byte(&card, &disk), 0);
+        let (mut card, mut disk) = saved_and_damaged(SMALL.entry_at(0), 0x80);
+        assert_eq!(first_byte(&card, &disk), 7);
+        assert_eq!(Library.evict(&mut card, &mut disk, 3, u64::MAX), Answer::Done(1));
+        assert_eq!(first_byte(&card, &disk), 0);
     }
 
     #[test]
