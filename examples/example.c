@@ -6,7 +6,7 @@
 
 #include "tinca.h"
 
-enum { K = 9, SLOTS = 8, DATA_BLOCKS = 4, DISK_BLOCKS = 16, BLOCK = TINCA_BLOCK_LENGTH(K) };
+enum { K = 9, SLOTS = 8, DATA_BLOCKS = 4, DISK_BLOCKS = 16, BLOCK_BYTES = TINCA_BLOCK_LENGTH(K) };
 
 static uint8_t card[TINCA_CARD_LENGTH(K, SLOTS, DATA_BLOCKS)];
 static uint8_t disk[TINCA_DISK_LENGTH(K, DISK_BLOCKS)];
@@ -23,7 +23,7 @@ static void told(const char *call, tinca_answer answer)
 
 static void show(uint64_t block)
 {
-    uint8_t out[BLOCK];
+    uint8_t out[BLOCK_BYTES];
     tinca_place place = tinca_read(card, sizeof card, disk, sizeof disk, block, out, sizeof out);
     if (place.kind == TINCA_REFUSED)
         printf("block %" PRIu64 ": refused with %" PRIu32 ": %s\n", block, place.refusal, tinca_refusal_text(place.refusal));
@@ -59,7 +59,7 @@ int main(void)
 {
     const uint64_t numbers[2] = {3, 5};
     const uint64_t twice[2] = {3, 3};
-    uint8_t data[2 * BLOCK];
+    uint8_t data[2 * BLOCK_BYTES];
 
     told("format", tinca_format(K, SLOTS, DATA_BLOCKS, DISK_BLOCKS, card, sizeof card));
     memset(data, 7, sizeof data);

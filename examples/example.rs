@@ -3,7 +3,7 @@
 use tinca_tests::ffi::Library;
 use tinca_tests::{Answer, Cached, Calls, Place, State};
 
-const BLOCK: usize = 512;
+const BLOCK_BYTES: usize = 512;
 
 /// The refusals that occur here, in the words of the C header.
 fn text(number: u32) -> &'static str {
@@ -24,7 +24,7 @@ fn told(call: &str, answer: Answer) {
 }
 
 fn show(card: &[u8], disk: &[u8], block: u64) {
-    let mut out = [0; BLOCK];
+    let mut out = [0; BLOCK_BYTES];
     match Library.read(card, disk, block, &mut out) {
         Place::Card(..) => println!("block {block}: on the card, bytes {}", out[0]),
         Place::Disk(..) => println!("block {block}: on the disk, bytes {}", out[0]),
@@ -54,15 +54,15 @@ fn drain(card: &mut [u8], disk: &mut [u8], data_blocks: u64) {
 
 fn main() {
     let mut card = vec![0; 2304];
-    let mut disk = vec![0; 16 * BLOCK];
+    let mut disk = vec![0; 16 * BLOCK_BYTES];
     told("format", Library.format(9, 8, 4, 16, &mut card));
-    told("first save of 3 and 5", Library.commit(&mut card, &[3, 5], &[7; 2 * BLOCK], u64::MAX));
+    told("first save of 3 and 5", Library.commit(&mut card, &[3, 5], &[7; 2 * BLOCK_BYTES], u64::MAX));
     told("evict 5", Library.evict(&mut card, &mut disk, 5, u64::MAX));
     show(&card, &disk, 3);
     show(&card, &disk, 5);
 
-    told("a save of 3 twice", Library.commit(&mut card, &[3, 3], &[8; 2 * BLOCK], u64::MAX));
-    told("second save, power lost before its last store", Library.commit(&mut card, &[3, 5], &[8; 2 * BLOCK], 136));
+    told("a save of 3 twice", Library.commit(&mut card, &[3, 3], &[8; 2 * BLOCK_BYTES], u64::MAX));
+    told("second save, power lost before its last store", Library.commit(&mut card, &[3, 5], &[8; 2 * BLOCK_BYTES], 136));
     state(&card);
     show(&card, &disk, 3);
     told("recover, power lost again", Library.recover(&mut card, 1));
@@ -71,7 +71,7 @@ fn main() {
     show(&card, &disk, 3);
     show(&card, &disk, 5);
 
-    told("second save again", Library.commit(&mut card, &[3, 5], &[8; 2 * BLOCK], u64::MAX));
+    told("second save again", Library.commit(&mut card, &[3, 5], &[8; 2 * BLOCK_BYTES], u64::MAX));
     show(&card, &disk, 3);
     show(&card, &disk, 5);
 

@@ -1,8 +1,8 @@
 /*
  * tinca: a write-back cache card in front of a disk, proved against power cuts at every store.
  *
- * Promised. Each call that stores has a list of stores, worked out in docs/CARD.md: of an 8-byte word, a 16-byte entry or a
- * 512-byte disk sector each. Wherever that list stops between two stores, a recovery that answers "done" leaves the card
+ * Promised. Commit, load, evict and recover each have a list of stores (docs/CARD.md): of an 8-byte word, a 16-byte entry or
+ * a 512-byte disk sector each. Wherever that list stops between two stores, a recovery that answers "done" leaves the card
  * settled, and a settled card reads, byte for byte, as the last commit that answered "done" left it. This holds over every
  * list of calls from a formatted card, recoveries cut again and again among them. It is proved of the code: the bytes that a
  * call leaves are those after so many stores of its list. Each call takes every input, always returns, and refuses by number
@@ -22,14 +22,15 @@
  *     block        the number of a disk block, below D
  *     place        the place of an entry on the card, below N
  *
- * The allowance of a call is how many of its stores still happen: it says where the power fails, for tests and drills. A
- * station in service passes UINT64_MAX.
+ * The allowance of a call is how many of its stores still happen. A station in service passes UINT64_MAX, which makes them
+ * all. A smaller one says where the power fails, in tests and drills, and gives the stores one by one to a station that
+ * hands them to its card itself (docs/ORDER.md).
  *
  * Slices. A pointer and a length in bytes, but for `numbers`, whose length is a count. A pointer may be null where its length
- * is 0; a null with another length is used as an address, which ends the process. `numbers` is aligned as a uint64_t is. All
- * others may lie at any address; a card that units must reach whole lies at a multiple of 16 (docs/ORDER.md). Slices that a
- * call only reads may overlap. One that it writes (card, disk, out, as they are not const) may overlap no other: the proofs
- * then say nothing of the bytes that it leaves.
+ * is 0; a null with another length is used as an address wherever its bytes are looked at, and nothing is promised.
+ * `numbers` is aligned as a uint64_t is. All others may lie at any address; a card that units must reach whole lies at a
+ * multiple of 16 (docs/ORDER.md). Slices that a call only reads may overlap. One that it writes (card, disk, out, where they
+ * are not const) may overlap no other: the proofs then say nothing of the bytes that it leaves.
  *
  * Threads. Nothing here locks or keeps anything between calls: one thread a card at a time, with its disk. Different cards
  * are independent.
@@ -142,7 +143,8 @@ typedef struct {
     uint64_t length;
 } tinca_place;
 
-/* TINCA_SETTLED: in_use and modified count entries. TINCA_UNSETTLED, after a cut: undoable counts entries, window slots. */
+/* TINCA_SETTLED and TINCA_UNSETTLED: the geometry. TINCA_SETTLED: in_use and modified count entries. TINCA_UNSETTLED, after a
+ * cut: undoable counts entries, window slots. */
 typedef struct {
     uint32_t kind;
     uint32_t refusal;
@@ -157,7 +159,8 @@ typedef struct {
     };
 } tinca_state;
 
-/* TINCA_IN_USE: the entry caches that block; modified is 1 where the disk has an older version, else 0. TINCA_UNUSED: none. */
+/* TINCA_IN_USE: the entry caches that block; modified is 1 where an evict writes it (the disk may have an older version), 0
+ * where the disk has the same bytes. TINCA_UNUSED: none. */
 typedef struct {
     uint32_t kind;
     uint32_t refusal;

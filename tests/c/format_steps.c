@@ -1,4 +1,4 @@
-/* A format over a card in use, stopped after each machine instruction: until its last store the card is the old one or is refused.
+/* A format over a card in use, stopped after each machine instruction: until its last store the card is the old one or is refused with 1.
  *
  *     format_steps           the library's format
  *     format_steps --wrong   one that writes the header first, which must be reported
@@ -56,13 +56,13 @@ static void prepare(subject *s)
     tinca_format(K, s->slots, s->data_blocks, DISK_BLOCKS, s->made, s->length);
 }
 
-/* Whether the card, as it lies, would be taken for one, and is neither the old nor the new. */
+/* Whether the card is neither the old nor the new nor one that is refused for its header. */
 static int is_mixed(const subject *s)
 {
-    return tinca_state_of(s->card, s->length).kind != TINCA_REFUSED && memcmp(s->card, s->old, s->length) && memcmp(s->card, s->made, s->length);
+    return tinca_state_of(s->card, s->length).refusal != TINCA_BAD_HEADER && memcmp(s->card, s->old, s->length) && memcmp(s->card, s->made, s->length);
 }
 
-/* Formats in a child that stops after each instruction; answers how many stops left a card that is mixed and accepted. */
+/* Formats in a child that stops after each instruction; answers how many stops left a mixed card. */
 static long stepped(const subject *s, int wrong, long *stops)
 {
     long mixed = 0;
@@ -71,7 +71,8 @@ static long stepped(const subject *s, int wrong, long *stops)
     if (child < 0)
         fail("fork");
     if (child == 0) {
-        ptrace(PTRACE_TRACEME, 0, NULL, NULL);
+        if (ptrace(PTRACE_TRACEME, 0, NULL, NULL))
+            fail("a process cannot be stepped here");
         raise(SIGSTOP);
         if (wrong)
             wrong_format(s);
@@ -101,6 +102,6 @@ int main(int count, char **words)
         prepare(&subjects[i]);
         mixed += stepped(&subjects[i], wrong, &stops);
     }
-    printf("%ld instructions of two formats, %ld leave a card that is mixed and accepted\n", stops, mixed);
+    printf("%ld instructions of two formats, %ld leave a card that is neither old nor new nor refused with 1\n", stops, mixed);
     return (mixed > 0) != wrong;
 }

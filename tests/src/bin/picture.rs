@@ -138,7 +138,7 @@ fn draw_ring(page: &mut Page, y: i32, stage: &Stage) {
     for slot in 0..SMALL.slots {
         let inside = window.contains(&slot);
         page.frame(Frame::new(slot_x(slot), y + 27, SLOT, SLOT, if inside { UNDOABLE } else { PAPER }));
-        let ink = if inside || stage.part == Some(Part::Slot(slot)) { STRONG } else { FAINT };
+        let ink = if inside || stage.part == Some(Part::Slot(slot)) { PLAIN } else { FAINT };
         page.text(slot_x(slot) + SLOT / 2, y + 41, ink.centred(), &word(&stage.bytes, Part::Slot(slot)).to_string());
     }
     if let Some(Part::Slot(slot)) = stage.part {
@@ -283,7 +283,7 @@ const REASON: [&str; 3] = [
 
 fn draw_top(page: &mut Page, count: u64) {
     let [a, b] = SAVED;
-    let title = format!("A save of blocks {a} and {b} in {count} stores: a cut before the last one leaves the old blocks");
+    let title = format!("A save of blocks {a} and {b} in {count} stores: after a cut before the last one a recovery gives the old blocks");
     page.text(MARGIN, 28, Ink { size: 17, ..STRONG }, &title);
     for (line, text) in (0..).zip(REASON) {
         page.text(MARGIN, 50 + 17 * line, Ink { size: 12, ..PLAIN }, text);
