@@ -50,8 +50,8 @@
 /* Lengths in bytes, as constants where their arguments are: of a block, of a card, of a disk. */
 #define TINCA_BLOCK_LENGTH(k) ((size_t)1 << (k))
 #define TINCA_CARD_LENGTH(k, slots, data_blocks) \
-    (128 + 8 * (size_t)(slots) + 16 * (size_t)(data_blocks) + (size_t)(data_blocks) * TINCA_BLOCK_LENGTH(k))
-#define TINCA_DISK_LENGTH(k, disk_blocks) ((size_t)(disk_blocks) * TINCA_BLOCK_LENGTH(k))
+    (128 + 8 * (size_t)(slots) + 16 * (size_t)(data_blocks) + ((size_t)(data_blocks) << (k)))
+#define TINCA_DISK_LENGTH(k, disk_blocks) ((size_t)(disk_blocks) << (k))
 
 #ifdef __cplusplus
 extern "C" {

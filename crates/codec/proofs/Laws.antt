@@ -1,6 +1,6 @@
--- A block's size by a shift, an entry's bytes put one field after the other, and a single entry's refusals in their order. By the laws of
+-- Products with B by shifts, an entry's bytes put one field after the other, and a single entry's refusals in their order. By the laws of
 -- patches side by side and by cases on the tests; assumes nothing.
-use Prim.Native.Nat.{ℕ, _+_, _*_, _%_, _^_, _≤_}
+use Prim.Native.Nat.{ℕ, _+_, _*_, _%_, _^_, _≤_, _<_}
 use mathlib.Core.List.{List, [], _∷_, _++_}
 use mathlib.Core.Bool.{Bool, true, false, _&&_}
 use mathlib.Core.Path.{_≡_, refl, sym, ap, _∙_}
@@ -8,21 +8,41 @@ use native.Mathlib.Nat.{one-mul}
 use native.Mathlib.Omega.{arith}
 use lib.ListN.{length, set, replicate}
 use lib.Pow.{shl-exact}
+use mir.Syntax.{w64, shl}
+use mir.Val.{vint, op2Val}
 use borrow.Author.Tests.{eq-eqb, ne-eqb}
 use Rattle.numbers.specs.Bytes.{bytesBE, patch}
 use Rattle.numbers.proofs.Laws.{length-patch, part-all, part-patch-same, patch-append, patch-one, patch-comm}
 use Rattle.protocol.specs.declared.Entry.{Entry}
+use Rattle.protocol.specs.declared.Geometry.{Geometry}
 use Rattle.protocol.specs.Entry.{entryBytes, entryIn, goodEntry}
 use Rattle.protocol.proofs.Codec.{length-entry}
-use Rattle.protocol.specs.Layout.{goodBlocks, goodDisk}
+use Rattle.protocol.specs.Layout.{goodBlocks, goodDisk, goodGeometry, blockSize}
+use Rattle.protocol.proofs.Checks.{limits}
 use Rattle.protocol.specs.Check.{refuse, _orElse_}
 use Rattle.protocol.specs.Format.{outcomeOf, entryRefusal, decoded, encoded}
 use Rattle.protocol.specs.declared.Outcome.the-variants.{Done, Refused}
 use Rattle.protocol.specs.declared.Decoded.the-variants.{Fields, Refused as RefusedEntry}
 use Rattle.protocol.specs.declared.Encoded.{Encoded}
 
+-- the shift of n by k places is the product with 2 ^ k, for every number of blocks and every k that a card may have
+pub shifted : (n k : ℕ) → n ≤ 65536 → k ≤ 12 → n * 2 ^ k % 2 ^ 64 ≡ n * 2 ^ k
+shifted n k h l = shl-exact 17 k 64 (omega arith) (omega arith)
+
+-- document 02's ask 3 of the language's own shift: "for every data block below N and disk block below D this equals the product with B"
+module _ (g : Geometry) (good : goodGeometry g ≡ true) where
+  shift-is : (n : ℕ) → n ≤ 65536 → op2Val shl (vint w64 n) (vint w64 (g .k)) ≡ vint w64 (n * blockSize g)
+  unfolding blockSize
+  shift-is n h = let l = limits g good in ap (vint w64) (shifted n (g .k) h (l .k .1))
+
+  pub data-shift : (p : ℕ) → p < g .blocks → op2Val shl (vint w64 p) (vint w64 (g .k)) ≡ vint w64 (p * blockSize g)
+  data-shift p h = let l = limits g good in shift-is p (omega arith)
+
+  pub disk-shift : (b : ℕ) → b < g .disk → op2Val shl (vint w64 b) (vint w64 (g .k)) ≡ vint w64 (b * blockSize g)
+  disk-shift b h = let l = limits g good in shift-is b (omega arith)
+
 pub shift-one : (k : ℕ) → k ≤ 12 → 1 * 2 ^ k % 2 ^ 64 ≡ 2 ^ k
-shift-one k h = shl-exact 1 k 64 (omega arith) (omega arith) ∙ one-mul (2 ^ k)
+shift-one k h = shifted 1 k (omega arith) h ∙ one-mul (2 ^ k)
 
 -- one part put, and the next one behind it
 pub put-then : (s₀ s₁ s₂ : List ℕ) (at : ℕ) (bs : List ℕ) (to : ℕ) (cs : List ℕ) → s₁ ≡ patch s₀ at bs → s₂ ≡ patch s₁ to cs

@@ -9,7 +9,7 @@ use protocol::Geometry;
 use protocol::Outcome;
 ghost use mathlib.Core.Path.{_≡_};
 ghost use mathlib.Core.Bool.{true};
-ghost use Prim.Native.Nat.{_+_, _≤_};
+ghost use Prim.Native.Nat.{_+_, _*_, _≤_};
 ghost use lib.ListN.{length};
 ghost use Rattle.numbers.specs.Bytes.{patch};
 ghost use Rattle.protocol.specs.Layout.{goodK, goodSlots, goodBlocks, goodDisk, goodGeometry, blockSize, cardLength};
@@ -59,12 +59,20 @@ pub fn block_size(g: Geometry) -> u64
     1u64 << g.k
 }
 
+// n·B: where block n of a row of blocks begins, and how long n blocks are. A shift by k places, for boards that have no wide multiply.
+pub fn block_offset(g: Geometry, n: u64) -> u64
+    requires { ⌜ (goodGeometry g ≡ true) × (n ≤ 65536) ⌝ }
+    ensures { λ r. ⌜ r ≡ n * blockSize g ⌝ }
+{
+    n << g.k
+}
+
 // The length of a card. Within the limits no sum wraps.
 pub fn card_length(g: Geometry) -> u64
     requires { ⌜ goodGeometry g ≡ true ⌝ }
     ensures { λ r. ⌜ r ≡ cardLength g ⌝ }
 {
-    128 + 8 * g.slots + 16 * g.blocks + g.blocks * block_size(g)
+    128 + 8 * g.slots + 16 * g.blocks + block_offset(g, g.blocks)
 }
 
 // V, bit 80.

@@ -3,7 +3,7 @@
 use Prim.Native.Nat.{ℕ, zero, suc, _+_, _*_, _/_, _^_, _≤_, _<_}
 use mathlib.Core.List.{List, [], _∷_, _++_}
 use mathlib.Core.Path.{_≡_, refl, sym, ap, subst, _∙_}
-use native.Mathlib.Nat.{mul-le-mul, suc-mul, zero-mul, mul-add}
+use native.Mathlib.Nat.{mul-le-mul, suc-mul, zero-mul, mul-add, mul-assoc, mul-div-cancel}
 use native.Mathlib.Numerals.{add-one}
 use native.Mathlib.Omega.{arith}
 use lib.ListN.{length, getD, length-append}
@@ -20,6 +20,7 @@ use Rattle.protocol.specs.Store.{card, Run, flat, single, units, words, entrySt
 use Rattle.protocol.specs.Commit.{numberOf, entryFound, logEntry, dataOf, headAfter, blockRuns, switchRuns, commitRuns, commitWork}
 use Rattle.protocol.proofs.Checks.{Limits, limits}
 use Rattle.protocol.proofs.Stores.{flat-append, length-units}
+use Rattle.protocol.proofs.Region.{whole}
 use Rattle.ring.specs.Fitted.{Fitted}
 use Rattle.ring.proofs.Laws.{fitted-long}
 use Rattle.checks.specs.Keys.{keyAt}
@@ -120,23 +121,22 @@ plan-made g p h ns bs end left a b r xs ys zs ws x y e z =
     (did-same (sym (flat-append switches _))
     (did-then y (did-same (ap (λ (v : ℕ). wordStore 72 v ∷ []) e) z))))
 
--- m fits a word
-module _ (g : Geometry) (n b : ℕ) (h : (goodGeometry g ≡ true) × (n < g .slots)) (e : b ≡ blockSize g) where
-  count-small : n * (b / 8 + 4) ≤ 132096
-  count-small =
-      let l : Limits g = limits g (h .0) in
-      let few : n ≤ 256 = omega (arith, h .1) in
-      let size : b / 8 + 4 ≤ 516 = omega arith in
-      mul-le-mul few size
+-- m from n·B, which is a shift: its words, and four stores more for each block
+module _ (g : Geometry) (n : ℕ) (h : (goodGeometry g ≡ true) × (n < g .slots)) where
+  pub count-small : n ≤ 65536
+  count-small = let l : Limits g = limits g (h .0) in omega (arith, h .1)
 
-  pub count-times : n * (b / 8 + 4) < 2 ^ 64
-  count-times = omega (arith, count-small)
+  module _ (o : ℕ) (e : o ≡ n * blockSize g) where
+    pub count-bytes : o ≤ 65536 * 4096
+    count-bytes = let l : Limits g = limits g (h .0) in rw e (mul-le-mul count-small (l .size .1))
 
-  pub count-sum : n * (b / 8 + 4) + 1 < 2 ^ 64
-  count-sum = omega (arith, count-small)
+    count-words : o / 8 ≡ n * (blockSize g / 8)
+    count-words =
+        ap (λ (z : ℕ). z / 8) (e ∙ ap (λ (z : ℕ). n * z) (sym (whole g (limits g (h .0)) .in-words)) ∙ sym (mul-assoc n (blockSize g / 8) 8))
+        ∙ mul-div-cancel (n * (blockSize g / 8)) (omega arith)
 
-  pub count-is : n * (b / 8 + 4) + 1 ≡ n * (blockSize g / 8 + 4) + 1
-  count-is = ap (λ (z : ℕ). n * (z / 8 + 4) + 1) e
+    pub count-is : o / 8 + 4 * n + 1 ≡ n * (blockSize g / 8 + 4) + 1
+    count-is = omega (arith, count-words, mul-add n (blockSize g / 8) 4)
 
 -- ---- what the checks have passed
 

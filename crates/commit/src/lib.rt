@@ -73,7 +73,7 @@ fn make_block(
     requires { ⌜ Fitted g (now card) × (at < g .blocks) × (e .current < g .blocks) × (i * blockSize g + blockSize g ≤ length (now «data»)) × (head < g .slots) × (i < g .slots) ⌝ }
     ensures { λ r. ⌜ Did Medium.card (flat (stepRuns g at e (now («data» .entry)) head i)) left (now (card .entry)) (now (card .exit)) r ⌝ }
 {
-    let from = i * codec::block_size(g) as usize;
+    let from = codec::block_offset(g, i as u64) as usize;
     let a = stores::make_words(g, card, e.current as u64, data, from, left);
     let b = stores::make_entry_at(g, card, at, e, a);
     log_number(g, card, head, i, e.number, b)
@@ -141,7 +141,7 @@ fn count_of(g: Geometry, n: usize) -> u64
     requires { ⌜ (goodGeometry g ≡ true) × (n < g .slots) ⌝ }
     ensures { λ r. ⌜ r ≡ n * (blockSize g / 8 + 4) + 1 ⌝ }
 {
-    n as u64 * (codec::block_size(g) / 8 + 4) + 1
+    codec::block_offset(g, n as u64) / 8 + 4 * n as u64 + 1
 }
 
 // Saves the blocks `numbers`, with their bytes side by side in `data`, as one commit. `allowance` stores still happen. Refused before any

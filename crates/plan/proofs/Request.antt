@@ -42,14 +42,9 @@ differ-end ns i j fresh a b q = let e : j ≡ i = omega arith in q ∙ ap (allBe
 pub slots-left : (g : Geometry) → goodGeometry g ≡ true → 1 ≤ g .slots
 slots-left g good = let l : Limits g = limits g good in omega arith
 
--- once the count has passed, n·B fits a word
-pub bytes-fit : (g : Geometry) (n b : ℕ) → goodGeometry g ≡ true → n ≤ g .slots - 1 → b ≡ blockSize g → n * b < 2 ^ 64
-bytes-fit g n b good few q =
-    let l : Limits g = limits g good in
-    let count : n ≤ 256 = omega arith in
-    let size : b ≤ 4096 = omega arith in
-    let h : n * b ≤ 1048576 = mul-le-mul count size in
-    omega arith
+-- a count that has passed is one that a shift takes
+pub count-small : (g : Geometry) (n : ℕ) → goodGeometry g ≡ true → n ≤ g .slots - 1 → n ≤ 65536
+count-small g n good few = let l : Limits g = limits g good in omega arith
 
 module _ (g : Geometry) (ns bs : List ℕ) where
   pub refused-none : length ns ≡ 0 → 8 ≡ requestRefusal g ns bs
@@ -71,21 +66,21 @@ module _ (g : Geometry) (ns bs : List ℕ) where
         orElse-next r (refuse 8 (countFits g ns)) _
         (refuse-passed 8 (countFits g ns) (rw (ne-eqb (length ns) 0 some, le-leb (length ns) (g .slots - 1) few))) e
 
-    pub refused-data : (b : ℕ) → b ≡ blockSize g → (length bs ≡ length ns * b → ⊥) → 9 ≡ requestRefusal g ns bs
+    pub refused-data : (long : ℕ) → long ≡ length ns * blockSize g → (length bs ≡ long → ⊥) → 9 ≡ requestRefusal g ns bs
     unfolding dataFits
-    refused-data b q h =
+    refused-data long q h =
         past-count 9
         (orElse-first 9 (refuse 9 (dataFits g ns bs)) _
-        (refuse-failed 9 (dataFits g ns bs) (ne-eqb (length bs) (length ns * blockSize g) (λ e. h (e ∙ ap (λ (z : ℕ). length ns * z) (sym q)))))
+        (refuse-failed 9 (dataFits g ns bs) (ne-eqb (length bs) (length ns * blockSize g) (λ e. h (e ∙ sym q))))
         (omega arith))
 
-    module _ (b : ℕ) (q : b ≡ blockSize g) (sized : length bs ≡ length ns * b) where
+    module _ (long : ℕ) (q : long ≡ length ns * blockSize g) (sized : length bs ≡ long) where
       past-data : (r : ℕ) → r ≡ refuse 10 (numbersFit g ns) orElse refuse 11 (numbersApart ns) → r ≡ requestRefusal g ns bs
       unfolding dataFits
       past-data r e =
           past-count r
           (orElse-next r (refuse 9 (dataFits g ns bs)) _
-          (refuse-passed 9 (dataFits g ns bs) (eq-eqb (length bs) (length ns * blockSize g) (sized ∙ ap (λ (z : ℕ). length ns * z) q)))
+          (refuse-passed 9 (dataFits g ns bs) (eq-eqb (length bs) (length ns * blockSize g) (sized ∙ q)))
           e)
 
       pub refused-number : (t : Bool) → t ≡ numbersFit g ns → not t ≡ true → 10 ≡ requestRefusal g ns bs

@@ -62,7 +62,7 @@ fn numbers_apart(numbers: &[u64]) -> bool
     true
 }
 
-// 8 to 11, which the numbers and the data decide alone. Nothing is multiplied before the count has passed.
+// 8 to 11, which the numbers and the data decide alone. Nothing is shifted before the count has passed: n·B then fits a word.
 fn request_refusal(g: Geometry, numbers: &[u64], data: &[u8]) -> u8
     requires { ⌜ goodGeometry g ≡ true ⌝ }
     ensures { λ r. ⌜ r ≡ requestRefusal g (now (numbers .entry)) (now («data» .entry)) ⌝ }
@@ -74,7 +74,7 @@ fn request_refusal(g: Geometry, numbers: &[u64], data: &[u8]) -> u8
     if g.slots - 1 < n {
         return 8;
     }
-    if data.len() as u64 != n * codec::block_size(g) {
+    if data.len() as u64 != codec::block_offset(g, n) {
         return 9;
     }
     if !numbers_fit(g, numbers) {

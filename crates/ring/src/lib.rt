@@ -14,7 +14,7 @@ pub fn disk_length(g: Geometry) -> u64
     requires { ⌜ goodGeometry g ≡ true ⌝ }
     ensures { λ r. ⌜ r ≡ diskLength g ⌝ }
 {
-    g.disk * codec::block_size(g)
+    codec::block_offset(g, g.disk)
 }
 
 // The geometry that the header spells, its fields within their limits or not.

@@ -1,6 +1,6 @@
 -- Stores made under an allowance: lists of them one after the other, one store, units side by side, and what a call answers once its list is
 -- made. By the one law that an allowance is spent on the first list and what is left of it on the second. Assumes nothing.
-use Prim.Native.Nat.{ℕ, zero, suc, _+_, _*_, _-_, _/_, _≤_, _<_, min}
+use Prim.Native.Nat.{ℕ, zero, suc, _+_, _*_, _-_, _/_, _%_, _^_, _≤_, _<_, min}
 use mathlib.Core.List.{List, [], _∷_, _++_}
 use mathlib.Core.Bool.{true, cond}
 use mathlib.Core.Path.{_≡_, refl, sym, ap, subst, _∙_}
@@ -29,6 +29,7 @@ use Rattle.protocol.proofs.Below.{below-or-above}
 use Rattle.protocol.proofs.Checks.{limits}
 use Rattle.protocol.proofs.Region.{block-ends, whole, entry, block, in-card, place-entry, place-block}
 use Rattle.protocol.proofs.Made.{in-disk}
+use Rattle.codec.proofs.Laws.{shifted}
 use Rattle.stores.specs.Did.{Did, cardStore}
 
 -- ---- lists of stores
@@ -90,57 +91,71 @@ one-made at bs (suc a) xs ys h e = record { made = e ∙ go a; left = refl }
 
 -- ---- units side by side
 
--- as many of the count as the allowance gives
-pub allowed-bytes : (k n a w : ℕ) → k ≡ min n a → k * w ≤ n * w
-allowed-bytes k n a w e = mul-le-mul-right w (omega arith)
+-- n units of 2 ^ j bytes, of which an allowance of a gives k
+module _ (j n a k : ℕ) (small : j ≤ 9) (few : n ≤ 512) (e : k ≡ min n a) where
+  units-below : k * 2 ^ j ≤ n * 2 ^ j
+  units-below = mul-le-mul-right (2 ^ j) (omega arith)
 
-pub units-did : (m : Medium) (w n at a k : ℕ) (src xs ys : List ℕ) (from : ℕ) → from + n * w ≤ length src → k ≡ min n a
-    → ys ≡ patch xs at (part src from (k * w)) → Did m (units m w n at (part src from (n * w))) a xs ys (a - k)
-unfolding part
-units-did m w n at a k src xs ys from h e p =
-    record {
-      made = p ∙ ap (patch xs at) (sym front) ∙ sym first ∙ ap (λ (us : List Store). madeOn m us xs) (sym few);
-      left = omega (arith, length-units m w n at bytes);
-    }
-  where
-    bytes : List ℕ
-    bytes = part src from (n * w)
+  -- the bytes of the k units are a shift
+  units-shifted : k * 2 ^ j % 2 ^ 64 ≡ k * 2 ^ j
+  units-shifted = shifted k j (omega arith) (omega arith)
 
-    front : take (k * w) (part src from (n * w)) ≡ part src from (k * w)
-    front = take-take (k * w) (n * w) _ (allowed-bytes k n a w e)
+  pub units-room : (at end : ℕ) → at + n * 2 ^ j ≤ end → at + k * 2 ^ j % 2 ^ 64 ≤ end
+  units-room at end h = rw units-shifted (omega (arith, units-below))
 
-    first : madeOn m (take k (units m w n at bytes)) xs ≡ patch xs at (take (k * w) bytes)
-    first = units-made m w k n at bytes xs (omega arith) (omega (arith, length-part src from (n * w) h))
+  pub units-did : (m : Medium) (at : ℕ) (src xs ys : List ℕ) (from : ℕ) → from + n * 2 ^ j ≤ length src
+      → ys ≡ patch xs at (part src from (k * 2 ^ j % 2 ^ 64)) → Did m (units m (2 ^ j) n at (part src from (n * 2 ^ j))) a xs ys (a - k)
+  unfolding part
+  units-did m at src xs ys from h p =
+      record {
+        made =
+            p
+            ∙ ap (λ (z : ℕ). patch xs at (part src from z)) units-shifted
+            ∙ ap (patch xs at) (sym front)
+            ∙ sym first
+            ∙ ap (λ (us : List Store). madeOn m us xs) (sym some);
+        left = omega (arith, length-units m (2 ^ j) n at bytes);
+      }
+    where
+      bytes : List ℕ
+      bytes = part src from (n * 2 ^ j)
 
-    few : take a (units m w n at bytes) ≡ take k (units m w n at bytes)
-    few =
-        ⊎-elim
-        (λ (l : a < n). let i : a ≡ k = omega arith in ap (λ (i : ℕ). take i (units m w n at bytes)) i)
-        (λ (l : n ≤ a).
-        take-all a _ (omega (arith, length-units m w n at bytes)) ∙ sym (take-all k _ (omega (arith, length-units m w n at bytes))))
-        (below-or-above a n)
+      front : take (k * 2 ^ j) (part src from (n * 2 ^ j)) ≡ part src from (k * 2 ^ j)
+      front = take-take (k * 2 ^ j) (n * 2 ^ j) _ units-below
+
+      first : madeOn m (take k (units m (2 ^ j) n at bytes)) xs ≡ patch xs at (take (k * 2 ^ j) bytes)
+      first = units-made m (2 ^ j) k n at bytes xs (omega arith) (omega (arith, length-part src from (n * 2 ^ j) h))
+
+      some : take a (units m (2 ^ j) n at bytes) ≡ take k (units m (2 ^ j) n at bytes)
+      some =
+          ⊎-elim
+          (λ (l : a < n). let i : a ≡ k = omega arith in ap (λ (i : ℕ). take i (units m (2 ^ j) n at bytes)) i)
+          (λ (l : n ≤ a).
+          take-all a _ (omega (arith, length-units m (2 ^ j) n at bytes)) ∙ sym (take-all k _ (omega (arith, length-units m (2 ^ j) n at bytes))))
+          (below-or-above a n)
 
 -- ---- places
 
 -- within the limits of a good geometry no place wraps, and each block lies on its medium
-module _ (g : Geometry) (good : goodGeometry g ≡ true) (size : ℕ) (is : size ≡ blockSize g) where
-  pub block-fits : (p : ℕ) → p < g .blocks → Fits w64 (p * size)
-  block-fits p l = let k = limits g good in rw is (omega (arith, block-ends p (g .blocks) (blockSize g) l))
+module _ (g : Geometry) (good : goodGeometry g ≡ true) where
+  module _ (p : ℕ) (l : p < g .blocks) where
+    pub few-blocks : p ≤ 65536
+    few-blocks = let k = limits g good in omega arith
 
-  pub disk-fits : (b : ℕ) → b < g .disk → Fits w64 (b * size)
-  disk-fits b l = let k = limits g good in rw is (omega (arith, block-ends b (g .disk) (blockSize g) l))
+    module _ (first offset : ℕ) (at : first ≡ entryPlace g (g .blocks)) (is : offset ≡ p * blockSize g) where
+      pub block-sum : Fits w64 (first + offset)
+      unfolding entryPlace
+      block-sum = let k = limits g good in omega (arith, block-ends p (g .blocks) (blockSize g) l)
 
-  module _ (first : ℕ) (at : first ≡ entryPlace g (g .blocks)) (p : ℕ) (l : p < g .blocks) where
-    pub block-sum : Fits w64 (first + p * size)
-    unfolding entryPlace
-    block-sum = let k = limits g good in rw is (omega (arith, block-ends p (g .blocks) (blockSize g) l))
+      pub block-placed : first + offset ≡ blockPlace g p
+      unfolding entryPlace blockPlace
+      block-placed = λ t. at t + is t
 
-    pub block-placed : first + p * size ≡ blockPlace g p
-    unfolding entryPlace blockPlace
-    block-placed = λ t. at t + p * is t
+  pub few-on-disk : (b : ℕ) → b < g .disk → b ≤ 65536
+  few-on-disk b l = let k = limits g good in omega arith
 
   -- the units of a block, its words or its sectors, are all of its bytes
-  module _ (src : List ℕ) (from : ℕ) where
+  module _ (size : ℕ) (is : size ≡ blockSize g) (src : List ℕ) (from : ℕ) where
     units-fit : (w at end : ℕ) → blockSize g / w * w ≡ blockSize g → at + blockSize g ≤ end → from + blockSize g ≤ length src
         → (at + size / w * w ≤ end) × (from + size / w * w ≤ length src)
     units-fit w at end e h k = rw (is, e) (h, k)
@@ -153,9 +168,11 @@ module _ (g : Geometry) (good : goodGeometry g ≡ true) (size : ℕ) (is : size
         (ap (λ (n : ℕ). units m w (n / w) at (part src from (n / w * w))) is ∙ (λ t. units m w (blockSize g / w) (h t) (part src from (e t))))
 
     pub words-fit : (s : List ℕ) (p at : ℕ) → length s ≡ cardLength g → p < g .blocks → from + blockSize g ≤ length src → at ≡ blockPlace g p
-        → (at + size / 8 * 8 ≤ length s) × (from + size / 8 * 8 ≤ length src)
+        → (3 ≤ 9) × (size / 8 ≤ 512) × (at + size / 8 * 8 ≤ length s) × (from + size / 8 * 8 ≤ length src)
     words-fit s p at n l h e =
-        units-fit 8 at (length s) (whole g (limits g good) .in-words) (omega (arith, in-card g (block p) (omega arith) l, place-block g p)) h
+        let k = limits g good in
+        let u = units-fit 8 at (length s) (whole g k .in-words) (omega (arith, in-card g (block p) (omega arith) l, place-block g p)) h in
+        (omega arith, omega arith, u .0, u .1)
 
     pub words-did : (p at a : ℕ) (xs ys : List ℕ) (r : ℕ) → at ≡ blockPlace g p
         → ((m : Medium) → Did m (units m 8 (size / 8) at (part src from (size / 8 * 8))) a xs ys r)
@@ -164,9 +181,11 @@ module _ (g : Geometry) (good : goodGeometry g ≡ true) (size : ℕ) (is : size
     words-did p at a xs ys r e x = units-are card 8 at (blockPlace g p) a xs ys r (whole g (limits g good) .in-words) e (x card)
 
     pub sectors-fit : (s : List ℕ) (b at : ℕ) → length s ≡ diskLength g → b < g .disk → from + blockSize g ≤ length src → at ≡ diskPlace g b
-        → (at + size / 512 * 512 ≤ length s) × (from + size / 512 * 512 ≤ length src)
+        → (9 ≤ 9) × (size / 512 ≤ 512) × (at + size / 512 * 512 ≤ length s) × (from + size / 512 * 512 ≤ length src)
     sectors-fit s b at n l h e =
-        units-fit 512 at (length s) (whole g (limits g good) .in-sectors) (omega (arith, in-disk g b l)) h
+        let k = limits g good in
+        let u = units-fit 512 at (length s) (whole g k .in-sectors) (omega (arith, in-disk g b l)) h in
+        (omega arith, omega arith, u .0, u .1)
 
     pub sectors-did : (b at a : ℕ) (xs ys : List ℕ) (r : ℕ) → at ≡ diskPlace g b
         → ((m : Medium) → Did m (units m 512 (size / 512) at (part src from (size / 512 * 512))) a xs ys r)

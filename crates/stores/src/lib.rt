@@ -6,7 +6,7 @@ use protocol::Geometry;
 ghost use mathlib.Core.Path.{_≡_};
 ghost use mathlib.Core.List.{[], _∷_};
 ghost use mathlib.Core.Bool.{true, cond};
-ghost use Prim.Native.Nat.{_+_, _*_, _≤_, _<_, min};
+ghost use Prim.Native.Nat.{_+_, _*_, _^_, _≤_, _<_, min};
 ghost use lib.ListN.{length};
 ghost use lib.Dec.{ltb};
 ghost use Rattle.numbers.specs.Bytes.{part};
@@ -50,22 +50,22 @@ fn allowed(count: usize, left: u64) -> usize
     }
 }
 
-// `count` units side by side from byte `to` of dst, with the bytes of src from `from` on: the words of a data block on the card, or the
-// sectors of a disk block. Those that happen stand at the front, so that they are one copy.
+// `count` units of 2 ^ `places` bytes side by side from byte `to` of dst, with the bytes of src from `from` on: the words of a data block on
+// the card, or the sectors of a disk block. Those that happen stand at the front, so that they are one copy.
 pub fn make_units(
     dst: &mut [u8],
     to: usize,
     src: &[u8],
     from: usize,
-    unit: usize,
+    places: u64,
     count: usize,
     left: u64,
 ) -> u64
-    requires { ⌜ (to + count * unit ≤ length (now dst)) × (from + count * unit ≤ length (now src)) ⌝ }
-    ensures { λ r. ⌜ ((m : Medium) → Did m (units m unit count to (part (now (src .entry)) from (count * unit))) left (now (dst .entry)) (now (dst .exit)) r) ⌝ }
+    requires { ⌜ (places ≤ 9) × (count ≤ 512) × (to + count * 2 ^ places ≤ length (now dst)) × (from + count * 2 ^ places ≤ length (now src)) ⌝ }
+    ensures { λ r. ⌜ ((m : Medium) → Did m (units m (2 ^ places) count to (part (now (src .entry)) from (count * 2 ^ places))) left (now (dst .entry)) (now (dst .exit)) r) ⌝ }
 {
     let n = allowed(count, left);
-    numbers::copy(dst, to, src, from, n * unit);
+    numbers::copy(dst, to, src, from, n << places);
     left - n as u64
 }
 
@@ -82,8 +82,7 @@ pub fn block_place(g: Geometry, p: u64) -> usize
     requires { ⌜ (goodGeometry g ≡ true) × (p < g .blocks) ⌝ }
     ensures { λ r. ⌜ r ≡ blockPlace g p ⌝ }
 {
-    let size = codec::block_size(g);
-    entry_place(g, g.blocks as usize) + (p * size) as usize
+    entry_place(g, g.blocks as usize) + codec::block_offset(g, p) as usize
 }
 
 // The place of block b on the disk.
@@ -91,7 +90,7 @@ pub fn disk_place(g: Geometry, b: u64) -> usize
     requires { ⌜ (goodGeometry g ≡ true) × (b < g .disk) ⌝ }
     ensures { λ r. ⌜ r ≡ diskPlace g b ⌝ }
 {
-    (b * codec::block_size(g)) as usize
+    codec::block_offset(g, b) as usize
 }
 
 // The entry e at place i of the card.
@@ -108,7 +107,7 @@ pub fn make_words(g: Geometry, s: &mut [u8], p: u64, src: &[u8], from: usize, le
     ensures { λ r. ⌜ Did card (words g p (part (now (src .entry)) from (blockSize g))) left (now (s .entry)) (now (s .exit)) r ⌝ }
 {
     let count = codec::block_size(g) / 8;
-    make_units(s, block_place(g, p), src, from, 8, count as usize, left)
+    make_units(s, block_place(g, p), src, from, 3, count as usize, left)
 }
 
 // The sectors of disk block b, with the bytes of src from `from` on.
@@ -117,7 +116,7 @@ pub fn make_sectors(g: Geometry, s: &mut [u8], b: u64, src: &[u8], from: usize, 
     ensures { λ r. ⌜ Did disk (sectors g b (part (now (src .entry)) from (blockSize g))) left (now (s .entry)) (now (s .exit)) r ⌝ }
 {
     let count = codec::block_size(g) / 512;
-    make_units(s, disk_place(g, b), src, from, 512, count as usize, left)
+    make_units(s, disk_place(g, b), src, from, 9, count as usize, left)
 }
 
 // The answer to a call that was not refused and has `count` stores.

@@ -1,14 +1,11 @@
 -- `make_block` makes the stores of one block.
-use Rattle.commit.proofs.Steps.{from-fits, from-room, stepped}
+use Rattle.commit.proofs.Steps.{turn-small, from-room, stepped}
 use borrow.Author.Needs.{needs}
 use Rattle.commit.proofs.make_block.Statement.{statement}
 use Rattle.commit.proofs.make_block.Tie as tie
 
-block-size-requires : tie.Need-block-size-requires
-block-size-requires c κs = search needs
-
-mul-from : tie.Need-mul-from
-mul-from c = record { fits = search (from-fits, needs) }
+block-offset-requires : tie.Need-block-offset-requires
+block-offset-requires c κs = search (turn-small, needs)
 
 cast-make-words : tie.Need-cast-make-words
 cast-make-words c = search needs
@@ -32,8 +29,7 @@ pub make-block-spec : {M : Type 1} → statement M
 make-block-spec =
     tie.close
     (tie.spec
-    block-size-requires
-    mul-from
+    block-offset-requires
     cast-make-words
     make-words-requires
     make-entry-at-requires

@@ -1,5 +1,5 @@
 -- `request_refusal` answers its definition: one law for each answer.
-use Rattle.plan.proofs.Request.{slots-left, bytes-fit, refused-none, refused-many, refused-data, refused-number, refused-twice, request-passed}
+use Rattle.plan.proofs.Request.{slots-left, count-small, refused-none, refused-many, refused-data, refused-number, refused-twice, request-passed}
 use borrow.Author.Needs.{needs}
 use Rattle.plan.proofs.request_refusal.Statement.{statement}
 use Rattle.plan.proofs.request_refusal.Tie as tie
@@ -13,11 +13,8 @@ sub-if2 c = search (slots-left, needs)
 returns-2 : tie.Need-returns-2
 returns-2 c = search (refused-many, needs)
 
-block-size-requires : tie.Need-block-size-requires
-block-size-requires c κs = search needs
-
-mul-if3 : tie.Need-mul-if3
-mul-if3 c = record { fits = search (bytes-fit, needs) }
+block-offset-requires : tie.Need-block-offset-requires
+block-offset-requires c κs = search (count-small, needs)
 
 returns-3 : tie.Need-returns-3
 returns-3 c = search (refused-data, needs)
@@ -44,8 +41,7 @@ request-refusal-spec =
     returns
     sub-if2
     returns-2
-    block-size-requires
-    mul-if3
+    block-offset-requires
     returns-3
     numbers-fit-requires
     returns-4

@@ -1,4 +1,4 @@
--- `disk_length` answers its definition, which does not wrap within the limits of a good geometry.
+-- `disk_length` answers its definition: D is the most blocks that a shift takes.
 use Rattle.protocol.proofs.Checks.{limits}
 use Rattle.protocol.specs.Layout.{diskLength}
 use borrow.Author.Needs.{needs}
@@ -6,15 +6,12 @@ use native.Mathlib.Omega.{arith}
 use Rattle.ring.proofs.disk_length.Statement.{statement}
 use Rattle.ring.proofs.disk_length.Tie as tie
 
-block-size-requires : tie.Need-block-size-requires
-block-size-requires c κs = search needs
-
-mul-result : tie.Need-mul-result
-mul-result c = let s = c .before .before in let l = limits (s .args .g) (s .pre) in rw (c .before .block-size .ensures) (omega arith)
+block-offset-requires : tie.Need-block-offset-requires
+block-offset-requires c κs = let l = limits (c .args .g) (c .pre) in (search needs, omega arith)
 
 returns : tie.Need-returns
 unfolding diskLength
 returns c = cc
 
 pub disk-length-spec : {M : Type 1} → statement M
-disk-length-spec = tie.close (tie.spec block-size-requires mul-result returns)
+disk-length-spec = tie.close (tie.spec block-offset-requires returns)

@@ -1,17 +1,14 @@
--- `block_place` answers its definition; within the limits neither product nor sum wraps.
+-- `block_place` answers its definition; within the limits the sum does not wrap.
 use borrow.Author.Needs.{needs}
-use Rattle.stores.proofs.Laws.{block-fits, block-sum, block-placed}
+use Rattle.stores.proofs.Laws.{few-blocks, block-sum, block-placed}
 use Rattle.stores.proofs.block_place.Statement.{statement}
 use Rattle.stores.proofs.block_place.Tie as tie
-
-block-size-requires : tie.Need-block-size-requires
-block-size-requires c κs = search needs
 
 entry-place-requires : tie.Need-entry-place-requires
 entry-place-requires c κs = search needs
 
-mul-result : tie.Need-mul-result
-mul-result c = search (block-fits, needs)
+block-offset-requires : tie.Need-block-offset-requires
+block-offset-requires c κs = search (few-blocks, needs)
 
 add-result : tie.Need-add-result
 add-result c = search (block-sum, needs)
@@ -20,5 +17,4 @@ returns : tie.Need-returns
 returns c = search (block-placed, needs)
 
 pub block-place-spec : {M : Type 1} → statement M
-block-place-spec =
-    tie.close (tie.spec block-size-requires entry-place-requires mul-result add-result returns)
+block-place-spec = tie.close (tie.spec entry-place-requires block-offset-requires add-result returns)

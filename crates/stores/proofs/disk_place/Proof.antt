@@ -1,19 +1,16 @@
--- `disk_place` answers its definition; within the limits the product does not wrap.
+-- `disk_place` answers its definition.
 use borrow.Author.Needs.{needs}
 use Rattle.protocol.specs.Layout.{diskPlace}
-use Rattle.stores.proofs.Laws.{disk-fits}
+use Rattle.stores.proofs.Laws.{few-on-disk}
 use Rattle.stores.proofs.disk_place.Statement.{statement}
 use Rattle.stores.proofs.disk_place.Tie as tie
 
-block-size-requires : tie.Need-block-size-requires
-block-size-requires c κs = search needs
-
-mul-result : tie.Need-mul-result
-mul-result c = search (disk-fits, needs)
+block-offset-requires : tie.Need-block-offset-requires
+block-offset-requires c κs = search (few-on-disk, needs)
 
 returns : tie.Need-returns
 unfolding diskPlace
 returns c = cc
 
 pub disk-place-spec : {M : Type 1} → statement M
-disk-place-spec = tie.close (tie.spec block-size-requires mul-result returns)
+disk-place-spec = tie.close (tie.spec block-offset-requires returns)
