@@ -1,2 +1,2 @@
--- What a run of stores makes of an entry's bytes.
+-- Shifts by k, an entry's bytes put field by field, a single entry's refusals.
 pub mod Laws

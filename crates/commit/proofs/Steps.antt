@@ -44,18 +44,14 @@ pub logged : (s h i slot next number a b r : ℕ) (xs ys zs : List ℕ) → slot
 unfolding slotStore slotPlace headStore
 logged s h i slot next number a b r xs ys zs p q x y = rw (← p, ← q) (did-then x y)
 
-module _ (g : Geometry) (i : ℕ) where
-  pub turn-small : (c : List ℕ) → Fitted g c → i < g .slots → i ≤ 65536
-  turn-small c f l = let k : Room g c = room g c f in omega arith
+module _ (g : Geometry) (i from : ℕ) (e : from ≡ i * blockSize g) (bs : List ℕ) where
+  pub from-room : i * blockSize g + blockSize g ≤ length bs → from + blockSize g ≤ length bs
+  from-room h = rw e h
 
-  module _ (from : ℕ) (e : from ≡ i * blockSize g) (bs : List ℕ) where
-    pub from-room : i * blockSize g + blockSize g ≤ length bs → from + blockSize g ≤ length bs
-    from-room h = rw e h
-
-    pub stepped : (at : ℕ) (x : Entry) (h left a d r : ℕ) (xs ys zs ws : List ℕ)
-        → Did card (words g (x .current) (part bs from (blockSize g))) left xs ys a → Did card (entryStore g at x ∷ []) a ys zs d
-        → Did card (slotStore (around (g .slots) h i) (x .number) ∷ headStore (around (g .slots) h (i + 1)) ∷ []) d zs ws r
-        → Did card (flat (stepRuns g at x bs h i)) left xs ws r
-    unfolding stepRuns flat single dataOf
-    stepped at x h left a d r xs ys zs ws p q s =
-        did-then (did-same (ap (λ (z : ℕ). words g (x .current) (part bs z (blockSize g))) e) p) (did-then q s)
+  pub stepped : (at : ℕ) (x : Entry) (h left a d r : ℕ) (xs ys zs ws : List ℕ)
+      → Did card (words g (x .current) (part bs from (blockSize g))) left xs ys a → Did card (entryStore g at x ∷ []) a ys zs d
+      → Did card (slotStore (around (g .slots) h i) (x .number) ∷ headStore (around (g .slots) h (i + 1)) ∷ []) d zs ws r
+      → Did card (flat (stepRuns g at x bs h i)) left xs ws r
+  unfolding stepRuns flat single dataOf
+  stepped at x h left a d r xs ys zs ws p q s =
+      did-then (did-same (ap (λ (z : ℕ). words g (x .current) (part bs z (blockSize g))) e) p) (did-then q s)

@@ -122,21 +122,20 @@ plan-made g p h ns bs end left a b r xs ys zs ws x y e z =
     (did-then y (did-same (ap (λ (v : ℕ). wordStore 72 v ∷ []) e) z))))
 
 -- m from n·B, which is a shift: its words, and four stores more for each block
-module _ (g : Geometry) (n : ℕ) (h : (goodGeometry g ≡ true) × (n < g .slots)) where
-  pub count-small : n ≤ 65536
-  count-small = let l : Limits g = limits g (h .0) in omega (arith, h .1)
+module _ (g : Geometry) (n o : ℕ) (h : (goodGeometry g ≡ true) × (n < g .slots)) (e : o ≡ n * blockSize g) where
+  pub count-small : (n ≤ 256) × (o ≤ 256 * 4096)
+  count-small =
+      let l : Limits g = limits g (h .0) in
+      let few : n ≤ 256 = omega (arith, h .1) in
+      (few, rw e (mul-le-mul few (l .size .1)))
 
-  module _ (o : ℕ) (e : o ≡ n * blockSize g) where
-    pub count-bytes : o ≤ 65536 * 4096
-    count-bytes = let l : Limits g = limits g (h .0) in rw e (mul-le-mul count-small (l .size .1))
+  count-words : o / 8 ≡ n * (blockSize g / 8)
+  count-words =
+      ap (λ (z : ℕ). z / 8) (e ∙ ap (λ (z : ℕ). n * z) (sym (whole g (limits g (h .0)) .in-words)) ∙ sym (mul-assoc n (blockSize g / 8) 8))
+      ∙ mul-div-cancel (n * (blockSize g / 8)) (omega arith)
 
-    count-words : o / 8 ≡ n * (blockSize g / 8)
-    count-words =
-        ap (λ (z : ℕ). z / 8) (e ∙ ap (λ (z : ℕ). n * z) (sym (whole g (limits g (h .0)) .in-words)) ∙ sym (mul-assoc n (blockSize g / 8) 8))
-        ∙ mul-div-cancel (n * (blockSize g / 8)) (omega arith)
-
-    pub count-is : o / 8 + 4 * n + 1 ≡ n * (blockSize g / 8 + 4) + 1
-    count-is = omega (arith, count-words, mul-add n (blockSize g / 8) 4)
+  pub count-is : o / 8 + 4 * n + 1 ≡ n * (blockSize g / 8 + 4) + 1
+  count-is = omega (arith, count-words, mul-add n (blockSize g / 8) 4)
 
 -- ---- what the checks have passed
 

@@ -138,21 +138,14 @@ module _ (j n a k : ℕ) (small : j ≤ 9) (few : n ≤ 512) (e : k ≡ min n a)
 
 -- within the limits of a good geometry no place wraps, and each block lies on its medium
 module _ (g : Geometry) (good : goodGeometry g ≡ true) where
-  module _ (p : ℕ) (l : p < g .blocks) where
-    pub few-blocks : p ≤ 65536
-    few-blocks = let k = limits g good in omega arith
+  module _ (p : ℕ) (l : p < g .blocks) (first offset : ℕ) (at : first ≡ entryPlace g (g .blocks)) (is : offset ≡ p * blockSize g) where
+    pub block-sum : Fits w64 (first + offset)
+    unfolding entryPlace
+    block-sum = let k = limits g good in omega (arith, block-ends p (g .blocks) (blockSize g) l)
 
-    module _ (first offset : ℕ) (at : first ≡ entryPlace g (g .blocks)) (is : offset ≡ p * blockSize g) where
-      pub block-sum : Fits w64 (first + offset)
-      unfolding entryPlace
-      block-sum = let k = limits g good in omega (arith, block-ends p (g .blocks) (blockSize g) l)
-
-      pub block-placed : first + offset ≡ blockPlace g p
-      unfolding entryPlace blockPlace
-      block-placed = λ t. at t + is t
-
-  pub few-on-disk : (b : ℕ) → b < g .disk → b ≤ 65536
-  few-on-disk b l = let k = limits g good in omega arith
+    pub block-placed : first + offset ≡ blockPlace g p
+    unfolding entryPlace blockPlace
+    block-placed = λ t. at t + is t
 
   -- the units of a block, its words or its sectors, are all of its bytes
   module _ (size : ℕ) (is : size ≡ blockSize g) (src : List ℕ) (from : ℕ) where

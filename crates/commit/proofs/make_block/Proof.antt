@@ -1,11 +1,13 @@
 -- `make_block` makes the stores of one block.
-use Rattle.commit.proofs.Steps.{turn-small, from-room, stepped}
+use Rattle.commit.proofs.Steps.{from-room, stepped}
+use Rattle.protocol.proofs.Checks.{limits}
 use borrow.Author.Needs.{needs}
+use native.Mathlib.Omega.{arith}
 use Rattle.commit.proofs.make_block.Statement.{statement}
 use Rattle.commit.proofs.make_block.Tie as tie
 
 block-offset-requires : tie.Need-block-offset-requires
-block-offset-requires c κs = search (turn-small, needs)
+block-offset-requires c κs = let l = limits (c .before .before .args .g) (c .before .before .pre .0 .good) in (search needs, omega arith)
 
 cast-make-words : tie.Need-cast-make-words
 cast-make-words c = search needs

@@ -1,6 +1,8 @@
 -- `block_place` answers its definition; within the limits the sum does not wrap.
+use Rattle.protocol.proofs.Checks.{limits}
 use borrow.Author.Needs.{needs}
-use Rattle.stores.proofs.Laws.{few-blocks, block-sum, block-placed}
+use native.Mathlib.Omega.{arith}
+use Rattle.stores.proofs.Laws.{block-sum, block-placed}
 use Rattle.stores.proofs.block_place.Statement.{statement}
 use Rattle.stores.proofs.block_place.Tie as tie
 
@@ -8,7 +10,7 @@ entry-place-requires : tie.Need-entry-place-requires
 entry-place-requires c κs = search needs
 
 block-offset-requires : tie.Need-block-offset-requires
-block-offset-requires c κs = search (few-blocks, needs)
+block-offset-requires c κs = let l = limits (c .before .args .g) (c .before .pre .0) in (search needs, omega arith)
 
 add-result : tie.Need-add-result
 add-result c = search (block-sum, needs)
