@@ -15,6 +15,7 @@ use Rattle.protocol.specs.declared.Answer.{Answer}
 use Rattle.protocol.specs.declared.Answer.the-variants.{Done, Cut, Refused}
 use Rattle.protocol.specs.declared.Outcome.the-variants.{Done as FormatDone, Refused as FormatRefused}
 use Rattle.protocol.specs.declared.Geometry.{Geometry}
+use Rattle.protocol.specs.declared.Map.{Map}
 use Rattle.protocol.specs.Layout.{goodGeometry, cardLength, diskLength, diskBlock, entryPlace}
 use Rattle.protocol.specs.Entry.{unused, entryIn, entryAt, inUse, hasLogRole, goodEntry}
 use Rattle.protocol.specs.Ring.{headOf, tailOf, windowLength, windowOf, usedAt, undoableAt, isSettled}
@@ -31,7 +32,7 @@ use Rattle.protocol.proofs.Below.{either, absurd-bool, and-left}
 use Rattle.protocol.proofs.Checks.{Limits, limits}
 use Rattle.protocol.proofs.Codec.{entry-of-part, header-formatted, length-formatted, zero-formatted}
 use Rattle.protocol.proofs.Committed.{front, commit-flat, commit-cut, commit-done}
-use Rattle.protocol.proofs.Holds.{geometry-is, recover-passes, contents-hold, read-holds, look-holds, read-refuses, look-refuses, idle-kind}
+use Rattle.protocol.proofs.Holds.{geometry-is, recover-refuses, map-made, contents-hold, read-holds, look-holds, read-refuses, look-refuses, idle-kind}
 use Rattle.protocol.proofs.Invariant.{Kind, idle, kindNumber, kindCurrent, kindPrevious}
 use Rattle.protocol.proofs.Loaded.{Rest, eviction, loading}
 use Rattle.protocol.proofs.Passed.{first-zero, second-zero, passed, evict-passed, load-passed, commit-passed}
@@ -41,14 +42,14 @@ use Rattle.protocol.proofs.Stores.{Along}
 
 -- ---- what a call leaves, by its answer
 
-data Answered (a : ℕ) (w : Work) : Type 0 where
+pub data Answered (a : ℕ) (w : Work) : Type 0 where
   refused : (w .refusal ≡ 0 → ⊥) → answerOf a w ≡ Refused (w .refusal) → ((m : Medium) (xs : List ℕ) → afterOn m a w xs ≡ xs) → Answered a w
   cut : w .refusal ≡ 0 → a < length (flat (w .runs)) → answerOf a w ≡ Cut
       → ((m : Medium) (xs : List ℕ) → afterOn m a w xs ≡ madeOn m (take a (flat (w .runs))) xs) → Answered a w
   done : w .refusal ≡ 0 → answerOf a w ≡ Done (length (flat (w .runs)))
       → ((m : Medium) (xs : List ℕ) → afterOn m a w xs ≡ madeOn m (flat (w .runs)) xs) → Answered a w
 
-answered : (a : ℕ) (w : Work) → Answered a w
+pub answered : (a : ℕ) (w : Work) → Answered a w
 unfolding answerOf afterOn storesOf made
 answered a w = go (either (eqb (w .refusal) 0)) (either (ltb a (length (flat (w .runs)))))
   where
@@ -91,32 +92,32 @@ ends {P} {Q} a n w m e f = go (answered a w)
 
 -- ---- the four calls
 
-module _ {g : Geometry} {row : Row} (m : Media) (v : Inv g row (m .onCard) (m .onDisk)) where
-  along-load : (b : ℕ) → loadWork (m .onCard) (m .onDisk) b .refusal ≡ 0
-      → Along (Inv g row) (Rest g row) (flat (loadWork (m .onCard) (m .onDisk) b .runs)) (m .onCard) (m .onDisk)
+module _ {g : Geometry} {row : Row} (m : Media) (s : Map) (v : Inv g row (m .onCard) (m .onDisk)) where
+  along-load : (b : ℕ) → loadWork (m .onCard) (m .onDisk) s b .refusal ≡ 0
+      → Along (Inv g row) (Rest g row) (flat (loadWork (m .onCard) (m .onDisk) s b .runs)) (m .onCard) (m .onDisk)
   unfolding loadWork
   along-load b z =
       subst (λ (y : Geometry). Along (Inv g row) (Rest g row) (flat (loadRuns y (m .onCard) (m .onDisk) b)) (m .onCard) (m .onDisk))
-      (sym (geometry-is v)) (loading v b (load-passed v b z))
+      (sym (geometry-is v)) (loading v b (load-passed v s b z))
 
-  along-evict : (b : ℕ) → evictWork (m .onCard) (m .onDisk) b .refusal ≡ 0
-      → Along (Inv g row) (Rest g row) (flat (evictWork (m .onCard) (m .onDisk) b .runs)) (m .onCard) (m .onDisk)
+  along-evict : (b : ℕ) → evictWork (m .onCard) (m .onDisk) s b .refusal ≡ 0
+      → Along (Inv g row) (Rest g row) (flat (evictWork (m .onCard) (m .onDisk) s b .runs)) (m .onCard) (m .onDisk)
   unfolding evictWork
   along-evict b z =
       subst (λ (y : Geometry). Along (Inv g row) (Rest g row) (flat (evictRuns y (m .onCard) b)) (m .onCard) (m .onDisk))
-      (sym (geometry-is v)) (eviction v b (evict-passed v b z))
+      (sym (geometry-is v)) (eviction v b (evict-passed v s b z))
 
-  along-recover : Along (Inv g row) (Rest g row) (flat (recoverWork (m .onCard) .runs)) (m .onCard) (m .onDisk)
+  along-recover : Along (Inv g row) (Rest g row) (flat (recoverWork (m .onCard) s .runs)) (m .onCard) (m .onDisk)
   unfolding recoverWork
   along-recover =
       subst (λ (y : Geometry). Along (Inv g row) (Rest g row) (flat (recoverRuns y (m .onCard))) (m .onCard) (m .onDisk))
       (sym (geometry-is v)) (recovery v)
 
   -- a commit: cut before Tail's store it leaves the row, done it replaces its blocks
-  commit-cut-inv : (ns bs : List ℕ) (a : ℕ) → commitRefusal (m .onCard) ns bs ≡ 0 → a < length (flat (commitRuns g (m .onCard) ns bs))
+  commit-cut-inv : (ns bs : List ℕ) (a : ℕ) → commitRefusal (m .onCard) s ns bs ≡ 0 → a < length (flat (commitRuns g (m .onCard) ns bs))
       → Inv g row (madeOn card (take a (flat (commitRuns g (m .onCard) ns bs))) (m .onCard)) (madeOn disk (take a (flat (commitRuns g (m .onCard) ns bs))) (m .onDisk))
   commit-cut-inv ns bs a z l =
-      let ps = commit-passed v ns bs z in
+      let ps = commit-passed v s ns bs z in
       let last = tailStore (headAfter g (m .onCard) (length ns)) ∷ [] in
       let e = commit-flat ns bs v ps in
       let short : a ≤ length (front ns bs v ps) = omega (arith, ap length e, length-append (front ns bs v ps) last) in
@@ -124,12 +125,12 @@ module _ {g : Geometry} {row : Row} (m : Media) (v : Inv g row (m .onCard) (m .o
       subst (λ (ss : List Store). Inv g row (madeOn card ss (m .onCard)) (madeOn disk ss (m .onDisk))) (sym t) (commit-cut ns bs v ps a)
 
   keeps-commit : (ns bs : List ℕ) (a : ℕ)
-      → Left (Inv g (rowStep g (commit ns bs) (answerOf a (commitWork (m .onCard) ns bs)) row)) a (commitWork (m .onCard) ns bs) m
+      → Left (Inv g (rowStep g (commit ns bs) (answerOf a (commitWork (m .onCard) s ns bs)) row)) a (commitWork (m .onCard) s ns bs) m
   unfolding commitWork rowStep
-  keeps-commit ns bs a = go (answered a (commitWork (m .onCard) ns bs))
+  keeps-commit ns bs a = go (answered a (commitWork (m .onCard) s ns bs))
     where
       w : Work
-      w = commitWork (m .onCard) ns bs
+      w = commitWork (m .onCard) s ns bs
 
       to : {ans : Answer} → answerOf a w ≡ ans → Left (Inv g (rowStep g (commit ns bs) ans row)) a w m → Left (Inv g (rowStep g (commit ns bs) (answerOf a w) row)) a w m
       to e h = subst (λ (y : Answer). Left (Inv g (rowStep g (commit ns bs) y row)) a w m) (sym e) h
@@ -146,36 +147,36 @@ module _ {g : Geometry} {row : Row} (m : Media) (v : Inv g row (m .onCard) (m .o
           to e
           (left-by (Inv g (replaced g ns bs row)) a w m (k card (m .onCard)) (k disk (m .onDisk))
           (subst (λ (y : Geometry). Inv g (replaced g ns bs row) (madeOn card (flat (commitRuns y (m .onCard) ns bs)) (m .onCard)) (madeOn disk (flat (commitRuns y (m .onCard) ns bs)) (m .onDisk)))
-          (sym (geometry-is v)) (commit-done ns bs v (commit-passed v ns bs n) .0)))
+          (sym (geometry-is v)) (commit-done ns bs v (commit-passed v s ns bs n) .0)))
 
-  settles-commit : (ns bs : List ℕ) (a n : ℕ) → answerOf a (commitWork (m .onCard) ns bs) ≡ Done n
-      → isSettled g (afterOn card a (commitWork (m .onCard) ns bs) (m .onCard)) ≡ true
+  settles-commit : (ns bs : List ℕ) (a n : ℕ) → answerOf a (commitWork (m .onCard) s ns bs) ≡ Done n
+      → isSettled g (afterOn card a (commitWork (m .onCard) s ns bs) (m .onCard)) ≡ true
   unfolding commitWork
-  settles-commit ns bs a n e = go (answered a (commitWork (m .onCard) ns bs))
+  settles-commit ns bs a n e = go (answered a (commitWork (m .onCard) s ns bs))
     where
-      go : Answered a (commitWork (m .onCard) ns bs) → isSettled g (afterOn card a (commitWork (m .onCard) ns bs) (m .onCard)) ≡ true
+      go : Answered a (commitWork (m .onCard) s ns bs) → isSettled g (afterOn card a (commitWork (m .onCard) s ns bs) (m .onCard)) ≡ true
       go (refused z x k) = let y : _≡_ {A = ℕ} 0 1 = cc in absurd (omega arith)
       go (cut z l x k) = let y : _≡_ {A = ℕ} 0 1 = cc in absurd (omega arith)
       go (done z x k) =
           ap (isSettled g) (k card (m .onCard))
           ∙ subst (λ (y : Geometry). isSettled g (madeOn card (flat (commitRuns y (m .onCard) ns bs)) (m .onCard)) ≡ true)
-          (sym (geometry-is v)) (commit-done ns bs v (commit-passed v ns bs z) .1)
+          (sym (geometry-is v)) (commit-done ns bs v (commit-passed v s ns bs z) .1)
 
   -- every call keeps the invariant, of the row that its answer leaves
-  call-keeps : (q : Call) (a : ℕ) → Left (Inv g (rowStep g q (answerOf a (workOf q m)) row)) a (workOf q m) m
+  call-keeps : (q : Call) (a : ℕ) → Left (Inv g (rowStep g q (answerOf a (workOf q s m)) row)) a (workOf q s m) m
   unfolding workOf rowStep
   call-keeps (commit ns bs) a = keeps-commit ns bs a
-  call-keeps (load b) a = keeps a (loadWork (m .onCard) (m .onDisk) b) m v (along-load b)
-  call-keeps (evict b) a = keeps a (evictWork (m .onCard) (m .onDisk) b) m v (along-evict b)
-  call-keeps recover a = keeps a (recoverWork (m .onCard)) m v (λ z. along-recover)
+  call-keeps (load b) a = keeps a (loadWork (m .onCard) (m .onDisk) s b) m v (along-load b)
+  call-keeps (evict b) a = keeps a (evictWork (m .onCard) (m .onDisk) s b) m v (along-evict b)
+  call-keeps recover a = keeps a (recoverWork (m .onCard) s) m v (λ z. along-recover)
 
   -- every call that answers done leaves the card settled
-  call-settles : (q : Call) (a n : ℕ) → answerOf a (workOf q m) ≡ Done n → isSettled g (afterOn card a (workOf q m) (m .onCard)) ≡ true
+  call-settles : (q : Call) (a n : ℕ) → answerOf a (workOf q s m) ≡ Done n → isSettled g (afterOn card a (workOf q s m) (m .onCard)) ≡ true
   unfolding workOf
   call-settles (commit ns bs) a n e = settles-commit ns bs a n e
-  call-settles (load b) a n e = ends {P = Inv g row} {Q = Rest g row} a n (loadWork (m .onCard) (m .onDisk) b) m e (along-load b) .1
-  call-settles (evict b) a n e = ends {P = Inv g row} {Q = Rest g row} a n (evictWork (m .onCard) (m .onDisk) b) m e (along-evict b) .1
-  call-settles recover a n e = ends {P = Inv g row} {Q = Rest g row} a n (recoverWork (m .onCard)) m e (λ z. along-recover) .1
+  call-settles (load b) a n e = ends {P = Inv g row} {Q = Rest g row} a n (loadWork (m .onCard) (m .onDisk) s b) m e (along-load b) .1
+  call-settles (evict b) a n e = ends {P = Inv g row} {Q = Rest g row} a n (evictWork (m .onCard) (m .onDisk) s b) m e (along-evict b) .1
+  call-settles recover a n e = ends {P = Inv g row} {Q = Rest g row} a n (recoverWork (m .onCard) s) m e (λ z. along-recover) .1
 
 -- ---- the formatted card
 
@@ -277,7 +278,7 @@ history : {g : Geometry} (rs : List Request) (m : Media) (row : Row) → Inv g r
     → Inv g (rowAfter g rs (answers rs m) row) (run rs m .onCard) (run rs m .onDisk)
 unfolding run answers rowAfter after answerTo
 history [] m row v = v
-history (r ∷ rs) m row v = history rs (after r m) _ (call-keeps m v (r .call) (r .allowance))
+history (r ∷ rs) m row v = history rs (after r m) _ (call-keeps m (r .map) v (r .call) (r .allowance))
 
 run-append : (xs ys : List Request) (m : Media) → run (xs ++ ys) m ≡ run ys (run xs m)
 unfolding run
@@ -288,7 +289,7 @@ run-append (x ∷ xs) ys m = run-append xs ys (after x m)
 done-settles : {g : Geometry} {row : Row} (r : Request) (m : Media) (n : ℕ) → Inv g row (m .onCard) (m .onDisk) → answerTo r m ≡ Done n
     → isSettled g (run (r ∷ []) m .onCard) ≡ true
 unfolding run after answerTo
-done-settles r m n v e = call-settles m v (r .call) (r .allowance) n e
+done-settles r m n v e = call-settles m (r .map) v (r .call) (r .allowance) n e
 
 -- without cuts every call leaves the card settled
 uncut-settled : {g : Geometry} (rs : List Request) (m : Media) (row : Row) → Inv g row (m .onCard) (m .onDisk) → isSettled g (m .onCard) ≡ true
@@ -296,12 +297,12 @@ uncut-settled : {g : Geometry} (rs : List Request) (m : Media) (row : Row) → I
 unfolding run answers after answerTo
 uncut-settled [] m row v s u = s
 uncut-settled {g} (r ∷ rs) m row v s u =
-    uncut-settled rs (after r m) _ (call-keeps m v (r .call) (r .allowance)) (next (answered (r .allowance) (workOf (r .call) m))) (u .1)
+    uncut-settled rs (after r m) _ (call-keeps m (r .map) v (r .call) (r .allowance)) (next (answered (r .allowance) (workOf (r .call) (r .map) m))) (u .1)
   where
-    next : Answered (r .allowance) (workOf (r .call) m) → isSettled g (afterOn card (r .allowance) (workOf (r .call) m) (m .onCard)) ≡ true
+    next : Answered (r .allowance) (workOf (r .call) (r .map) m) → isSettled g (afterOn card (r .allowance) (workOf (r .call) (r .map) m) (m .onCard)) ≡ true
     next (refused z e k) = ap (isSettled g) (k card (m .onCard)) ∙ s
     next (cut z l e k) = absurd (u .0 e)
-    next (done z e k) = call-settles m v (r .call) (r .allowance) _ e
+    next (done z e k) = call-settles m (r .map) v (r .call) (r .allowance) _ e
 
 -- ---- the theorem
 
@@ -310,19 +311,21 @@ module _ (g : Geometry) (c d : List ℕ) (ok : outcomeOf (formatRefusal g c) ≡
   unfolding left rowLeft
   inv-left rs = history rs (fresh g c d) (diskBlock g d) (start-inv g c d (format-passed g c ok) sized)
 
-  last-settles : (rs before : List Request) (a n : ℕ) → rs ≡ before ++ (recovering a ∷ []) → answerTo (recovering a) (left g c d before) ≡ Done n
+  last-settles : (rs before : List Request) (s : Map) (a n : ℕ) → rs ≡ before ++ (recovering s a ∷ [])
+      → answerTo (recovering s a) (left g c d before) ≡ Done n
       → isSettled g (left g c d rs .onCard) ≡ true
   unfolding left
-  last-settles rs before a n e h =
+  last-settles rs before s a n e h =
       ap (λ (z : List Request). isSettled g (run z (fresh g c d) .onCard)) e
-      ∙ ap (λ (z : Media). isSettled g (z .onCard)) (run-append before (recovering a ∷ []) (fresh g c d))
-      ∙ done-settles (recovering a) (run before (fresh g c d)) n (inv-left before) h
+      ∙ ap (λ (z : Media). isSettled g (z .onCard)) (run-append before (recovering s a ∷ []) (fresh g c d))
+      ∙ done-settles (recovering s a) (run before (fresh g c d)) n (inv-left before) h
 
 pub cut-rule : CutRule
 cut-rule g c d rs ok sized =
     let v = inv-left g c d ok sized rs in
     record {
-      recovers = recover-passes v;
+      recovers = recover-refuses v;
+      maps = map-made v;
       settles = last-settles g c d ok sized rs;
       holds = contents-hold v;
       reads = read-holds v;

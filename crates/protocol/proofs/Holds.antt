@@ -11,12 +11,15 @@ use lib.ListN.{length}
 use lib.Dec.{eqb, ltb}
 use borrow.Author.Tests.{eqb-true, eq-eqb, lt-ltb, le-ltb, not-true}
 use Rattle.protocol.specs.declared.Geometry.{Geometry}
+use Rattle.protocol.specs.declared.Map.{Map}
+use Rattle.protocol.specs.declared.Mapped.the-variants.{Is}
 use Rattle.protocol.specs.Below.{anyBelow, firstBelow}
 use Rattle.protocol.specs.Layout.{geometryOf, cardLength, blockAt, diskBlock, blockSize}
 use Rattle.protocol.specs.Entry.{FRESH, entryAt, inUse, hasLogRole, isModified}
 use Rattle.protocol.specs.Ring.{headOf, tailOf, windowLength, windowOf, windowHas, inWindow, usedAt, undoableAt, settledBlock, roleFreeAt, isSettled, entryFor, findEntry, cached, currentOf, contents}
 use Rattle.protocol.specs.Check.{refuse, _orElse_, headerFits, cardFits, diskFits, windowNumberFits, ringFits, goodEntryAt, entriesFit, alike, apart, apartBefore, entriesApart, fitRefusal, diskRefusal, damageRefusal, cardRefusal}
 use Rattle.protocol.specs.Load.{pairRefusal, blockRefusal}
+use Rattle.protocol.specs.Map.{mapOf, mapRefusal, makeRefusal, madeMap}
 use Rattle.protocol.specs.Recover.{recoverRefusal}
 use Rattle.protocol.specs.Read.{outputRefusal, readRefusal, outputAfter, lookRefusal, lookedAt}
 use Rattle.protocol.proofs.Below.{either, absurd-bool, and-left, and-right, and-both, and-fails, or-true, all-of, all-at, First, found, missing, first-is}
@@ -231,9 +234,17 @@ module _ {g : Geometry} {row : ℕ → List ℕ} {c d : List ℕ} (v : Inv g row
   unfolding damageRefusal
   damage-passes = none-first _ (pass 4 ring-passes) ∙ none-first _ (pass 5 entries-pass) ∙ pass 6 apart-passes
 
-  pub recover-passes : recoverRefusal c ≡ 0
+  make-passes : makeRefusal c ≡ 0
+  unfolding makeRefusal
+  make-passes = none-first _ fit-passes ∙ ap (λ (z : Geometry). damageRefusal z c) geometry-is ∙ damage-passes
+
+  pub recover-refuses : (s : Map) → recoverRefusal c s ≡ mapRefusal c s
   unfolding recoverRefusal
-  recover-passes = none-first _ fit-passes ∙ ap (λ (z : Geometry). damageRefusal z c) geometry-is ∙ damage-passes
+  recover-refuses s = none-first _ make-passes
+
+  pub map-made : madeMap c ≡ Is (mapOf c)
+  unfolding madeMap
+  map-made = rw (eq-eqb _ _ make-passes)
 
   pub card-refuses : cardRefusal g c ≡ refuse 7 (isSettled g c)
   unfolding cardRefusal

@@ -7,6 +7,7 @@ pub mod Committed
 pub mod Computing
 pub mod CutRule
 pub mod Example
+pub mod Handed
 pub mod Holds
 pub mod Invariant
 pub mod Loaded
@@ -20,3 +21,4 @@ pub mod Shape
 pub mod Steps
 pub mod Stores
 pub mod Table
+pub mod Words

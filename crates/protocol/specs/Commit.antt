@@ -1,4 +1,4 @@
--- Document 01, "Commit": its plan from the card at entry, its runs of stores, its refusals.
+-- Document 01, "Commit": its plan from the card at entry, its runs of stores, its refusals; document 02's check 15 among them.
 use Prim.Native.Nat.{ℕ, _+_, _*_, _-_}
 use mathlib.Core.List.{List, _∷_, _++_}
 use mathlib.Core.Bool.{Bool, cond, not, _&&_}
@@ -7,6 +7,7 @@ use lib.Dec.{eqb, ltb, leb}
 use Rattle.numbers.specs.Bytes.{part}
 use Rattle.protocol.specs.declared.Geometry.{Geometry}
 use Rattle.protocol.specs.declared.Entry.{Entry}
+use Rattle.protocol.specs.declared.Map.{Map}
 use Rattle.protocol.specs.Below.{allBelow, countBelow, eachBelow, around}
 use Rattle.protocol.specs.Layout.{geometryOf, blockSize}
 use Rattle.protocol.specs.Entry.{FRESH, entryOf, switched}
@@ -14,6 +15,7 @@ use Rattle.protocol.specs.Ring.{headOf, findEntry, cached, currentOf}
 use Rattle.protocol.specs.Check.{refuse, _orElse_, fitRefusal, cardRefusal}
 use Rattle.protocol.specs.Store.{Run, Work, words, entryStore, slotStore, headStore, tailStore, single}
 use Rattle.protocol.specs.Search.{freeBlocks, unusedEntries}
+use Rattle.protocol.specs.Map.{mapRefusal}
 
 -- the i-th of the commit's block numbers
 unfoldable pub numberOf : List ℕ → ℕ → ℕ
@@ -108,10 +110,11 @@ saveRefusal g c ns bs =
     orElse refuse 11 (numbersApart ns)
     orElse refuse 14 (roomFor g c (length ns))
 
--- commit is refused with 1, 2, 4 to 7, then by its own checks
-unfoldable pub commitRefusal : List ℕ → List ℕ → List ℕ → ℕ
-commitRefusal c ns bs = fitRefusal c orElse cardRefusal (geometryOf c) c orElse saveRefusal (geometryOf c) c ns bs
+-- commit is refused with 1, 2, 4 to 7 and 15, then by its own checks
+unfoldable pub commitRefusal : List ℕ → Map → List ℕ → List ℕ → ℕ
+commitRefusal c m ns bs =
+    fitRefusal c orElse cardRefusal (geometryOf c) c orElse mapRefusal c m orElse saveRefusal (geometryOf c) c ns bs
 
--- commit of the numbers ns with the bytes bs
-unfoldable pub commitWork : List ℕ → List ℕ → List ℕ → Work
-commitWork c ns bs = record { refusal = commitRefusal c ns bs; runs = commitRuns (geometryOf c) c ns bs }
+-- commit of the numbers ns with the bytes bs, given the map m
+unfoldable pub commitWork : List ℕ → Map → List ℕ → List ℕ → Work
+commitWork c m ns bs = record { refusal = commitRefusal c m ns bs; runs = commitRuns (geometryOf c) c ns bs }

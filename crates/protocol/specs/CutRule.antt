@@ -1,4 +1,5 @@
--- Document 01, "The cut rule" (demand 3), and the plain row of demand 2: what is claimed of every list of calls.
+-- Document 01, "The cut rule" (demand 3), the plain row of demand 2, and the map that a station hands on (document 02, ask 1): what is claimed
+-- of every list of calls.
 use Prim.Native.Nat.{ℕ, _<_}
 use mathlib.Core.List.{List, [], _∷_, _++_}
 use mathlib.Core.Bool.{true}
@@ -6,16 +7,19 @@ use mathlib.Core.Path.{_≡_}
 use lib.ListN.{length}
 use lib.Dec.{eqb, ltb}
 use Rattle.protocol.specs.declared.Answer.{Answer}
-use Rattle.protocol.specs.declared.Answer.the-variants.{Done, Cut}
+use Rattle.protocol.specs.declared.Answer.the-variants.{Done, Cut, Refused}
 use Rattle.protocol.specs.declared.Outcome.the-variants.{Done as FormatDone}
 use Rattle.protocol.specs.declared.Geometry.{Geometry}
+use Rattle.protocol.specs.declared.Map.{Map}
+use Rattle.protocol.specs.declared.Mapped.the-variants.{Is}
 use Rattle.protocol.specs.Layout.{blockSize, diskBlock, diskLength}
 use Rattle.protocol.specs.Ring.{isSettled, contents}
 use Rattle.protocol.specs.Check.{refuse, _orElse_}
+use Rattle.protocol.specs.Map.{mapOf, mapRefusal, madeMap}
 use Rattle.protocol.specs.Format.{outcomeOf, formatRefusal}
 use Rattle.protocol.specs.Recover.{recoverRefusal}
 use Rattle.protocol.specs.Read.{readRefusal, outputAfter, lookRefusal, lookedAt}
-use Rattle.protocol.specs.History.{Request, recover, Media, answerTo, run, answers, fresh, Row, rowAfter}
+use Rattle.protocol.specs.History.{Request, recover, Media, answerTo, run, answers, fresh, Row, rowAfter, Asked, served}
 
 -- the media that a list of calls leaves, from a fresh card c over the disk d
 unfoldable pub left : Geometry → List ℕ → List ℕ → List Request → Media
@@ -25,16 +29,19 @@ left g c d rs = run rs (fresh g c d)
 unfoldable pub rowLeft : Geometry → List ℕ → List ℕ → List Request → Row
 rowLeft g c d rs = rowAfter g rs (answers rs (fresh g c d)) (diskBlock g d)
 
--- a recovery under the allowance a
-abbrev pub recovering : ℕ → Request
-recovering a = record { call = recover; allowance = a }
+-- a recovery that gets the map s, under the allowance a
+abbrev pub recovering : Map → ℕ → Request
+recovering s a = record { call = recover; map = s; allowance = a }
 
 -- what the cut rule says of one list of calls
 pub record Sound (g : Geometry) (c d : List ℕ) (rs : List Request) : Type 0 where
-  -- "recover isn't refused with any of 1 to 6"
-  pub recovers : recoverRefusal (left g c d rs .onCard) ≡ 0
+  -- "recover isn't refused with any of 1 to 6": with no other number than 15, and so not with the map that the card gives
+  pub recovers : (s : Map) → recoverRefusal (left g c d rs .onCard) s ≡ mapRefusal (left g c d rs .onCard) s
+  -- which can be made
+  pub maps : madeMap (left g c d rs .onCard) ≡ Is (mapOf (left g c d rs .onCard))
   -- "if the last call is a recover that answered done, the card is settled"
-  pub settles : (before : List Request) (a n : ℕ) → rs ≡ before ++ (recovering a ∷ []) → answerTo (recovering a) (left g c d before) ≡ Done n
+  pub settles : (before : List Request) (s : Map) (a n : ℕ) → rs ≡ before ++ (recovering s a ∷ [])
+      → answerTo (recovering s a) (left g c d before) ≡ Done n
       → isSettled g (left g c d rs .onCard) ≡ true
   -- "whenever the card is settled, the contents of each disk block b are, byte for byte, block b of the row"
   pub holds : isSettled g (left g c d rs .onCard) ≡ true → (b : ℕ) → b < g .disk
@@ -71,3 +78,13 @@ PlainRow = (g : Geometry) (c d : List ℕ) (rs : List Request)
     → Uncut (answers rs (fresh g c d))
     → (isSettled g (left g c d rs .onCard) ≡ true)
     × ((b : ℕ) → b < g .disk → contents g (left g c d rs .onCard) (left g c d rs .onDisk) b ≡ rowLeft g c d rs b)
+
+-- no answer up to the first cut is a refusal with 15
+abbrev pub Kept : List Answer → Type 0
+Kept [] = Unit
+Kept (a ∷ ans) = (a ≡ Refused 15 → ⊥) × ((a ≡ Cut → ⊥) → Kept ans)
+
+-- what a station lives by: a map made at start and handed on by each call is right up to the first call that is cut, whatever the card and
+-- the disk, whatever is refused between
+abbrev pub MapKept : Type 0
+MapKept = (m : Media) (s : Map) (qs : List Asked) → madeMap (m .onCard) ≡ Is s → Kept (served qs m s)

@@ -1,4 +1,5 @@
--- Document 01, "The cut rule": lists of calls, what they leave on card and disk, what they answer, and the row.
+-- Document 01, "The cut rule": lists of calls, each with any map, what they leave on card and disk, what they answer, and the row; and a
+-- station's calls, each with the map that the one before handed on (document 02, ask 1).
 use Prim.Native.Nat.{ℕ}
 use mathlib.Core.List.{List, [], _∷_}
 use mathlib.Core.Bool.{cond}
@@ -7,23 +8,26 @@ use lib.Dec.{eqb, ltb}
 use Rattle.protocol.specs.declared.Answer.{Answer}
 use Rattle.protocol.specs.declared.Answer.the-variants.{Done, Cut, Refused}
 use Rattle.protocol.specs.declared.Geometry.{Geometry}
+use Rattle.protocol.specs.declared.Map.{Map}
 use Rattle.protocol.specs.Below.{firstBelow}
 use Rattle.protocol.specs.Store.{card, disk, Work, answerOf, afterOn}
+use Rattle.protocol.specs.Map.{mapAfter}
 use Rattle.protocol.specs.Format.{afterFormat}
 use Rattle.protocol.specs.Commit.{numberOf, dataOf, commitWork}
 use Rattle.protocol.specs.Load.{loadWork, evictWork}
 use Rattle.protocol.specs.Recover.{recoverWork}
 
--- "In it stand commit, load, evict and recover": a storing call with all its arguments but the allowance
+-- "In it stand commit, load, evict and recover": a storing call with all its arguments but the map and the allowance
 pub data Call : Type 0 where
   commit : List ℕ → List ℕ → Call
   load : ℕ → Call
   evict : ℕ → Call
   recover : Call
 
--- a call and "The allowance says where power fails"
+-- a call, the map that it gets, and "The allowance says where power fails"
 pub record Request : Type 0 where
   pub call : Call
+  pub map : Map
   pub allowance : ℕ
 
 -- the card and the disk
@@ -31,23 +35,23 @@ pub record Media : Type 0 where
   pub onCard : List ℕ
   pub onDisk : List ℕ
 
--- the call's refusal and runs of stores, from the media that it meets
-unfoldable pub workOf : Call → Media → Work
-workOf (commit ns bs) m = commitWork (m .onCard) ns bs
-workOf (load b) m = loadWork (m .onCard) (m .onDisk) b
-workOf (evict b) m = evictWork (m .onCard) (m .onDisk) b
-workOf recover m = recoverWork (m .onCard)
+-- the call's refusal and runs of stores, from the map that it gets and the media that it meets
+unfoldable pub workOf : Call → Map → Media → Work
+workOf (commit ns bs) s m = commitWork (m .onCard) s ns bs
+workOf (load b) s m = loadWork (m .onCard) (m .onDisk) s b
+workOf (evict b) s m = evictWork (m .onCard) (m .onDisk) s b
+workOf recover s m = recoverWork (m .onCard) s
 
 -- what the call answers, on the media that it meets
 unfoldable pub answerTo : Request → Media → Answer
-answerTo r m = answerOf (r .allowance) (workOf (r .call) m)
+answerTo r m = answerOf (r .allowance) (workOf (r .call) (r .map) m)
 
 -- the media as the call leaves them
 unfoldable pub after : Request → Media → Media
 after r m =
     record {
-      onCard = afterOn card (r .allowance) (workOf (r .call) m) (m .onCard);
-      onDisk = afterOn disk (r .allowance) (workOf (r .call) m) (m .onDisk);
+      onCard = afterOn card (r .allowance) (workOf (r .call) (r .map) m) (m .onCard);
+      onDisk = afterOn disk (r .allowance) (workOf (r .call) (r .map) m) (m .onDisk);
     }
 
 -- "Each gets the card and disk as the call before left them"
@@ -90,3 +94,20 @@ unfoldable pub rowAfter : Geometry → List Request → List Answer → Row → 
 rowAfter g [] ans row = row
 rowAfter g (r ∷ rs) [] row = row
 rowAfter g (r ∷ rs) (a ∷ ans) row = rowAfter g rs ans (rowStep g (r .call) a row)
+
+-- a station's call, which gets the map that the station holds
+pub record Asked : Type 0 where
+  pub call : Call
+  pub allowance : ℕ
+
+unfoldable pub lent : Map → Asked → Request
+lent s q = record { call = q .call; map = s; allowance = q .allowance }
+
+-- the map that the call hands on
+unfoldable pub mapTo : Request → Media → Map
+mapTo r m = mapAfter (r .allowance) (workOf (r .call) (r .map) m) (m .onCard) (r .map)
+
+-- what a station's calls answer, each with the map that the one before handed on; s is the station's map at first
+unfoldable pub served : List Asked → Media → Map → List Answer
+served [] m s = []
+served (q ∷ qs) m s = answerTo (lent s q) m ∷ served qs (after (lent s q) m) (mapTo (lent s q) m)

@@ -1,4 +1,4 @@
--- The definitions of document 01, in its order.
+-- The definitions of document 01, in its order, and those of document 02 where they belong.
 pub mod Below
 pub mod Layout
 pub mod Entry
@@ -7,6 +7,7 @@ pub mod Check
 pub mod Store
 pub mod Format
 pub mod Search
+pub mod Map
 pub mod Commit
 pub mod Load
 pub mod Recover

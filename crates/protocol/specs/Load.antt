@@ -6,12 +6,14 @@ use lib.ListN.{getD}
 use lib.Dec.{ltb}
 use Rattle.protocol.specs.declared.Geometry.{Geometry}
 use Rattle.protocol.specs.declared.Entry.{Entry}
+use Rattle.protocol.specs.declared.Map.{Map}
 use Rattle.protocol.specs.Layout.{geometryOf, blockAt, diskBlock}
 use Rattle.protocol.specs.Entry.{FRESH, entryOf, unused, entryAt, isModified}
 use Rattle.protocol.specs.Ring.{findEntry, cached, currentOf}
 use Rattle.protocol.specs.Check.{refuse, _orElse_, fitRefusal, diskRefusal, cardRefusal}
 use Rattle.protocol.specs.Store.{Run, Work, words, sectors, entryStore, single}
 use Rattle.protocol.specs.Search.{unusedEntries}
+use Rattle.protocol.specs.Map.{mapRefusal}
 use Rattle.protocol.specs.Commit.{newBlock, roomFor}
 
 -- checks 1 to 7 of a card and a disk
@@ -32,16 +34,17 @@ loadRuns g c d b =
     words g (newBlock g c 0) (diskBlock g d b) ∷ single (entryStore g (getD (unusedEntries g c) 0 0) (cleanEntry g c b))
 
 -- 12: "load of a cached block"; 14: "load with none free"
-unfoldable pub loadRefusal : List ℕ → List ℕ → ℕ → ℕ
-loadRefusal c d b =
+unfoldable pub loadRefusal : List ℕ → List ℕ → Map → ℕ → ℕ
+loadRefusal c d m b =
     pairRefusal c d
+    orElse mapRefusal c m
     orElse blockRefusal (geometryOf c) b
     orElse refuse 12 (not (cached (geometryOf c) c b))
     orElse refuse 14 (roomFor (geometryOf c) c 1)
 
--- load of disk block b
-unfoldable pub loadWork : List ℕ → List ℕ → ℕ → Work
-loadWork c d b = record { refusal = loadRefusal c d b; runs = loadRuns (geometryOf c) c d b }
+-- load of disk block b, given the map m
+unfoldable pub loadWork : List ℕ → List ℕ → Map → ℕ → Work
+loadWork c d m b = record { refusal = loadRefusal c d m b; runs = loadRuns (geometryOf c) c d b }
 
 -- "Evict of a modified block writes its B/512 sectors ascending", of a clean block none
 unfoldable pub writeBack : Geometry → List ℕ → ℕ → List Run
@@ -53,9 +56,13 @@ unfoldable pub evictRuns : Geometry → List ℕ → ℕ → List Run
 evictRuns g c b = writeBack g c b ++ single (entryStore g (findEntry g c b) unused)
 
 -- 13: "evict of an uncached block"
-unfoldable pub evictRefusal : List ℕ → List ℕ → ℕ → ℕ
-evictRefusal c d b = pairRefusal c d orElse blockRefusal (geometryOf c) b orElse refuse 13 (cached (geometryOf c) c b)
+unfoldable pub evictRefusal : List ℕ → List ℕ → Map → ℕ → ℕ
+evictRefusal c d m b =
+    pairRefusal c d
+    orElse mapRefusal c m
+    orElse blockRefusal (geometryOf c) b
+    orElse refuse 13 (cached (geometryOf c) c b)
 
--- evict of disk block b
-unfoldable pub evictWork : List ℕ → List ℕ → ℕ → Work
-evictWork c d b = record { refusal = evictRefusal c d b; runs = evictRuns (geometryOf c) c b }
+-- evict of disk block b, given the map m
+unfoldable pub evictWork : List ℕ → List ℕ → Map → ℕ → Work
+evictWork c d m b = record { refusal = evictRefusal c d m b; runs = evictRuns (geometryOf c) c b }

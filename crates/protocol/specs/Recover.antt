@@ -6,11 +6,13 @@ use lib.ListN.{length}
 use lib.Dec.{eqb}
 use Rattle.numbers.specs.Bytes.{part}
 use Rattle.protocol.specs.declared.Geometry.{Geometry}
+use Rattle.protocol.specs.declared.Map.{Map}
 use Rattle.protocol.specs.Below.{eachBelow}
 use Rattle.protocol.specs.Layout.{geometryOf}
 use Rattle.protocol.specs.Entry.{entryAt, undone}
 use Rattle.protocol.specs.Ring.{headOf, undoableAt}
-use Rattle.protocol.specs.Check.{_orElse_, fitRefusal, damageRefusal}
+use Rattle.protocol.specs.Check.{_orElse_}
+use Rattle.protocol.specs.Map.{makeRefusal, mapRefusal}
 use Rattle.protocol.specs.Store.{Run, Store, Work, entryStore, tailStore, single}
 
 -- two rows of bytes are the same
@@ -32,10 +34,10 @@ undoRuns g c i = cond (undoableAt g c i) (ifChanging c (entryStore g i (undone (
 unfoldable pub recoverRuns : Geometry → List ℕ → List Run
 recoverRuns g c = eachBelow (undoRuns g c) (g .blocks) ++ ifChanging c (tailStore (headOf c))
 
--- recover is refused with 1, 2 and 4 to 6: 7 is "all but format, recover, state"
-unfoldable pub recoverRefusal : List ℕ → ℕ
-recoverRefusal c = fitRefusal c orElse damageRefusal (geometryOf c) c
+-- recover is refused with 1, 2 and 4 to 6, as making the map is (7 is "all but format, recover, state"), and with 15
+unfoldable pub recoverRefusal : List ℕ → Map → ℕ
+recoverRefusal c m = makeRefusal c orElse mapRefusal c m
 
--- recovery of the card c
-unfoldable pub recoverWork : List ℕ → Work
-recoverWork c = record { refusal = recoverRefusal c; runs = recoverRuns (geometryOf c) c }
+-- recovery of the card c, given the map m
+unfoldable pub recoverWork : List ℕ → Map → Work
+recoverWork c m = record { refusal = recoverRefusal c m; runs = recoverRuns (geometryOf c) c }

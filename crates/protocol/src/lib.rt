@@ -26,6 +26,24 @@ pub enum Answer {
     Refused(u8),
 }
 
+// A map of the card's data blocks, a bit for each: bit d mod 64, from the lowest, of word d / 64 is set unless data block d is free.
+pub struct Map {
+    pub low: u64,
+    pub high: u64,
+}
+
+// The map that a card gives, or a refusal's number.
+pub enum Mapped {
+    Is(Map),
+    Refused(u8),
+}
+
+// What a storing call hands back: its answer, and the map.
+pub struct Stored {
+    pub answer: Answer,
+    pub map: Map,
+}
+
 // The answer to a call without a count: done, or a refusal's number.
 pub enum Outcome {
     Done,

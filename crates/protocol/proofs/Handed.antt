@@ -1,0 +1,151 @@
+-- A map that a station makes and hands on is the card's up to the first cut: a refused call changes neither card nor map, and a done one hands
+-- on the map of the card that it leaves; and no check but 15 itself refuses with 15. Assumes nothing.
+use Prim.Native.Nat.{ℕ, zero, suc}
+use mathlib.Core.List.{List, [], _∷_}
+use mathlib.Core.Bool.{Bool, true, false, cond}
+use mathlib.Core.Path.{_≡_, refl, sym, ap, subst, _∙_}
+use native.Mathlib.Omega.{arith}
+use lib.Dec.{eqb}
+use borrow.Author.Tests.{eq-eqb, eqb-true}
+use Rattle.protocol.specs.declared.Answer.{Answer}
+use Rattle.protocol.specs.declared.Answer.the-variants.{Done, Cut, Refused}
+use Rattle.protocol.specs.declared.Geometry.{Geometry}
+use Rattle.protocol.specs.declared.Map.{Map}
+use Rattle.protocol.specs.declared.Mapped.{Mapped}
+use Rattle.protocol.specs.declared.Mapped.the-variants.{Is, Refused as RefusedMap}
+use Rattle.protocol.specs.Layout.{geometryOf}
+use Rattle.protocol.specs.Check.{refuse, _orElse_, fitRefusal, diskRefusal, damageRefusal, cardRefusal}
+use Rattle.protocol.specs.Store.{card, Work, answerOf, afterOn}
+use Rattle.protocol.specs.Map.{mapOf, sameMap, mapRefusal, makeRefusal, madeMap, handedOn, mapAfter}
+use Rattle.protocol.specs.Commit.{saveRefusal, commitRefusal, commitWork}
+use Rattle.protocol.specs.Load.{pairRefusal, blockRefusal, loadRefusal, loadWork, evictRefusal, evictWork}
+use Rattle.protocol.specs.Recover.{recoverRefusal, recoverWork}
+use Rattle.protocol.specs.History.{Call, commit, load, evict, recover, Media, workOf, answerTo, after, Asked, lent, mapTo, served}
+use Rattle.protocol.specs.CutRule.{Kept, MapKept}
+use Rattle.protocol.proofs.Below.{and-both}
+use Rattle.protocol.proofs.CutRule.{Answered, refused, cut, done, answered}
+
+-- ---- no check but 15 refuses with 15
+
+abbrev Other : ℕ → Type 0
+Other r = r ≡ 15 → ⊥
+
+other-else : (r s : ℕ) → Other r → Other s → Other (r orElse s)
+unfolding _orElse_
+other-else zero s f h e = h e
+other-else (suc r) s f h e = f e
+
+other-refuse : (r : ℕ) (b : Bool) → Other r → Other (refuse r b)
+unfolding refuse
+other-refuse r true f e = omega arith
+other-refuse r false f e = f e
+
+-- the map that the card gives is not refused
+pub own-map : (c : List ℕ) → mapRefusal c (mapOf c) ≡ 0
+unfolding mapRefusal sameMap refuse
+own-map c = rw (eq-eqb (mapOf c .low) (mapOf c .low) refl, eq-eqb (mapOf c .high) (mapOf c .high) refl)
+
+module _ (c : List ℕ) where
+  other-map : Other (mapRefusal c (mapOf c))
+  other-map e = omega (arith, own-map c)
+
+  other-fit : Other (fitRefusal c)
+  unfolding fitRefusal
+  other-fit = other-else _ _ (other-refuse 1 _ (λ e. omega arith)) (other-refuse 2 _ (λ e. omega arith))
+
+  other-damage : (g : Geometry) → Other (damageRefusal g c)
+  unfolding damageRefusal
+  other-damage g =
+      other-else _ _ (other-refuse 4 _ (λ e. omega arith))
+      (other-else _ _ (other-refuse 5 _ (λ e. omega arith)) (other-refuse 6 _ (λ e. omega arith)))
+
+  other-card : (g : Geometry) → Other (cardRefusal g c)
+  unfolding cardRefusal
+  other-card g = other-else _ _ (other-damage g) (other-refuse 7 _ (λ e. omega arith))
+
+  other-pair : (d : List ℕ) → Other (pairRefusal c d)
+  unfolding pairRefusal diskRefusal
+  other-pair d = other-else _ _ other-fit (other-else _ _ (other-refuse 3 _ (λ e. omega arith)) (other-card (geometryOf c)))
+
+  other-block : (b : ℕ) → Other (blockRefusal (geometryOf c) b)
+  unfolding blockRefusal
+  other-block b = other-refuse 10 _ (λ e. omega arith)
+
+  other-commit : (ns bs : List ℕ) → Other (commitRefusal c (mapOf c) ns bs)
+  unfolding commitRefusal saveRefusal
+  other-commit ns bs =
+      other-else _ _ other-fit
+      (other-else _ _ (other-card (geometryOf c))
+      (other-else _ _ other-map
+      (other-else _ _ (other-refuse 8 _ (λ e. omega arith))
+      (other-else _ _ (other-refuse 9 _ (λ e. omega arith))
+      (other-else _ _ (other-refuse 10 _ (λ e. omega arith))
+      (other-else _ _ (other-refuse 11 _ (λ e. omega arith)) (other-refuse 14 _ (λ e. omega arith))))))))
+
+  other-load : (d : List ℕ) (b : ℕ) → Other (loadRefusal c d (mapOf c) b)
+  unfolding loadRefusal
+  other-load d b =
+      other-else _ _ (other-pair d)
+      (other-else _ _ other-map
+      (other-else _ _ (other-block b) (other-else _ _ (other-refuse 12 _ (λ e. omega arith)) (other-refuse 14 _ (λ e. omega arith)))))
+
+  other-evict : (d : List ℕ) (b : ℕ) → Other (evictRefusal c d (mapOf c) b)
+  unfolding evictRefusal
+  other-evict d b =
+      other-else _ _ (other-pair d) (other-else _ _ other-map (other-else _ _ (other-block b) (other-refuse 13 _ (λ e. omega arith))))
+
+  other-recover : Other (recoverRefusal c (mapOf c))
+  unfolding recoverRefusal makeRefusal
+  other-recover = other-else _ _ (other-else _ _ other-fit (other-damage (geometryOf c))) other-map
+
+other-call : (q : Call) (m : Media) → Other (workOf q (mapOf (m .onCard)) m .refusal)
+unfolding workOf commitWork loadWork evictWork recoverWork
+other-call (commit ns bs) m = other-commit (m .onCard) ns bs
+other-call (load b) m = other-load (m .onCard) (m .onDisk) b
+other-call (evict b) m = other-evict (m .onCard) (m .onDisk) b
+other-call recover m = other-recover (m .onCard)
+
+-- ---- the station's calls
+
+module _ (q : Asked) (m : Media) (s : Map) (own : s ≡ mapOf (m .onCard)) where
+  abbrev work : Work
+  work = workOf (q .call) s m
+
+  never-15 : answerTo (lent s q) m ≡ Refused 15 → ⊥
+  unfolding answerTo lent
+  never-15 e = go (answered (q .allowance) work)
+    where
+      go : Answered (q .allowance) work → ⊥
+      go (refused z x k) =
+          let h : work .refusal ≡ 15 = cc in
+          other-call (q .call) m (ap (λ (y : Map). workOf (q .call) y m .refusal) (sym own) ∙ h)
+      go (cut z l x k) = let y : _≡_ {A = ℕ} 0 1 = cc in omega arith
+      go (done z x k) = let y : _≡_ {A = ℕ} 0 1 = cc in omega arith
+
+  still-own : (answerTo (lent s q) m ≡ Cut → ⊥) → mapTo (lent s q) m ≡ mapOf (after (lent s q) m .onCard)
+  unfolding answerTo lent mapTo mapAfter after handedOn
+  still-own h = go (answered (q .allowance) work)
+    where
+      go : Answered (q .allowance) work
+          → handedOn (answerOf (q .allowance) work) s (mapOf (afterOn card (q .allowance) work (m .onCard)))
+          ≡ mapOf (afterOn card (q .allowance) work (m .onCard))
+      go (refused z x k) =
+          ap (λ (a : Answer). handedOn a s (mapOf (afterOn card (q .allowance) work (m .onCard)))) x ∙ own ∙ ap mapOf (sym (k card (m .onCard)))
+      go (cut z l x k) = absurd (h x)
+      go (done z x k) = ap (λ (a : Answer). handedOn a s (mapOf (afterOn card (q .allowance) work (m .onCard)))) x
+
+kept : (qs : List Asked) (m : Media) (s : Map) → s ≡ mapOf (m .onCard) → Kept (served qs m s)
+unfolding served
+kept [] m s e = tt
+kept (q ∷ qs) m s e = (never-15 q m s e, λ h. kept qs (after (lent s q) m) (mapTo (lent s q) m) (still-own q m s e h))
+
+made-own : (c : List ℕ) (s : Map) → madeMap c ≡ Is s → s ≡ mapOf c
+unfolding madeMap
+made-own c s e = go (eqb (makeRefusal c) 0) e
+  where
+    go : (b : Bool) → cond b (Is (mapOf c)) (RefusedMap (makeRefusal c)) ≡ Is s → s ≡ mapOf c
+    go true h = cc
+    go false h = let z : _≡_ {A = ℕ} 0 1 = cc in absurd (omega arith)
+
+pub map-kept : MapKept
+map-kept m s qs e = kept qs m s (made-own (m .onCard) s e)
