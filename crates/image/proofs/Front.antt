@@ -36,30 +36,17 @@ too-long c l = go (goodHeader c) refl
         sym (fit-length c true (geometryOf c) (cardLength (geometryOf c)) h refl refl refl (λ q. omega arith))
     go false e = sym (fit-header c false (header-end c false (omega arith) (sym e)) refl)
 
-all-cong : (p q : ℕ → Bool) (n : ℕ) → ((i : ℕ) → i < n → p i ≡ q i) → allBelow p n ≡ allBelow q n
-unfolding allBelow
-all-cong p q zero h = refl
-all-cong p q (suc n) h = λ t. all-cong p q n (λ i l. h i (omega arith)) t && h n (omega arith) t
-
 -- a front that holds the header has the same one
-number-same : (n : ℕ) (f : List ℕ) (at w : ℕ) → at + w ≤ n → numberAt (take n f) at w ≡ numberAt f (0 + at) w
-unfolding numberAt part
-number-same n f at w l = ap be (part-part f 0 n at w l)
-
-header-same : (n : ℕ) (f : List ℕ) → 64 ≤ n → goodHeader (take n f) ≡ goodHeader f
-unfolding goodHeader geometryOf zeroFrom
-header-same n f l =
-    let b = getD-take n f in
-    let w = number-same n f in
-    let zeros = all-cong (zeroFrom (take n f) 16) (zeroFrom f 16) 48 (λ i h. cc (b (16 + i) 0 (omega arith))) in
-    cc (b 4 0 (omega arith), b 5 0 (omega arith), w 0 4 (omega arith), w 6 2 (omega arith), w 8 4 (omega arith), w 12 4 (omega arith))
+header-front : (n : ℕ) (f : List ℕ) → 64 ≤ n → goodHeader (take n f) ≡ goodHeader f
+unfolding part
+header-front n f l = header-same f (take n f) (part-part f 0 n 0 64 l)
 
 fit-same : (n : ℕ) (f : List ℕ) → 528512 < n → fitRefusal (take n f) ≡ fitRefusal f
 fit-same n f l =
     ⊎-elim
     (λ (b : n < length f).
     let e : length (take n f) ≡ n = length-take-le n f (omega arith) in
-    too-long (take n f) (omega arith) ∙ ap (λ (x : Bool). cond x 2 1) (header-same n f (omega arith)) ∙ sym (too-long f (omega arith)))
+    too-long (take n f) (omega arith) ∙ ap (λ (x : Bool). cond x 2 1) (header-front n f (omega arith)) ∙ sym (too-long f (omega arith)))
     (λ (b : length f ≤ n). ap fitRefusal (take-all n f b))
     (below-or-above n (length f))
 

@@ -90,6 +90,11 @@ all-of p (suc n) f = and-both (all-of p n (λ i l. f i (omega arith))) (f n (ome
 pub all-fails : (p : ℕ → Bool) (n i : ℕ) → i < n → p i ≡ false → allBelow p n ≡ false
 all-fails p n i l e = ⊎-elim (λ h. absurd-bool (all-at p n i h l) e) (λ h. h) (either (allBelow p n))
 
+pub all-cong : (p q : ℕ → Bool) (n : ℕ) → ((i : ℕ) → i < n → p i ≡ q i) → allBelow p n ≡ allBelow q n
+unfolding allBelow
+all-cong p q zero f = refl
+all-cong p q (suc n) f = λ t. all-cong p q n (λ i l. f i (omega arith)) t && f n (omega arith) t
+
 pub all-done : (p : ℕ → Bool) (n i : ℕ) → allBelow p i ≡ true → n ≤ i → i ≤ n → allBelow p n ≡ true
 all-done p n i h a b = let e : i ≡ n = omega arith in rw e at h
 

@@ -21,7 +21,8 @@ use Rattle.protocol.specs.Check.{refuse, _orElse_}
 use Rattle.protocol.specs.Format.{formatted, entryRefusal, decoded, encoded}
 use Rattle.protocol.proofs.Allowed.{UsedEntry, good-cases}
 use Rattle.protocol.proofs.Checks.{Limits, limits}
-use Rattle.protocol.proofs.Below.{and-left, and-right, and-both, all-of}
+use Rattle.protocol.specs.Below.{allBelow}
+use Rattle.protocol.proofs.Below.{and-left, and-right, and-both, all-of, all-cong}
 
 -- ---- an entry
 
@@ -68,7 +69,7 @@ entry-of-part xs at =
     first = getD-part xs at 16 0 (omega arith) ∙ ap (λ (i : ℕ). getD xs i 0) (omega arith)
 
 -- the bytes of an entry spell it
-entry-of-bytes : (e : Entry) → EntryFits e → entryIn (entryBytes e) 0 ≡ e
+pub entry-of-bytes : (e : Entry) → EntryFits e → entryIn (entryBytes e) 0 ≡ e
 unfolding entryIn entryBytes bytesBE part numberAt
 entry-of-bytes e h =
     λ t.
@@ -187,6 +188,41 @@ module _ (g : Geometry) (c : List ℕ) (good : goodGeometry g ≡ true) (stands 
       (all-of (zeroFrom c 16) 48
       (λ i h.
       eq-eqb _ _ (header-byte (16 + i) (omega arith) ∙ sym (getD-drop 16 (headerBytes g) i 0) ∙ getD-replicate 48 i 0 0 h)))))
+
+-- ---- the header's bytes alone decide
+
+module _ (c c′ : List ℕ) (same : part c′ 0 64 ≡ part c 0 64) where
+  byte-same : (i : ℕ) → i < 64 → getD c′ i 0 ≡ getD c i 0
+  byte-same i h =
+      let at : i ≡ 0 + i = omega arith in
+      ap (λ (k : ℕ). getD c′ k 0) at ∙ sym (getD-part c′ 0 64 i h)
+      ∙ ap (λ (r : List ℕ). getD r i 0) same
+      ∙ getD-part c 0 64 i h ∙ ap (λ (k : ℕ). getD c k 0) (sym at)
+
+  number-same : (from w : ℕ) → from + w ≤ 64 → numberAt c′ from w ≡ numberAt c from w
+  number-same from w h =
+      let at : from ≡ 0 + from = omega arith in
+      ap (λ (k : ℕ). numberAt c′ k w) at ∙ sym (number-part c′ 0 64 from w h)
+      ∙ ap (λ (r : List ℕ). numberAt r from w) same
+      ∙ number-part c 0 64 from w h ∙ ap (λ (k : ℕ). numberAt c k w) (sym at)
+
+  pub geometry-same : geometryOf c′ ≡ geometryOf c
+  unfolding geometryOf
+  geometry-same = λ t.
+      record {
+        k = byte-same 5 (omega arith) t;
+        slots = number-same 6 2 (omega arith) t;
+        blocks = number-same 8 4 (omega arith) t;
+        disk = number-same 12 4 (omega arith) t;
+      }
+
+  pub header-same : goodHeader c′ ≡ goodHeader c
+  unfolding goodHeader zeroFrom
+  header-same =
+      let zeros = all-cong (zeroFrom c′ 16) (zeroFrom c 16) 48 (λ i h. ap (λ (b : ℕ). eqb b 0) (byte-same (16 + i) (omega arith))) in
+      λ t.
+      eqb (number-same 0 4 (omega arith) t) 64
+      && (eqb (byte-same 4 (omega arith) t) 1 && (goodGeometry (geometry-same t) && zeros t))
 
 -- ---- format
 

@@ -55,7 +55,7 @@ head-start : (g : Geometry) (c : List ℕ) → headOf c < g .slots → headOf c 
 unfolding headAfter around
 head-start g c l = let k : headOf c + 0 < g .slots = omega arith in rw (lt-ltb (headOf c + 0) (g .slots) k) (omega arith)
 
-window-start : (g : Geometry) (c : List ℕ) → headOf c ≡ tailOf c → windowOf g c ≡ 0
+pub window-start : (g : Geometry) (c : List ℕ) → headOf c ≡ tailOf c → windowOf g c ≡ 0
 unfolding windowOf
 window-start g c e = ap (windowLength (g .slots) (tailOf c)) e ∙ window-empty (g .slots) (tailOf c)
 
@@ -99,17 +99,17 @@ module _ {g : Geometry} {row : ℕ → List ℕ} {c d : List ℕ} (ns bs : List 
       later : (i j : ℕ) → i < length ns → j < i → numberOf ns i ≡ numberOf ns j → ⊥
       later i j l m e = eqb-false _ _ (not-true _ (all-at _ i j (all-at _ (length ns) i (p .once) l) m)) e
 
-  q-below : (j : ℕ) → j < length ns → newBlock g c j < g .blocks
+  pub q-below : (j : ℕ) → j < length ns → newBlock g c j < g .blocks
   q-below j l = new-below v j (omega (arith, enough-free))
 
-  q-free : (j : ℕ) → j < length ns → (i : ℕ) → i < g .blocks → kindCurrent (kindAt g c i) ≡ some (newBlock g c j) → ⊥
+  pub q-free : (j : ℕ) → j < length ns → (i : ℕ) → i < g .blocks → kindCurrent (kindAt g c i) ≡ some (newBlock g c j) → ⊥
   q-free j l = new-free v j (omega (arith, enough-free))
 
   q-apart : (i j : ℕ) → i < length ns → j < length ns → newBlock g c i ≡ newBlock g c j → i ≡ j
   q-apart i j li lj = new-apart v i j (omega (arith, enough-free)) (omega (arith, enough-free))
 
   -- a number's entry: an unused one where it is not cached, else its own, with its old block
-  data Entered (j : ℕ) : Type 0 where
+  pub data Entered (j : ℕ) : Type 0 where
     fresh : cached g c (numberOf ns j) ≡ false → usedAt g c (entryFound g c ns j) ≡ false
         → entryFound g c ns j ≡ getD (unusedEntries g c) (countBelow (uncachedAt g c ns) j) 0 → oldBlock g c ns j ≡ FRESH → Entered j
     again : cached g c (numberOf ns j) ≡ true → entryFound g c ns j ≡ findEntry g c (numberOf ns j) → Cached g c (numberOf ns j) (entryFound g c ns j)
@@ -122,7 +122,7 @@ module _ {g : Geometry} {row : ℕ → List ℕ} {c d : List ℕ} (ns bs : List 
       let b = count-le (uncachedAt g c ns) (length ns) in
       omega (arith, enough-free, enough-unused v)
 
-  entered : (j : ℕ) → j < length ns → Entered j
+  pub entered : (j : ℕ) → j < length ns → Entered j
   unfolding entryFound oldBlock uncachedAt currentOf
   entered j l = go (either (cached g c (numberOf ns j)))
     where
@@ -143,7 +143,7 @@ module _ {g : Geometry} {row : ℕ → List ℕ} {c d : List ℕ} (ns bs : List 
           (live-kind g c (entryFound g c ns j) (k .used) (no-undoable v (p .settled) (entryFound g c ns j) (k .below))
           ∙ (λ t. live (isModified (entryAt g c (entryFound g c ns j))) (k .number t) (sym o t)))
 
-  e-below : (j : ℕ) → j < length ns → entryFound g c ns j < g .blocks
+  pub e-below : (j : ℕ) → j < length ns → entryFound g c ns j < g .blocks
   e-below j l = go (entered j l)
     where
       go : Entered j → entryFound g c ns j < g .blocks
@@ -902,3 +902,23 @@ module _ {g : Geometry} {row : ℕ → List ℕ} {c d : List ℕ} (ns bs : List 
     where
       last : List Store
       last = tailStore (headAfter g c (length ns)) ∷ []
+
+  -- the entries as they stand then: those of the plan switched, the others as they were
+  pub record Entries (c′ : List ℕ) : Type 0 where
+    pub others : (i : ℕ) → i < g .blocks → ((j : ℕ) → j < length ns → entryFound g c ns j ≡ i → ⊥) → entryAt g c′ i ≡ entryAt g c i
+    pub planned : (j : ℕ) → j < length ns → entryAt g c′ (entryFound g c ns j) ≡ switched (logEntry g c ns j)
+
+  pub commit-entries : Entries (madeOn card (flat (commitRuns g c ns bs)) c)
+  unfolding madeOn
+  commit-entries =
+      subst Entries (sym (ap (λ (ss : List Store). madeOn card ss c) commit-flat ∙ made-append card front _ c))
+      (record {
+        others = λ i l un. entry-kept ch i l (λ a b. omega arith) ∙ m .others i l un;
+        planned = λ j l. entry-kept ch (entryFound g c ns j) (e-below j l) (λ a b. omega arith) ∙ m .switcheds j l;
+      })
+    where
+      m : Mid (length ns) (length ns) (length ns) (madeOn card front c) (madeOn disk front d)
+      m = front-along .end
+
+      ch : Changed g tail (madeOn card front c) (storedOn card (tailStore (headAfter g c (length ns))) (madeOn card front c))
+      ch = tail-changed g (madeOn card front c) (headAfter g c (length ns))

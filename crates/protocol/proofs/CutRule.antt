@@ -30,7 +30,7 @@ use Rattle.protocol.specs.CutRule.{left, rowLeft, recovering, CutRule, U
 use Rattle.protocol.proofs.Allowed.{unused-good, unused-used, unused-role}
 use Rattle.protocol.proofs.Below.{either, absurd-bool, and-left}
 use Rattle.protocol.proofs.Checks.{Limits, limits}
-use Rattle.protocol.proofs.Codec.{entry-of-part, header-formatted, length-formatted, zero-formatted}
+use Rattle.protocol.proofs.Codec.{entry-of-part, good-header, geometry-of-header, header-formatted, length-formatted, zero-formatted}
 use Rattle.protocol.proofs.Committed.{front, commit-flat, commit-cut, commit-done}
 use Rattle.protocol.proofs.Holds.{geometry-is, recover-refuses, map-made, contents-hold, read-holds, look-holds, read-refuses, look-refuses, idle-kind}
 use Rattle.protocol.proofs.Invariant.{Kind, idle, kindNumber, kindCurrent, kindPrevious}
@@ -228,7 +228,9 @@ module _ (g : Geometry) (c d : List ℕ) (ok : formatRefusal g c ≡ 0) (sized :
       let f : Limits g = limits g good in
       record {
         good = good;
-        headed = header-formatted g c whole-card;
+        headed =
+            let h = header-formatted g c whole-card in
+            (good-header g (formatted g c) good h, geometry-of-header g (formatted g c) good h);
         cardSized = length-formatted g c ∙ whole-card;
         diskSized = sized;
         headBelow = omega (arith, head-zero);

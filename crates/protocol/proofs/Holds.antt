@@ -23,7 +23,6 @@ use Rattle.protocol.specs.Map.{mapOf, mapRefusal, makeRefusal, madeMap}
 use Rattle.protocol.specs.Recover.{recoverRefusal}
 use Rattle.protocol.specs.Read.{outputRefusal, readRefusal, outputAfter, lookRefusal, lookedAt}
 use Rattle.protocol.proofs.Below.{either, absurd-bool, and-left, and-right, and-both, and-fails, or-true, all-of, all-at, First, found, missing, first-is}
-use Rattle.protocol.proofs.Codec.{geometry-of-header, good-header}
 use Rattle.protocol.proofs.Invariant.{Kind, idle, live, pending, kindNumber, kindCurrent, kindPrevious, kindHome, View, Safe}
 use Rattle.protocol.proofs.Shape.{kindOf, kindAt, Seen, seen-idle, seen-live, seen-pending, see, previousOf, previous-some, Inv, window-empty}
 use Rattle.protocol.proofs.Steps.{undoable, undoable-at}
@@ -126,6 +125,23 @@ unfolding inWindow windowOf anyBelow
 empty-window g c e b =
     ap (anyBelow (windowHas g c b)) (ap (windowLength (g .slots) (tailOf c)) e ∙ window-empty (g .slots) (tailOf c))
 
+-- a settled card has no undoable entry
+pub settled-undoable : (g : Geometry) (c : List ℕ) → isSettled g c ≡ true → (i : ℕ) → i < g .blocks → undoableAt g c i ≡ false
+unfolding isSettled roleFreeAt undoable
+settled-undoable g c s i l =
+    let e : headOf c ≡ tailOf c = eqb-true _ _ (and-left (eqb (headOf c) (tailOf c)) _ s) in
+    undoable-at g c i ∙ and-fails (inUse (entryAt g c i)) _ (quiet (role-free i l) (none-seen e))
+  where
+    role-free : (i : ℕ) → i < g .blocks → hasLogRole (entryAt g c i) ≡ false
+    role-free i l =
+        not-true _ (all-at _ (g .blocks) i (and-right (eqb (headOf c) (tailOf c)) _ s) l)
+
+    none-seen : headOf c ≡ tailOf c → inWindow g c (entryAt g c i .number) ≡ false
+    none-seen e = empty-window g c e (entryAt g c i .number)
+
+    quiet : {a b : Bool} → a ≡ false → b ≡ false → a || b ≡ false
+    quiet {a} {b} p q = rw (p, q)
+
 -- the entry for b is in use and has the number b
 module _ (g : Geometry) (c : List ℕ) (b i : ℕ) where
   pub for-used : entryFor g c b i ≡ true → usedAt g c i ≡ true
@@ -166,13 +182,13 @@ none-first {r} s e = ap (λ (x : ℕ). x orElse s) e
 
 module _ {g : Geometry} {row : ℕ → List ℕ} {c d : List ℕ} (v : Inv g row c d) where
   pub geometry-is : geometryOf c ≡ g
-  geometry-is = geometry-of-header g c (v .shape .good) (v .shape .headed)
+  geometry-is = v .shape .headed .1
 
   pub fits-one : headerFits c ≡ true
   unfolding headerFits cardLength
   fits-one =
       let big : 128 ≤ length c = omega (arith, v .shape .cardSized) in
-      and-both (ap not (le-ltb (length c) 128 big)) (good-header g c (v .shape .good) (v .shape .headed))
+      and-both (ap not (le-ltb (length c) 128 big)) (v .shape .headed .0)
 
   pub fit-passes : fitRefusal c ≡ 0
   unfolding fitRefusal cardFits
@@ -261,20 +277,7 @@ module _ {g : Geometry} {row : ℕ → List ℕ} {c d : List ℕ} (v : Inv g row
   -- ---- what is read
 
   pub no-undoable : isSettled g c ≡ true → (i : ℕ) → i < g .blocks → undoableAt g c i ≡ false
-  unfolding isSettled roleFreeAt undoable
-  no-undoable s i l =
-      let e : headOf c ≡ tailOf c = eqb-true _ _ (and-left (eqb (headOf c) (tailOf c)) _ s) in
-      undoable-at g c i ∙ and-fails (inUse (entryAt g c i)) _ (quiet (role-free i l) (none-seen e))
-    where
-      role-free : (i : ℕ) → i < g .blocks → hasLogRole (entryAt g c i) ≡ false
-      role-free i l =
-          not-true _ (all-at _ (g .blocks) i (and-right (eqb (headOf c) (tailOf c)) _ s) l)
-
-      none-seen : headOf c ≡ tailOf c → inWindow g c (entryAt g c i .number) ≡ false
-      none-seen e = empty-window g c e (entryAt g c i .number)
-
-      quiet : {a b : Bool} → a ≡ false → b ≡ false → a || b ≡ false
-      quiet {a} {b} p q = rw (p, q)
+  no-undoable = settled-undoable g c
 
   pub contents-hold : isSettled g c ≡ true → (b : ℕ) → b < g .disk → contents g c d b ≡ row b
   unfolding contents cached currentOf findEntry

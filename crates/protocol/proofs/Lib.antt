@@ -10,8 +10,11 @@ pub mod Example
 pub mod Handed
 pub mod Holds
 pub mod Invariant
+pub mod Lawful
+pub mod Left
 pub mod Loaded
 pub mod Made
+pub mod Maps
 pub mod Passed
 pub mod Planned
 pub mod Recovered

@@ -56,19 +56,22 @@ along-changing {P} {Q} c₀ c d s p skip p′ q′ = go (sameBytes (part c₀ (s
 
 -- ---- what an entry becomes
 
-pub fits-entry : {g : Geometry} {c d : List ℕ} → Shape g c d → (x : Entry) → goodEntry (g .blocks) (g .disk) x ≡ true → EntryFits x
+pub entry-fits : (g : Geometry) → goodGeometry g ≡ true → (x : Entry) → goodEntry (g .blocks) (g .disk) x ≡ true → EntryFits x
 unfolding goodGeometry
-fits-entry {g} s x h =
-    let r = and-right (goodK (g .k)) (goodSlots (g .slots) && (goodBlocks (g .blocks) && goodDisk (g .disk))) (s .good) in
+entry-fits g good x h =
+    let r = and-right (goodK (g .k)) (goodSlots (g .slots) && (goodBlocks (g .blocks) && goodDisk (g .disk))) good in
     let q = and-right (goodSlots (g .slots)) (goodBlocks (g .blocks) && goodDisk (g .disk)) r in
     good-fits (g .blocks) (g .disk) x (and-left (goodBlocks (g .blocks)) _ q) (and-right (goodBlocks (g .blocks)) _ q) h
+
+pub fits-entry : {g : Geometry} {c d : List ℕ} → Shape g c d → (x : Entry) → goodEntry (g .blocks) (g .disk) x ≡ true → EntryFits x
+fits-entry {g} s x h = entry-fits g (s .good) x h
 
 -- the undone entry, by whether there was a previous block
 pub data Undone (n d : ℕ) (e : Entry) : Type 0 where
   emptied : e .previous ≡ FRESH → undone e ≡ unused → Undone n d e
   restored : e .previous < n → (e .previous ≡ FRESH → ⊥) → undone e ≡ entryOf 0x82 (e .number) (e .previous) (e .previous) → Undone n d e
 
-undo-cases : (n d : ℕ) (e : Entry) → UsedEntry n d e → Undone n d e
+pub undo-cases : (n d : ℕ) (e : Entry) → UsedEntry n d e → Undone n d e
 unfolding undone
 undo-cases n d e u = go (eqb (e .previous) FRESH) refl (u .previousBelow)
   where
@@ -77,7 +80,7 @@ undo-cases n d e u = go (eqb (e .previous) FRESH) refl (u .previousBelow)
     go false h (inl l) = restored l (eqb-false _ _ h) (unfold undone in rw h)
     go false h (inr q) = absurd (eqb-false _ _ h q)
 
-undone-good : (n d : ℕ) (e : Entry) → UsedEntry n d e → Undone n d e → goodEntry n d (undone e) ≡ true
+pub undone-good : (n d : ℕ) (e : Entry) → UsedEntry n d e → Undone n d e → goodEntry n d (undone e) ≡ true
 undone-good n d e u (emptied p q) = ap (goodEntry n d) q ∙ unused-good n d
 undone-good n d e u (restored l f q) =
     ap (goodEntry n d) q

@@ -14,11 +14,11 @@ use Rattle.numbers.specs.Bytes.{be, part, numberAt}
 use Rattle.protocol.specs.declared.Entry.{Entry}
 use Rattle.protocol.specs.declared.Geometry.{Geometry}
 use Rattle.protocol.specs.Below.{anyBelow, around}
-use Rattle.protocol.specs.Layout.{goodGeometry, blockSize, blockAt, diskBlock, headerBytes, cardLength, diskLength, entryPlace}
+use Rattle.protocol.specs.Layout.{goodGeometry, blockSize, blockAt, diskBlock, geometryOf, goodHeader, cardLength, diskLength, entryPlace}
 use Rattle.protocol.specs.Entry.{FRESH, entryIn, entryAt, inUse, isModified, hasLogRole, goodEntry}
 use Rattle.protocol.specs.Ring.{headOf, tailOf, slotAt, windowLength, windowOf, windowNumber, windowHas, inWindow, undoableAt}
 use Rattle.protocol.proofs.Below.{either, any-cong}
-use Rattle.protocol.proofs.Codec.{entry-of-part}
+use Rattle.protocol.proofs.Codec.{entry-of-part, header-same, geometry-same}
 use Rattle.protocol.proofs.Invariant.{Kind, idle, live, pending, View, Safe}
 use Rattle.protocol.proofs.Region.{Region, header, head, tail, slot, entry, block, place, Inside, Differ, cell, place-slot, place-entry, place-block}
 
@@ -197,10 +197,17 @@ see w e = go (either (inUse e)) (either (hasLogRole e || w))
 
 -- ---- the shape
 
+-- the header of c is good and spells g
+abbrev pub Headed : Geometry → List ℕ → Type 0
+Headed g c = (goodHeader c ≡ true) × (geometryOf c ≡ g)
+
+pub headed-kept : {g : Geometry} (c c′ : List ℕ) → part c′ 0 64 ≡ part c 0 64 → Headed g c → Headed g c′
+headed-kept {g} c c′ e h = (header-same c c′ e ∙ h .0, geometry-same c c′ e ∙ h .1)
+
 -- the lengths, the header, Head and Tail, the window's numbers, the entries; and that an undoable entry is modified
 pub record Shape (g : Geometry) (c d : List ℕ) : Type 0 where
   pub good : goodGeometry g ≡ true
-  pub headed : part c 0 64 ≡ headerBytes g
+  pub headed : Headed g c
   pub cardSized : length c ≡ cardLength g
   pub diskSized : length d ≡ diskLength g
   pub headBelow : headOf c < g .slots

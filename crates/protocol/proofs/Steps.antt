@@ -21,7 +21,7 @@ use Rattle.protocol.specs.Ring.{headOf, tailOf, slotAt, windowLength, wi
 use Rattle.protocol.proofs.Below.{and-fails, all-of, either, any-cong, around-below, around-apart, below-or-above, same-or-other, and-both, absurd-bool}
 use Rattle.protocol.proofs.Invariant.{idle, live, pending, kindNumber, kindCurrent, kindPrevious, settledKind, Owes, change-media, change-entry, settle-all}
 use Rattle.protocol.proofs.Region.{Region, header, head, tail, slot, entry, block, Differ}
-use Rattle.protocol.proofs.Shape.{Changed, header-kept, head-kept, tail-kept, slot-kept, entry-kept, block-kept, window-short, window-empty, window-end, window-grows, window-kept, number-kept, in-window-kept, kindOf, kindAt, viewOf, Seen, seen-idle, seen-live, seen-pending, see, previousOf, Shape, Inv}
+use Rattle.protocol.proofs.Shape.{Changed, header-kept, headed-kept, head-kept, tail-kept, slot-kept, entry-kept, block-kept, window-short, window-empty, window-end, window-grows, window-kept, number-kept, in-window-kept, kindOf, kindAt, viewOf, Seen, seen-idle, seen-live, seen-pending, see, previousOf, Shape, Inv}
 
 -- an entry is undoable, told whether its number stands in the window
 unfoldable pub undoable : Bool → Entry → Bool
@@ -83,7 +83,7 @@ module _ {g : Geometry} {c c′ d : List ℕ} (s : Shape g c d) where
   shape-frame ep el eh et nums good loaded =
       record {
         good = s .good;
-        headed = ep ∙ s .headed;
+        headed = headed-kept _ _ ep (s .headed);
         cardSized = el ∙ s .cardSized;
         diskSized = s .diskSized;
         headBelow = subst (λ (z : ℕ). z < g .slots) (sym eh) (s .headBelow);
@@ -346,7 +346,7 @@ module _ {g : Geometry} {row : ℕ → List ℕ} {c c′ d : List ℕ} (v : Inv 
       record {
         shape = record {
           good = v .shape .good;
-          headed = header-kept x (λ p h. omega arith) ∙ v .shape .headed;
+          headed = headed-kept _ _ (header-kept x (λ p h. omega arith)) (v .shape .headed);
           cardSized = x .sized ∙ v .shape .cardSized;
           diskSized = v .shape .diskSized;
           headBelow = subst (λ (z : ℕ). z < g .slots) (sym moved) (around-below (g .slots) (headOf c) 1 (v .shape .headBelow) (omega arith));
@@ -445,7 +445,7 @@ module _ {g : Geometry} {row : ℕ → List ℕ} {c c′ d : List ℕ} (v : Inv 
       record {
         shape = record {
           good = v .shape .good;
-          headed = header-kept x (λ p h. omega arith) ∙ v .shape .headed;
+          headed = headed-kept _ _ (header-kept x (λ p h. omega arith)) (v .shape .headed);
           cardSized = x .sized ∙ v .shape .cardSized;
           diskSized = v .shape .diskSized;
           headBelow = subst (λ (z : ℕ). z < g .slots) (sym tail-head) (v .shape .headBelow);

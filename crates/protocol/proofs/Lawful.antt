@@ -1,0 +1,249 @@
+-- A card that passes checks 1, 2 and 4 to 7 is lawful over some disk and some row, whatever its history: take as each disk block what is
+-- cached for it. So what is proved of lawful cards alone, of the entries that a commit leaves, holds of every card that is not refused.
+-- Assumes nothing.
+use Prim.Native.Nat.{ℕ, zero, suc, _+_, _*_, _≤_, _<_}
+use mathlib.Core.List.{List, [], _++_}
+use mathlib.Core.Bool.{Bool, true, false, cond, not, _&&_, _||_}
+use mathlib.Core.Option.{Option, none, some}
+use mathlib.Core.Path.{_≡_, refl, sym, ap, subst, _∙_}
+use mathlib.Core.Logic.{_⊎_, inl, inr, ⊎-elim}
+use native.Mathlib.Nat.{suc-mul}
+use native.Mathlib.Omega.{arith}
+use lib.ListN.{length, take, drop, getD, replicate, length-append, length-replicate, length-drop}
+use lib.Seq.{take-append-le, drop-append-le, take-all, drop-at}
+use lib.Dec.{eqb, ltb}
+use borrow.Author.Tests.{eq-eqb, eqb-true, ltb-true}
+use Rattle.numbers.specs.Bytes.{part, numberAt}
+use Rattle.numbers.proofs.Laws.{length-part}
+use Rattle.protocol.specs.declared.Geometry.{Geometry}
+use Rattle.protocol.specs.Below.{allBelow, eachBelow}
+use Rattle.protocol.specs.Layout.{goodGeometry, geometryOf, goodHeader, cardLength, diskLength, blockSize, blockPlace, blockAt, diskPlace, diskBlock}
+use Rattle.protocol.specs.Entry.{entryAt, goodEntry}
+use Rattle.protocol.specs.Ring.{headOf, tailOf, windowOf, usedAt, settledBlock, isSettled, findEntry, cached, currentOf}
+use Rattle.protocol.specs.Check.{refuse, headerFits, cardFits, windowNumberFits, ringFits, goodEntryAt, entriesFit, alike, apart, apartBefore, entriesApart, fitRefusal, damageRefusal, cardRefusal}
+use Rattle.protocol.proofs.Allowed.{bounded}
+use Rattle.protocol.proofs.Below.{either, absurd-bool, below-or-above, last-or-before, and-left, and-right, or-left, or-right, all-at}
+use Rattle.protocol.proofs.Checks.{Limits, limits, orElse-none, refuse-none}
+use Rattle.protocol.proofs.Holds.{used-number, used-current, number-used, idle-kind, live-kind, settled-undoable}
+use Rattle.protocol.proofs.Invariant.{Kind, idle, live, kindNumber, kindCurrent, kindPrevious, kindHome}
+use Rattle.protocol.proofs.Loaded.{settled-ring, Cached, cached-entry, not-cached}
+use Rattle.protocol.proofs.Planned.{current-used}
+use Rattle.protocol.proofs.Region.{block, in-card, place-block, block-ends}
+use Rattle.protocol.proofs.Shape.{kindAt, Shape, Inv}
+use Rattle.protocol.proofs.Committed.{window-start}
+
+-- ---- a disk of given blocks
+
+module _ (f : ℕ → List ℕ) (size : ℕ) (sized : (i : ℕ) → length (f i) ≡ size) where
+  length-blocks : (n : ℕ) → length (eachBelow f n) ≡ n * size
+  unfolding eachBelow
+  length-blocks zero = omega arith
+  length-blocks (suc n) = length-append (eachBelow f n) (f n) ∙ omega (arith, length-blocks n, sized n, suc-mul n size)
+
+  part-blocks : (n b : ℕ) → b < n → part (eachBelow f n) (b * size) size ≡ f b
+  unfolding part eachBelow
+  part-blocks zero b l = absurd (omega arith)
+  part-blocks (suc n) b l = go (last-or-before b n l) (part-blocks n b)
+    where
+      xs : List ℕ
+      xs = eachBelow f n
+
+      go : (b ≡ n) ⊎ (b < n) → (b < n → take size (drop (b * size) xs) ≡ f b) → take size (drop (b * size) (xs ++ f n)) ≡ f b
+      go (inl e) ih =
+          ap (take size) (drop-at xs (f n) (b * size) (length-blocks n ∙ ap (λ (z : ℕ). z * size) (sym e)))
+          ∙ take-all size (f n) (omega (arith, sized n)) ∙ ap f (sym e)
+      go (inr m) ih =
+          let ends = block-ends b n size m in
+          let e = length-blocks n in
+          ap (take size) (drop-append-le (b * size) xs (f n) (omega arith))
+          ∙ take-append-le size (drop (b * size) xs) (f n) (omega (arith, length-drop (b * size) xs))
+          ∙ ih m
+
+-- ---- check 6
+
+module _ (g : Geometry) (c : List ℕ) (distinct : entriesApart g c ≡ true) where
+  never-alike : (i j : ℕ) → i < g .blocks → j < i → usedAt g c i ≡ true → usedAt g c j ≡ true → alike g c i j ≡ true → ⊥
+  unfolding entriesApart apartBefore apart
+  never-alike i j li ji ui uj same =
+      absurd-bool (all-at (apart g c i) i j (all-at (apartBefore g c) (g .blocks) i distinct li) ji) (rw (ui, uj, same))
+
+  -- two entries in use that have one value of what check 6 compares are one entry
+  one-entry : (f : ℕ → ℕ) → ((i j : ℕ) → f i ≡ f j → alike g c i j ≡ true)
+      → (i j : ℕ) → i < g .blocks → j < g .blocks → usedAt g c i ≡ true → usedAt g c j ≡ true → f i ≡ f j → i ≡ j
+  one-entry f same i j li lj ui uj e =
+      ⊎-elim
+      (λ (l : i < j). absurd (never-alike j i lj l uj ui (same j i (sym e))))
+      (λ (l : j ≤ i).
+      ⊎-elim (λ (m : j < i). absurd (never-alike i j li m ui uj (same i j e))) (λ (m : i ≤ j). omega arith) (below-or-above j i))
+      (below-or-above i j)
+
+  pub numbers-apart : (i j : ℕ) → i < g .blocks → j < g .blocks → usedAt g c i ≡ true → usedAt g c j ≡ true
+      → entryAt g c i .number ≡ entryAt g c j .number → i ≡ j
+  unfolding alike
+  numbers-apart = one-entry (λ i. entryAt g c i .number) (λ i j e. or-left _ _ (eq-eqb _ _ e))
+
+  pub currents-apart : (i j : ℕ) → i < g .blocks → j < g .blocks → usedAt g c i ≡ true → usedAt g c j ≡ true
+      → entryAt g c i .current ≡ entryAt g c j .current → i ≡ j
+  unfolding alike
+  currents-apart =
+      one-entry (λ i. entryAt g c i .current)
+      (λ i j e.
+      or-right (eqb (entryAt g c i .number) (entryAt g c j .number)) _
+      (or-left (eqb (entryAt g c i .current) (entryAt g c j .current)) _ (eq-eqb _ _ e)))
+
+-- ---- what a card has that passes
+
+pub record Intact (g : Geometry) (c : List ℕ) : Type 0 where
+  pub own : geometryOf c ≡ g
+  pub header : goodHeader c ≡ true
+  pub good : goodGeometry g ≡ true
+  pub sized : length c ≡ cardLength g
+  pub head : headOf c < g .slots
+  pub tail : tailOf c < g .slots
+  pub fits : entriesFit g c ≡ true
+  pub distinct : entriesApart g c ≡ true
+
+pub intact : (c : List ℕ) → fitRefusal c ≡ 0 → damageRefusal (geometryOf c) c ≡ 0 → Intact (geometryOf c) c
+unfolding fitRefusal headerFits cardFits damageRefusal ringFits goodHeader
+intact c fit damage =
+    let g = geometryOf c in
+    let (one, two) = orElse-none (refuse 1 (headerFits c)) _ fit in
+    let header = and-right (not (ltb (length c) 128)) (goodHeader c) (refuse-none 1 (headerFits c) (omega arith) one) in
+    let (four, more) = orElse-none (refuse 4 (ringFits g c)) _ damage in
+    let (five, six) = orElse-none (refuse 5 (entriesFit g c)) _ more in
+    let ring = refuse-none 4 (ringFits g c) (omega arith) four in
+    let ring₂ = and-right (ltb (headOf c) (g .slots)) (ltb (tailOf c) (g .slots) && allBelow (windowNumberFits g c) (windowOf g c)) ring in
+    record {
+      own = refl;
+      header = header;
+      good =
+          and-left (goodGeometry g) _
+          (and-right (eqb (getD c 4 0) 1) _ (and-right (eqb (numberAt c 0 4) 64) _ header));
+      sized = eqb-true _ _ (refuse-none 2 (cardFits g c) (omega arith) two);
+      head = ltb-true _ _ (and-left (ltb (headOf c) (g .slots)) _ ring);
+      tail = ltb-true _ _ (and-left (ltb (tailOf c) (g .slots)) _ ring₂);
+      fits = refuse-none 5 (entriesFit g c) (omega arith) five;
+      distinct = refuse-none 6 (entriesApart g c) (omega arith) six;
+    }
+
+module _ {g : Geometry} {c : List ℕ} (w : Intact g c) where
+  fit : Limits g
+  fit = limits g (w .good)
+
+  good-entry : (i : ℕ) → i < g .blocks → goodEntry (g .blocks) (g .disk) (entryAt g c i) ≡ true
+  unfolding entriesFit goodEntryAt
+  good-entry i l = all-at _ (g .blocks) i (w .fits) l
+
+  pub current-below : (i : ℕ) → i < g .blocks → entryAt g c i .current < g .blocks
+  current-below i l =
+      let m = fit in
+      bounded (g .blocks) (g .disk) (entryAt g c i) (omega arith) (omega arith) (good-entry i l) .current
+
+  number-below : (i : ℕ) → i < g .blocks → entryAt g c i .number < g .disk
+  number-below i l =
+      let m = fit in
+      bounded (g .blocks) (g .disk) (entryAt g c i) (omega arith) (omega arith) (good-entry i l) .number
+
+  module _ (s : isSettled g c ≡ true) where
+    -- what is cached for b, and zeros where nothing is
+    pub held : ℕ → List ℕ
+    held b = cond (cached g c b) (blockAt g c (currentOf g c b)) (replicate (blockSize g) 0)
+
+    held-sized : (b : ℕ) → length (held b) ≡ blockSize g
+    unfolding held currentOf blockAt
+    held-sized b = ⊎-elim
+        (λ e.
+        let k = cached-entry g c b e in
+        let l = current-below (findEntry g c b) (k .below) in
+        let q = currentOf g c b in
+        rw e (length-part c (blockPlace g q) (blockSize g) (omega (arith, in-card g (block q) (omega arith) l, place-block g q, w .sized))))
+        (λ e. rw e (length-replicate {A = ℕ} (blockSize g) 0))
+        (either (cached g c b))
+
+    pub home : List ℕ
+    home = eachBelow held (g .disk)
+
+    home-block : (b : ℕ) → b < g .disk → diskBlock g home b ≡ held b
+    unfolding diskBlock diskPlace home
+    home-block b l = part-blocks held (blockSize g) held-sized (g .disk) b l
+
+    -- an entry is unused, or in use and not undoable
+    data Still (i : ℕ) : Type 0 where
+      empty : kindAt g c i ≡ idle → Still i
+      stands : usedAt g c i ≡ true → (m : Bool) → kindAt g c i ≡ live m (entryAt g c i .number) (entryAt g c i .current) → Still i
+
+    still : (i : ℕ) → i < g .blocks → Still i
+    still i l = ⊎-elim
+        (λ u. stands u _ (live-kind g c i u (settled-undoable g c s i l)))
+        (λ u. empty (idle-kind g c i u))
+        (either (usedAt g c i))
+
+    no-previous : {A : Type 0} (i x : ℕ) → i < g .blocks → kindPrevious (kindAt g c i) ≡ some x → A
+    no-previous {A} i x l e = go (still i l)
+      where
+        go : Still i → A
+        go (empty k) = let h = ap kindPrevious k in let z : _≡_ {A = ℕ} 0 1 = cc in absurd (omega arith)
+        go (stands u m k) = let h = ap kindPrevious k in let z : _≡_ {A = ℕ} 0 1 = cc in absurd (omega arith)
+
+    -- the block of the entry for b is what is held for b
+    held-is : (i b : ℕ) → i < g .blocks → usedAt g c i ≡ true → entryAt g c i .number ≡ b → blockAt g c (entryAt g c i .current) ≡ held b
+    unfolding held currentOf
+    held-is i b l u n = ⊎-elim
+        (λ e.
+        let k = cached-entry g c b e in
+        let same : i ≡ findEntry g c b = numbers-apart g c (w .distinct) i (findEntry g c b) l (k .below) u (k .used) (n ∙ sym (k .number)) in
+        ap (λ (z : ℕ). blockAt g c (entryAt g c z .current)) same ∙ sym (ap (λ (t : Bool). cond t (blockAt g c (currentOf g c b)) (replicate (blockSize g) 0)) e))
+        (λ e. absurd (not-cached g c b e i l (used-number g c i u ∙ ap some n)))
+        (either (cached g c b))
+
+    shape : Shape g c home
+    unfolding home diskLength
+    shape =
+        record {
+          good = w .good;
+          headed = (w .header, w .own);
+          cardSized = w .sized;
+          diskSized = length-blocks held (blockSize g) held-sized (g .disk);
+          headBelow = w .head;
+          tailBelow = w .tail;
+          window = λ j l. absurd (omega (arith, window-start g c (settled-ring g c s)));
+          entries = good-entry;
+          undoableModified = λ i l u. absurd-bool u (settled-undoable g c s i l);
+        }
+
+    pub lawful : Inv g held c home
+    lawful =
+        record {
+          shape = shape;
+          safe = record {
+            numberUnder = λ i x l e. let (u, n) = number-used g c i e in subst (λ (z : ℕ). z < g .disk) n (number-below i l);
+            currentUnder = λ i x l e. let (u, n) = current-used g c i x e in subst (λ (z : ℕ). z < g .blocks) n (current-below i l);
+            previousUnder = λ i x l e. no-previous i x l e;
+            numbers = λ i j x l m e f.
+                let (u, n) = number-used g c i e in
+                let (v, o) = number-used g c j f in
+                numbers-apart g c (w .distinct) i j l m u v (n ∙ sym o);
+            currents = λ i j x l m e f.
+                let (u, n) = current-used g c i x e in
+                let (v, o) = current-used g c j x f in
+                currents-apart g c (w .distinct) i j l m u v (n ∙ sym o);
+            previouses = λ i j x l m e f. no-previous i x l e;
+            crossed = λ i j x l m e f. no-previous i x l e;
+            clean = λ i b q l e.
+                let (u, n) = number-used g c i (ap kindNumber e) in
+                let (t, o) = current-used g c i q (ap kindCurrent e) in
+                ap (blockAt g c) (sym o) ∙ held-is i b l u n
+                ∙ sym (home-block b (subst (λ (z : ℕ). z < g .disk) n (number-below i l)));
+            held = λ i b p l e f.
+                let (u, n) = number-used g c i e in
+                ap (blockAt g c) (home-current i p l f) ∙ held-is i b l u n;
+            bare = λ b l h. home-block b l;
+          };
+        }
+      where
+        home-current : (i p : ℕ) → i < g .blocks → kindHome (kindAt g c i) ≡ some p → p ≡ entryAt g c i .current
+        home-current i p l f = go (still i l)
+          where
+            go : Still i → p ≡ entryAt g c i .current
+            go (empty k) = let h = ap kindHome k in let z : _≡_ {A = ℕ} 0 1 = cc in absurd (omega arith)
+            go (stands u m k) = let h = ap kindHome k in cc

@@ -1,0 +1,469 @@
+-- What each call that is not refused leaves of the map, on every card: evict clears one bit, load sets one, commit sets those of its new blocks
+-- and clears those of its old ones, recovery goes from current blocks to previous ones. Assumes nothing.
+use Prim.Native.Nat.{ℕ, zero, suc, _+_, _≤_, _<_}
+use mathlib.Core.List.{List, [], _∷_, _++_}
+use mathlib.Core.Bool.{Bool, true, false, cond, not, _&&_, _||_}
+use mathlib.Core.Option.{Option, none, some}
+use mathlib.Core.Path.{_≡_, refl, sym, ap, subst, _∙_}
+use mathlib.Core.Logic.{_⊎_, inl, inr, ⊎-elim}
+use native.Mathlib.Omega.{arith}
+use lib.ListN.{length, getD}
+use lib.Seq.{take-length}
+use lib.Dec.{eqb, leb}
+use borrow.Author.Tests.{eq-eqb, eqb-true, eqb-false, ne-eqb, leb-true, ltb-true, not-true}
+use Rattle.numbers.specs.Bytes.{part}
+use Rattle.protocol.specs.declared.Entry.{Entry}
+use Rattle.protocol.specs.declared.Geometry.{Geometry}
+use Rattle.protocol.specs.declared.Map.{Map}
+use Rattle.protocol.specs.Below.{anyBelow, eachBelow}
+use Rattle.protocol.specs.Layout.{goodGeometry, geometryOf, cardLength, blockAt, diskBlock, entryPlace}
+use Rattle.protocol.specs.Entry.{FRESH, entryOf, unused, entryBytes, entryIn, entryAt, inUse, isModified, goodEntry, switched, undone}
+use Rattle.protocol.specs.Ring.{headOf, usedAt, undoableAt, isSettled, findEntry, cached, currentOf}
+use Rattle.protocol.specs.Check.{refuse, _orElse_, goodEntryAt, entriesFit, fitRefusal, diskRefusal, damageRefusal, cardRefusal}
+use Rattle.protocol.specs.Store.{card, Store, Run, storedOn, madeOn, flat, single, words, sectors, entryStore, tailStore}
+use Rattle.protocol.specs.Search.{freeBlocks, unusedEntries}
+use Rattle.protocol.specs.Map.{mapBy, isMarked, mapOf, mapRefusal, makeRefusal}
+use Rattle.protocol.specs.Commit.{numberOf, newBlock, entryFound, oldBlock, logEntry, roomFor, saveRefusal, commitRuns, commitRefusal}
+use Rattle.protocol.specs.Load.{pairRefusal, blockRefusal, cleanEntry, loadRuns, loadRefusal, writeBack, evictRuns, evictRefusal}
+use Rattle.protocol.specs.Recover.{sameBytes, ifChanging, undoRuns, recoverRuns, recoverRefusal}
+use Rattle.protocol.proofs.Allowed.{UsedEntry, clean, used-good, used-entry, unused-good, unused-used, clean-used, kept-used}
+use Rattle.protocol.proofs.Below.{either, absurd-bool, same-or-other, last-or-before, and-left, and-right, and-both, or-left, or-none, all-at, any-found, any-at, any-witness}
+use Rattle.protocol.proofs.Checks.{Limits, limits, orElse-none, refuse-none}
+use Rattle.protocol.proofs.Codec.{EntryFits, geometry-same, entry-of-part, entry-of-bytes, length-entry}
+use Rattle.protocol.proofs.Committed.{Entered, fresh, again, entered, e-below, q-below, q-free, Entries, commit-entries, commit-done}
+use Rattle.protocol.proofs.Holds.{used-current, geometry-is}
+use Rattle.protocol.proofs.Invariant.{kindCurrent}
+use Rattle.protocol.proofs.Lawful.{Intact, intact, lawful}
+use Rattle.protocol.proofs.Loaded.{cached-entry}
+use Rattle.protocol.proofs.Made.{entry-changed, entry-stored, tail-changed, words-changed-all, sectors-elsewhere}
+use Rattle.protocol.proofs.Maps.{Has, Moves, map-moves, marked-below}
+use Rattle.protocol.proofs.Passed.{CommitPassed, LoadPassed, EvictPassed, commit-passed, load-passed, evict-passed}
+use Rattle.protocol.proofs.Planned.{new-below, unused-below, unused-is, enough-unused}
+use Rattle.protocol.proofs.Recovered.{entry-fits, same-bytes, Undone, emptied, restored, undo-cases, undone-good}
+use Rattle.protocol.proofs.Region.{entry, tail, block}
+use Rattle.protocol.proofs.Shape.{Changed, header-kept, entry-kept, Inv}
+use Rattle.protocol.proofs.Stores.{flat-append, flat-single, made-append}
+use Rattle.protocol.proofs.Words.{map-cong}
+
+-- ---- one entry changes
+
+-- c′ is c but for entry i, which is x now
+module _ {g : Geometry} {c : List ℕ} (c′ : List ℕ) (w : Intact g c) (i : ℕ) (x : Entry) (l : i < g .blocks) (header : part c′ 0 64 ≡ part c 0 64)
+    (others : (j : ℕ) → j < g .blocks → (j ≡ i → ⊥) → entryAt g c′ j ≡ entryAt g c j) (now : entryAt g c′ i ≡ x) where
+  one-moves : Moves g c c′ (λ j. eqb j i) (λ d. usedAt g c i && eqb (entryAt g c i .current) d) (λ d. inUse x && eqb (x .current) d)
+  unfolding usedAt
+  one-moves =
+      record {
+        own = geometry-same c c′ header ∙ w .own;
+        others = λ j h n. others j h (eqb-false _ _ n);
+        gave = λ j h e u.
+            let q = eqb-true j i e in
+            and-both (ap (usedAt g c) (sym q) ∙ u) (eq-eqb _ _ (ap (λ (z : ℕ). entryAt g c z .current) (sym q)));
+        given = λ d h e. (
+          i,
+          l,
+          eq-eqb i i refl,
+          (and-left (usedAt g c i) _ e, eqb-true _ _ (and-right (usedAt g c i) _ e)),
+        );
+        took = λ j h e u.
+            let q : entryAt g c′ j ≡ x = ap (entryAt g c′) (eqb-true j i e) ∙ now in
+            and-both (ap inUse (sym q) ∙ u) (eq-eqb _ _ (ap (λ (y : Entry). y .current) (sym q)));
+        taken = λ d h e. (
+          i,
+          l,
+          eq-eqb i i refl,
+          (ap inUse now ∙ and-left (inUse x) _ e, ap (λ (y : Entry). y .current) now ∙ eqb-true _ _ (and-right (inUse x) _ e)),
+        );
+      }
+
+  pub one-entry : mapOf c′
+      ≡ mapBy (λ d. (isMarked g c d && not (usedAt g c i && eqb (entryAt g c i .current) d)) || (inUse x && eqb (x .current) d))
+  one-entry = map-moves w one-moves
+
+-- ---- what the checks have passed
+
+module _ (c : List ℕ) (fit : fitRefusal c ≡ 0) where
+  card-intact : cardRefusal (geometryOf c) c ≡ 0 → Intact (geometryOf c) c × (isSettled (geometryOf c) c ≡ true)
+  unfolding cardRefusal
+  card-intact z =
+      let (damage, seven) = orElse-none (damageRefusal (geometryOf c) c) _ z in
+      (intact c fit damage, refuse-none 7 _ (omega arith) seven)
+
+  pair-intact : (d : List ℕ) → diskRefusal (geometryOf c) d orElse cardRefusal (geometryOf c) c ≡ 0
+      → Intact (geometryOf c) c × (isSettled (geometryOf c) c ≡ true)
+  pair-intact d z = card-intact (orElse-none (diskRefusal (geometryOf c) d) _ z .1)
+
+-- ---- evict
+
+-- the sectors leave the card, so all that an evict does there is to clear the entry
+made-evict : (g : Geometry) (fit : Limits g) (c : List ℕ) (b : ℕ)
+    → madeOn card (flat (evictRuns g c b)) c ≡ storedOn card (entryStore g (findEntry g c b) unused) c
+unfolding evictRuns writeBack flat single madeOn
+made-evict g fit c b = go (isModified (entryAt g c (findEntry g c b)))
+  where
+    go : (t : Bool)
+        → madeOn card (flat (cond t (sectors g b (blockAt g c (currentOf g c b)) ∷ []) [] ++ single (entryStore g (findEntry g c b) unused))) c
+        ≡ storedOn card (entryStore g (findEntry g c b) unused) c
+    go true =
+        made-append card (sectors g b (blockAt g c (currentOf g c b))) (entryStore g (findEntry g c b) unused ∷ []) c
+        ∙ ap (storedOn card (entryStore g (findEntry g c b) unused))
+        (subst (λ (ss : List Store). madeOn card ss c ≡ c) (take-length (sectors g b (blockAt g c (currentOf g c b))))
+        (sectors-elsewhere g fit b (blockAt g c (currentOf g c b)) (length (sectors g b (blockAt g c (currentOf g c b)))) c))
+    go false = refl
+
+-- a bit cleared, and nothing set
+cleared : (a b e : Bool) → b ≡ true → (a && not (b && e)) || (false && false) ≡ a && not e
+cleared a b e h = rw h (or-none (a && not e))
+
+pub evict-map : (c d : List ℕ) (m : Map) (b : ℕ) → evictRefusal c d m b ≡ 0
+    → mapOf (madeOn card (flat (evictRuns (geometryOf c) c b)) c)
+    ≡ mapBy (λ x. isMarked (geometryOf c) c x && not (eqb (currentOf (geometryOf c) c b) x))
+unfolding evictRefusal pairRefusal currentOf
+evict-map c d m b z =
+    let g = geometryOf c in
+    let (pair, more) = orElse-none (pairRefusal c d) _ z in
+    let own = orElse-none (blockRefusal g b) _ (orElse-none (mapRefusal c m) _ more .1) .1 in
+    let (fit, rest) = orElse-none (fitRefusal c) _ pair in
+    let w = pair-intact c fit d rest .0 in
+    let k = cached-entry g c b (refuse-none 13 _ (omega arith) own) in
+    let i = findEntry g c b in
+    let ch = entry-changed g c i unused (k .below) in
+    let now = entry-stored g c i unused (k .below) (w .sized) (entry-fits g (w .good) unused (unused-good (g .blocks) (g .disk))) in
+    ap mapOf (made-evict g (limits g (w .good)) c b)
+    ∙ one-entry _ w i unused (k .below) (header-kept ch (λ p q. omega arith)) (λ j h n. entry-kept ch j h (λ p q. n (sym q))) now
+    ∙ map-cong _ _
+    (λ x l.
+    ap (λ (t : Bool). (isMarked g c x && not (usedAt g c i && eqb (entryAt g c i .current) x)) || (t && eqb 0 x)) unused-used
+    ∙ cleared (isMarked g c x) (usedAt g c i) (eqb (entryAt g c i .current) x) (k .used))
+
+-- ---- load
+
+-- a bit set, and none cleared
+put : (a b x e f : Bool) → b ≡ false → f ≡ true → (a && not (b && x)) || (f && e) ≡ a || e
+put a b x e f p q = (λ t. (a && not (p t && x)) || (q t && e)) ∙ ap (λ (y : Bool). y || e) (and-true a)
+  where
+    and-true : (a : Bool) → a && true ≡ a
+    and-true true = refl
+    and-true false = refl
+
+pub load-map : (c d : List ℕ) (m : Map) (b : ℕ) → loadRefusal c d m b ≡ 0
+    → mapOf (madeOn card (flat (loadRuns (geometryOf c) c d b)) c)
+    ≡ mapBy (λ x. isMarked (geometryOf c) c x || eqb (newBlock (geometryOf c) c 0) x)
+unfolding loadRefusal pairRefusal blockRefusal roomFor loadRuns flat single cleanEntry madeOn
+load-map c d m b z =
+    let g = geometryOf c in
+    let (pair, more) = orElse-none (pairRefusal c d) _ z in
+    let (ten, own) = orElse-none (blockRefusal g b) _ (orElse-none (mapRefusal c m) _ more .1) in
+    let last = orElse-none (refuse 12 (not (cached g c b))) _ own .1 in
+    let room : 1 ≤ length (freeBlocks g c) = leb-true _ _ (refuse-none 14 (leb 1 (length (freeBlocks g c))) (omega arith) last) in
+    let (fit, rest) = orElse-none (fitRefusal c) _ pair in
+    let (w, s) = pair-intact c fit d rest in
+    let v = lawful w s in
+    let q = newBlock g c 0 in
+    let i = getD (unusedEntries g c) 0 0 in
+    let bs = diskBlock g d b in
+    let e = entryOf 0x80 b FRESH q in
+    let c₁ = madeOn card (words g q bs) c in
+    let free = new-below v 0 (omega arith) in
+    let few : 0 < length (unusedEntries g c) = omega (arith, enough-unused v) in
+    let spare = unused-below v 0 few in
+    let ch₁ = words-changed-all g (limits g (w .good)) q bs free c in
+    let ch = entry-changed g c₁ i e spare in
+    let good =
+    used-good (g .blocks) (g .disk) e
+    (record { flag = clean refl; numberBelow = ltb-true _ _ (refuse-none 10 _ (omega arith) ten); currentBelow = free; previousBelow = inr refl }) in
+    let now = entry-stored g c₁ i e spare (ch₁ .sized ∙ w .sized) (entry-fits g (w .good) e good) in
+    ap mapOf (made-append card (words g q bs) (entryStore g i e ∷ []) c)
+    ∙ one-entry _ w i e spare
+    (header-kept ch (λ x y. omega arith) ∙ header-kept ch₁ (λ x y. omega arith))
+    (λ j h n. entry-kept ch j h (λ x y. n (sym y)) ∙ entry-kept ch₁ j h (λ x y. omega arith))
+    now
+    ∙ map-cong _ _
+    (λ x l. put (isMarked g c x) (usedAt g c i) (eqb (entryAt g c i .current) x) (eqb q x) (inUse e) (unused-is v 0 few) (clean-used b FRESH q))
+
+-- ---- commit
+
+-- one of f's first n values is x
+among : (ℕ → ℕ) → ℕ → ℕ → Bool
+among f n x = anyBelow (λ j. eqb (f j) x) n
+
+is-among : (f : ℕ → ℕ) (n j x : ℕ) → j < n → f j ≡ x → among f n x ≡ true
+unfolding among
+is-among f n j x l e = any-found (λ j. eqb (f j) x) n j l (eq-eqb _ _ e)
+
+among-is : (f : ℕ → ℕ) (n x : ℕ) → among f n x ≡ true → (j : ℕ) × (j < n) × (f j ≡ x)
+unfolding among
+among-is f n x h = let (j, l, e) = any-witness (λ j. eqb (f j) x) n h in (j, l, eqb-true _ _ e)
+
+module _ {g : Geometry} {row : ℕ → List ℕ} {c d : List ℕ} (ns bs : List ℕ) (w : Intact g c) (v : Inv g row c d) (p : CommitPassed g c ns bs) where
+  abbrev after : List ℕ
+  after = madeOn card (flat (commitRuns g c ns bs)) c
+
+  left : Entries ns bs v p after
+  left = commit-entries ns bs v p
+
+  -- the old block of a number whose entry was in use was that entry's current one
+  old-current : (j : ℕ) → j < length ns → usedAt g c (entryFound g c ns j) ≡ true → oldBlock g c ns j ≡ entryAt g c (entryFound g c ns j) .current
+  old-current j l u = go (entered ns bs v p j l)
+    where
+      go : Entered ns bs v p j → oldBlock g c ns j ≡ entryAt g c (entryFound g c ns j) .current
+      go (fresh h n e o) = absurd-bool u n
+      go (again h e k q) = let r = ap kindCurrent q in let t = used-current g c (entryFound g c ns j) u in cc
+
+  old-used : (j x : ℕ) → j < length ns → x < 128 → oldBlock g c ns j ≡ x → usedAt g c (entryFound g c ns j) ≡ true
+  old-used j x l b e = go (entered ns bs v p j l)
+    where
+      go : Entered ns bs v p j → usedAt g c (entryFound g c ns j) ≡ true
+      go (fresh h n q o) = absurd (omega arith)
+      go (again h q k r) = k .used
+
+  new-used : (j : ℕ) → j < length ns → (usedAt g after (entryFound g c ns j) ≡ true) × (entryAt g after (entryFound g c ns j) .current ≡ newBlock g c j)
+  unfolding usedAt switched logEntry
+  new-used j l = (
+    ap inUse (left .planned j l) ∙ kept-used (numberOf ns j) (oldBlock g c ns j) (newBlock g c j),
+    ap (λ (y : Entry). y .current) (left .planned j l),
+  )
+
+  commit-moves : Moves g c after (among (entryFound g c ns) (length ns)) (among (oldBlock g c ns) (length ns)) (among (newBlock g c) (length ns))
+  unfolding among
+  commit-moves =
+      record {
+        own = geometry-is (commit-done ns bs v p .0);
+        others = λ i l n. left .others i l (λ j h e. absurd-bool (is-among (entryFound g c ns) (length ns) j i h e) n);
+        gave = λ i l e u.
+            let (j, h, q) = among-is (entryFound g c ns) (length ns) i e in
+            is-among (oldBlock g c ns) (length ns) j _ h
+            (old-current j h (ap (usedAt g c) q ∙ u) ∙ ap (λ (z : ℕ). entryAt g c z .current) q);
+        given = λ x b e.
+            let (j, h, q) = among-is (oldBlock g c ns) (length ns) x e in
+            let u = old-used j x h b q in
+            (entryFound g c ns j, e-below ns bs v p j h, is-among (entryFound g c ns) (length ns) j _ h refl, (u, sym (old-current j h u) ∙ q));
+        took = λ i l e u.
+            let (j, h, q) = among-is (entryFound g c ns) (length ns) i e in
+            is-among (newBlock g c) (length ns) j _ h (sym (new-used j h .1) ∙ ap (λ (z : ℕ). entryAt g after z .current) q);
+        taken = λ x b e.
+            let (j, h, q) = among-is (newBlock g c) (length ns) x e in
+            let (u, k) = new-used j h in
+            (entryFound g c ns j, e-below ns bs v p j h, is-among (entryFound g c ns) (length ns) j _ h refl, (u, k ∙ q));
+      }
+
+  -- no new block is an old one: that was an entry's, and this was free
+  apart : (x : ℕ) → x < 128 → among (newBlock g c) (length ns) x ≡ true → among (oldBlock g c ns) (length ns) x ≡ false
+  apart x b e =
+      ⊎-elim
+      (λ o.
+      let (j, h, q) = among-is (newBlock g c) (length ns) x e in
+      let (k, l, r) = among-is (oldBlock g c ns) (length ns) x o in
+      let u = old-used k x l b r in
+      absurd
+      (q-free ns bs v p j h (entryFound g c ns k) (e-below ns bs v p k l)
+      (used-current g c (entryFound g c ns k) u ∙ ap some (sym (old-current k l u) ∙ r ∙ sym q))))
+      (λ o. o)
+      (either (among (oldBlock g c ns) (length ns) x))
+
+  -- set first and cleared then, or cleared first
+  either-way : (a o n : Bool) → (n ≡ true → o ≡ false) → (a && not o) || n ≡ (a || n) && not o
+  either-way true true true f = absurd-bool refl (f refl)
+  either-way true true false f = refl
+  either-way true false true f = refl
+  either-way true false false f = refl
+  either-way false true true f = absurd-bool refl (f refl)
+  either-way false true false f = refl
+  either-way false false true f = refl
+  either-way false false false f = refl
+
+  commit-leaves : mapOf after
+      ≡ mapBy (λ x. (isMarked g c x || anyBelow (λ j. eqb (newBlock g c j) x) (length ns)) && not (anyBelow (λ j. eqb (oldBlock g c ns j) x) (length ns)))
+  unfolding among
+  commit-leaves =
+      map-moves w commit-moves
+      ∙ map-cong _ _ (λ x l. either-way (isMarked g c x) (among (oldBlock g c ns) (length ns) x) (among (newBlock g c) (length ns) x) (apart x l))
+
+pub commit-map : (c : List ℕ) (m : Map) (ns bs : List ℕ) → commitRefusal c m ns bs ≡ 0
+    → mapOf (madeOn card (flat (commitRuns (geometryOf c) c ns bs)) c)
+    ≡ mapBy (λ x.
+    (isMarked (geometryOf c) c x || anyBelow (λ j. eqb (newBlock (geometryOf c) c j) x) (length ns))
+    && not (anyBelow (λ j. eqb (oldBlock (geometryOf c) c ns j) x) (length ns)))
+unfolding commitRefusal
+commit-map c m ns bs z =
+    let g = geometryOf c in
+    let (fit, more) = orElse-none (fitRefusal c) _ z in
+    let (w, s) = card-intact c fit (orElse-none (cardRefusal g c) _ more .0) in
+    let v = lawful w s in
+    commit-leaves ns bs w v (commit-passed v m ns bs z)
+
+-- ---- recovery
+
+made-flat : (rs qs : List Run) (c : List ℕ) → madeOn card (flat (rs ++ qs)) c ≡ madeOn card (flat qs) (madeOn card (flat rs) c)
+made-flat rs qs c = ap (λ (ss : List Store). madeOn card ss c) (flat-append rs qs) ∙ made-append card (flat rs) (flat qs) c
+
+-- what recovery makes of entry i of the card c
+recovered : Geometry → List ℕ → ℕ → Entry
+recovered g c i = cond (undoableAt g c i) (undone (entryAt g c i)) (entryAt g c i)
+
+module _ {g : Geometry} {c : List ℕ} (w : Intact g c) where
+  -- the first i entries are recovered, the others as they were
+  record Undoing (i : ℕ) (c′ : List ℕ) : Type 0 where
+    sized : length c′ ≡ length c
+    header : part c′ 0 64 ≡ part c 0 64
+    done : (j : ℕ) → j < i → j < g .blocks → entryAt g c′ j ≡ recovered g c j
+    ahead : (j : ℕ) → i ≤ j → j < g .blocks → entryAt g c′ j ≡ entryAt g c j
+
+  good-at : (i : ℕ) → i < g .blocks → goodEntry (g .blocks) (g .disk) (entryAt g c i) ≡ true
+  unfolding entriesFit goodEntryAt
+  good-at i l = all-at _ (g .blocks) i (w .fits) l
+
+  undoable-used : (i : ℕ) → undoableAt g c i ≡ true → usedAt g c i ≡ true
+  unfolding undoableAt
+  undoable-used i u = and-left (usedAt g c i) _ u
+
+  use-of : (i : ℕ) → i < g .blocks → undoableAt g c i ≡ true → UsedEntry (g .blocks) (g .disk) (entryAt g c i)
+  unfolding usedAt
+  use-of i l u = used-entry (g .blocks) (g .disk) (entryAt g c i) (good-at i l) (undoable-used i u)
+
+  cases : (i : ℕ) → i < g .blocks → undoableAt g c i ≡ true → Undone (g .blocks) (g .disk) (entryAt g c i)
+  cases i l u = undo-cases (g .blocks) (g .disk) (entryAt g c i) (use-of i l u)
+
+  fits-undone : (i : ℕ) → i < g .blocks → undoableAt g c i ≡ true → EntryFits (undone (entryAt g c i))
+  fits-undone i l u = entry-fits g (w .good) _ (undone-good (g .blocks) (g .disk) (entryAt g c i) (use-of i l u) (cases i l u))
+
+  -- nothing is stored where the entry stays
+  passes : (i : ℕ) (c′ : List ℕ) → Undoing i c′ → (i < g .blocks → entryAt g c i ≡ recovered g c i) → Undoing (suc i) c′
+  passes i c′ x e =
+      record {
+        sized = x .sized;
+        header = x .header;
+        done = λ j h l.
+            ⊎-elim
+            (λ q. ap (entryAt g c′) q ∙ x .ahead i (omega arith) (omega arith) ∙ e (omega arith) ∙ ap (recovered g c) (sym q))
+            (λ k. x .done j k l)
+            (last-or-before j i h);
+        ahead = λ j h l. x .ahead j (omega arith) l;
+      }
+
+  stores : (i : ℕ) (c′ : List ℕ) → i < g .blocks → undoableAt g c i ≡ true → Undoing i c′
+      → Undoing (suc i) (storedOn card (entryStore g i (undone (entryAt g c i))) c′)
+  unfolding recovered
+  stores i c′ l u x =
+      let e = undone (entryAt g c i) in
+      let ch = entry-changed g c′ i e l in
+      let now = entry-stored g c′ i e l (x .sized ∙ w .sized) (fits-undone i l u) in
+      record {
+        sized = ch .sized ∙ x .sized;
+        header = header-kept ch (λ p q. omega arith) ∙ x .header;
+        done = λ j h k.
+            ⊎-elim
+            (λ q. ap (entryAt g _) q ∙ now ∙ sym (ap (λ (b : Bool). cond b e (entryAt g c i)) u) ∙ ap (recovered g c) (sym q))
+            (λ b. entry-kept ch j k (λ p q. omega arith) ∙ x .done j b k)
+            (last-or-before j i h);
+        ahead = λ j h k. entry-kept ch j k (λ p q. omega arith) ∙ x .ahead j (omega arith) k;
+      }
+
+  -- an entry whose bytes are those of the undone one is it
+  stands : (i : ℕ) → i < g .blocks → undoableAt g c i ≡ true
+      → part c (entryPlace g i) (length (entryBytes (undone (entryAt g c i)))) ≡ entryBytes (undone (entryAt g c i))
+      → entryAt g c i ≡ undone (entryAt g c i)
+  unfolding entryAt
+  stands i l u e =
+      entry-of-part c (entryPlace g i)
+      ∙ ap (λ (r : List ℕ). entryIn r 0)
+      (ap (part c (entryPlace g i)) (sym (length-entry (undone (entryAt g c i)))) ∙ e)
+      ∙ entry-of-bytes _ (fits-undone i l u)
+
+  turn : (i : ℕ) (c′ : List ℕ) → i < g .blocks → Undoing i c′ → Undoing (suc i) (madeOn card (flat (undoRuns g c i)) c′)
+  unfolding undoRuns ifChanging flat single madeOn recovered entryStore
+  turn i c′ l x = go (undoableAt g c i) refl (sameBytes (part c (entryPlace g i) (length (entryBytes (undone (entryAt g c i))))) (entryBytes (undone (entryAt g c i)))) refl
+    where
+      go : (u : Bool) → undoableAt g c i ≡ u → (t : Bool) → sameBytes (part c (entryPlace g i) (length (entryBytes (undone (entryAt g c i))))) (entryBytes (undone (entryAt g c i))) ≡ t
+          → Undoing (suc i) (madeOn card (flat (cond u (cond t [] (single (entryStore g i (undone (entryAt g c i))))) [])) c′)
+      go false u t q = passes i c′ x (λ l. sym (ap (λ (b : Bool). cond b (undone (entryAt g c i)) (entryAt g c i)) u))
+      go true u true q =
+          passes i c′ x (λ l. stands i l u (same-bytes _ _ q) ∙ sym (ap (λ (b : Bool). cond b (undone (entryAt g c i)) (entryAt g c i)) u))
+      go true u false q = stores i c′ l u x
+
+  turns : (i : ℕ) → i ≤ g .blocks → Undoing i (madeOn card (flat (eachBelow (undoRuns g c) i)) c)
+  unfolding eachBelow flat madeOn
+  turns zero l = record { sized = refl; header = refl; done = λ j h k. absurd (omega arith); ahead = λ j h k. refl }
+  turns (suc i) l =
+      subst (Undoing (suc i))
+      (sym (made-flat (eachBelow (undoRuns g c) i) (undoRuns g c i) c))
+      (turn i _ (omega arith) (turns i (omega arith)))
+
+  abbrev gone : ℕ → Bool
+  gone x = anyBelow (λ i. undoableAt g c i && eqb (entryAt g c i .current) x) (g .blocks)
+
+  abbrev come : ℕ → Bool
+  come x = anyBelow (λ i. undoableAt g c i && eqb (entryAt g c i .previous) x) (g .blocks)
+
+  -- Tail's store, made or left out, touches no entry
+  tail-too : (c′ : List ℕ) → Undoing (g .blocks) c′ → Undoing (g .blocks) (madeOn card (flat (ifChanging c (tailStore (headOf c)))) c′)
+  unfolding ifChanging flat single madeOn
+  tail-too c′ x = go (sameBytes (part c (tailStore (headOf c) .place) (length (tailStore (headOf c) .bytes))) (tailStore (headOf c) .bytes))
+    where
+      go : (t : Bool) → Undoing (g .blocks) (madeOn card (flat (cond t [] (single (tailStore (headOf c))))) c′)
+      go true = x
+      go false =
+          let ch = tail-changed g c′ (headOf c) in
+          record {
+            sized = ch .sized ∙ x .sized;
+            header = header-kept ch (λ p q. omega arith) ∙ x .header;
+            done = λ j h k. entry-kept ch j k (λ p q. omega arith) ∙ x .done j h k;
+            ahead = λ j h k. entry-kept ch j k (λ p q. omega arith) ∙ x .ahead j h k;
+          }
+
+  all-done : Undoing (g .blocks) (madeOn card (flat (recoverRuns g c)) c)
+  unfolding recoverRuns
+  all-done =
+      subst (Undoing (g .blocks)) (sym (made-flat (eachBelow (undoRuns g c) (g .blocks)) (ifChanging c (tailStore (headOf c))) c))
+      (tail-too _ (turns (g .blocks) (omega arith)))
+
+  -- an undoable entry's previous block is its current one then, if it has one
+  undone-has : (i : ℕ) (e : Entry) → i < g .blocks → undoableAt g c i ≡ true → e ≡ undone (entryAt g c i)
+      → (inUse e ≡ true → e .current ≡ entryAt g c i .previous)
+      × ((x : ℕ) → x < 128 → entryAt g c i .previous ≡ x → (inUse e ≡ true) × (e .current ≡ x))
+  undone-has i e l u q = go (cases i l u)
+    where
+      go : Undone (g .blocks) (g .disk) (entryAt g c i)
+          → (inUse e ≡ true → e .current ≡ entryAt g c i .previous)
+          × ((x : ℕ) → x < 128 → entryAt g c i .previous ≡ x → (inUse e ≡ true) × (e .current ≡ x))
+      go (emptied f h) = (λ n. absurd-bool n (ap inUse (q ∙ h) ∙ unused-used), λ x b p. absurd (omega arith))
+      go (restored m f h) = (
+        λ n. ap (λ (y : Entry). y .current) (q ∙ h),
+        λ x b p. (ap inUse (q ∙ h) ∙ kept-used _ _ _, ap (λ (y : Entry). y .current) (q ∙ h) ∙ p),
+      )
+
+  recover-moves : Moves g c (madeOn card (flat (recoverRuns g c)) c) (undoableAt g c) gone come
+  unfolding recovered usedAt
+  recover-moves =
+      let x = all-done in
+      record {
+        own = geometry-same c _ (x .header) ∙ w .own;
+        others = λ i l n. x .done i l l ∙ ap (λ (b : Bool). cond b (undone (entryAt g c i)) (entryAt g c i)) n;
+        gave = λ i l u n. any-found _ (g .blocks) i l (and-both u (eq-eqb (entryAt g c i .current) (entryAt g c i .current) refl));
+        given = λ d b e.
+            let (i, l, h) = any-witness (λ i. undoableAt g c i && eqb (entryAt g c i .current) d) (g .blocks) e in
+            let u = and-left (undoableAt g c i) _ h in
+            (i, l, u, (undoable-used i u, eqb-true _ _ (and-right (undoableAt g c i) _ h)));
+        took = λ i l u n.
+            let q = x .done i l l ∙ ap (λ (b : Bool). cond b (undone (entryAt g c i)) (entryAt g c i)) u in
+            any-found _ (g .blocks) i l (and-both u (eq-eqb _ _ (sym (undone-has i _ l u q .0 n))));
+        taken = λ d b e.
+            let (i, l, h) = any-witness (λ i. undoableAt g c i && eqb (entryAt g c i .previous) d) (g .blocks) e in
+            let u = and-left (undoableAt g c i) _ h in
+            let q = x .done i l l ∙ ap (λ (b : Bool). cond b (undone (entryAt g c i)) (entryAt g c i)) u in
+            (i, l, u, undone-has i _ l u q .1 d b (eqb-true _ _ (and-right (undoableAt g c i) _ h)));
+      }
+
+  recover-leaves : mapOf (madeOn card (flat (recoverRuns g c)) c) ≡ mapBy (λ x. (isMarked g c x && not (gone x)) || come x)
+  recover-leaves = map-moves w recover-moves
+
+pub recover-map : (c : List ℕ) (m : Map) → recoverRefusal c m ≡ 0
+    → mapOf (madeOn card (flat (recoverRuns (geometryOf c) c)) c)
+    ≡ mapBy (λ x.
+    (isMarked (geometryOf c) c x
+    && not (anyBelow (λ i. undoableAt (geometryOf c) c i && eqb (entryAt (geometryOf c) c i .current) x) (geometryOf c .blocks)))
+    || anyBelow (λ i. undoableAt (geometryOf c) c i && eqb (entryAt (geometryOf c) c i .previous) x) (geometryOf c .blocks))
+unfolding recoverRefusal makeRefusal
+recover-map c m z =
+    let (fit, damage) = orElse-none (fitRefusal c) _ (orElse-none (makeRefusal c) _ z .0) in
+    recover-leaves (intact c fit damage)
