@@ -7,23 +7,18 @@ use mathlib.Core.Logic.{_⊎_, inl, ⊎-elim}
 use mathlib.Core.Path.{_≡_, refl, sym, ap, _∙_, subst}
 use native.Mathlib.Omega.{arith}
 use lib.Dec.{eqb, ltb}
-use borrow.Author.Tests.{lt-ltb, le-leb, ltb-true, eq-eqb, ne-eqb, eqb-true, not-true}
+use borrow.Author.Tests.{lt-ltb, ltb-true, eq-eqb, ne-eqb}
 use Rattle.protocol.specs.declared.Geometry.{Geometry}
 use Rattle.protocol.specs.Below.{anyBelow}
 use Rattle.protocol.specs.Layout.{goodGeometry}
-use Rattle.protocol.specs.Entry.{FRESH, entryAt, hasLogRole}
-use Rattle.protocol.specs.Ring.{headOf, tailOf, windowLength, windowOf, windowHas, inWindow, usedAt, undoableAt, settledBlock, roleFreeAt, isSettled}
+use Rattle.protocol.specs.Entry.{FRESH, entryAt}
+use Rattle.protocol.specs.Ring.{usedAt, undoableAt, settledBlock, isSettled}
 use Rattle.protocol.specs.Check.{goodEntryAt, entriesFit, alike, apart, apartBefore, entriesApart}
-use Rattle.protocol.proofs.Below.{absurd-bool, either, and-left, and-right, and-both, and-fails, or-right, all-at, all-of, any-found, any-none}
+use Rattle.protocol.proofs.Below.{absurd-bool, either, bool-same, and-left, and-right, and-both, and-fails, or-right, all-at, all-of, any-found, any-none}
 use Rattle.protocol.proofs.Allowed.{UsedEntry, used-entry}
 use Rattle.protocol.proofs.Checks.{Limits, limits}
+use Rattle.protocol.proofs.Holds.{settled-undoable}
 use Rattle.checks.specs.Keys.{NONE, key, numberKey, currentKey, settledKey, keyed, lone, distinct}
-
--- two tests that hold together are one
-pub bool-same : (a b : Bool) → (a ≡ true → b ≡ true) → (b ≡ true → a ≡ true) → a ≡ b
-bool-same true b f g = sym (f refl)
-bool-same false true f g = g refl
-bool-same false false f g = refl
 
 -- ---- distinct keys
 
@@ -172,24 +167,12 @@ module _ (g : Geometry) (c : List ℕ) where
         let rest = and-right (distinct (numberKey g c) NONE (g .blocks)) _ h in
         apart-of-keys dn (and-left (distinct (currentKey g c) 128 (g .blocks)) _ rest) (and-right (distinct (currentKey g c) 128 (g .blocks)) _ rest))
 
+    pub currents-distinct : entriesApart g c ≡ true → distinct (currentKey g c) 128 (g .blocks) ≡ true
+    currents-distinct a =
+        and-left (distinct (currentKey g c) 128 (g .blocks)) _ (and-right (distinct (numberKey g c) NONE (g .blocks)) _ (sym apart-keys ∙ a))
+
   -- ---- a settled card
-
-  window-empty : headOf c ≡ tailOf c → windowOf g c ≡ 0
-  unfolding windowOf windowLength
-  window-empty e = rw (le-leb (tailOf c) (headOf c) (omega arith)) (omega arith)
-
-  none-in-window : headOf c ≡ tailOf c → (b : ℕ) → inWindow g c b ≡ false
-  unfolding inWindow anyBelow
-  none-in-window e b = ap (anyBelow (windowHas g c b)) (window-empty e)
-
-  settled-quiet : isSettled g c ≡ true → (i : ℕ) → i < g .blocks → undoableAt g c i ≡ false
-  unfolding isSettled roleFreeAt undoableAt
-  settled-quiet h i iN =
-      let e : headOf c ≡ tailOf c = eqb-true _ _ (and-left (eqb (headOf c) (tailOf c)) _ h) in
-      let r : hasLogRole (entryAt g c i) ≡ false =
-      not-true _ (all-at (roleFreeAt g c) (g .blocks) i (and-right (eqb (headOf c) (tailOf c)) _ h) iN) in
-      and-fails (usedAt g c i) _ (rw (r, none-in-window e (entryAt g c i .number)))
 
   pub settled-keys : isSettled g c ≡ true → (i : ℕ) → i < g .blocks → currentKey g c i ≡ settledKey g c i
   unfolding currentKey settledKey settledBlock
-  settled-keys h i iN = rw (settled-quiet h i iN)
+  settled-keys h i iN = rw (settled-undoable g c h i iN)

@@ -1,6 +1,6 @@
 pub mod Keys
 pub mod Quarters
-pub mod Marks
+pub mod Marking
 pub mod Chain
 pub mod Settled
 pub mod Laws

@@ -1,21 +1,28 @@
 -- Checks 4 to 7 in their order. Assumes nothing.
 use Prim.Native.Nat.{ℕ, _<_}
 use mathlib.Core.List.{List}
-use mathlib.Core.Bool.{Bool, true, false, not, _&&_}
+use mathlib.Core.Bool.{Bool, true, false, not, _&&_, _||_}
 use mathlib.Core.Path.{_≡_, sym, _∙_}
 use native.Mathlib.Omega.{arith}
-use lib.Dec.{eqb, ltb}
+use lib.Dec.{eqb, ltb, leb}
 use borrow.Author.Tests.{ltb-true, not-true, not-false}
 use Rattle.protocol.specs.declared.Geometry.{Geometry}
+use Rattle.protocol.specs.declared.Map.{Map}
 use Rattle.protocol.specs.Below.{allBelow}
 use Rattle.protocol.specs.Ring.{headOf, tailOf, windowOf, isSettled}
 use Rattle.protocol.specs.Check.{refuse, _orElse_, windowNumberFits, ringFits, entriesFit, entriesApart, damageRefusal, cardRefusal}
+use Rattle.protocol.specs.Map.{mapBy}
 use Rattle.protocol.proofs.Below.{and-left, and-right}
 use Rattle.protocol.proofs.Checks.{refuse-passed, refuse-failed, orElse-first, orElse-next}
 use Rattle.ring.specs.Fitted.{Fitted, Placed}
+use Rattle.checks.specs.declared.Marks.{Marks}
 use Rattle.checks.specs.declared.Seen.{Seen}
 use Rattle.checks.specs.declared.Verdict.{Verdict}
-use Rattle.checks.specs.Passed.{Decoded, Comparable, Inspected}
+use Rattle.checks.specs.Keys.{currentKey, keyAt}
+use Rattle.checks.specs.Passed.{Decoded, MarkedBy, Comparable, Inspected}
+use Rattle.checks.proofs.Keys.{currents-distinct}
+use Rattle.checks.proofs.Marking.{map-given}
+use Rattle.checks.proofs.Settled.{listed-distinct}
 
 ring-placed : (g : Geometry) (c : List ℕ) → ringFits g c ≡ true → Placed g c
 unfolding ringFits
@@ -34,6 +41,7 @@ module _ (g : Geometry) (c ns cs : List ℕ) (r : Bool) (ring : r ≡ ringFits g
     settled-is = λ z. absurd (omega arith);
     numbers = λ z. absurd (omega arith);
     currents = λ z. absurd (omega arith);
+    map-is = λ z. absurd (omega arith);
   }
 
   pub ring-damaged : (v : Verdict) → not r ≡ true → (v .refusal ≡ 4) × (v .settled ≡ false) → Inspected g c ns cs v
@@ -69,28 +77,39 @@ module _ (g : Geometry) (c ns cs : List ℕ) (r : Bool) (ring : r ≡ ringFits g
       unfolding isSettled
       settled-test h t eh et = λ i. eqb (eh i) (et i) && d .quiet (not-false (s .fits) fits) i
 
-      pub comparable : (h t : ℕ) → Fitted g c → h ≡ headOf c → t ≡ tailOf c → Comparable g c ns cs (eqb h t && s .quiet)
-      comparable h t f eh et =
+      pub comparable : (h t : ℕ) (m : Marks) → Fitted g c → h ≡ headOf c → t ≡ tailOf c → MarkedBy (keyAt cs) (g .blocks) m
+          → Comparable g c ns (m .apart) (eqb h t && s .quiet)
+      comparable h t m f eh et x =
           let on : s .fits ≡ true = not-false (s .fits) fits in
           record {
             fitted = f;
             placed = ring-placed g c (sym ring ∙ not-false r rings);
             fits = sym (d .fits) ∙ on;
             numbers = d .numbers on;
-            currents = d .currents on;
+            apart-is = listed-distinct (currentKey g c) cs 128 (g .blocks) (m .apart) (d .currents on) (x .apart-is);
             settled-is = settled-test h t eh et;
           }
 
-      pub undamaged : (h t : ℕ) (p : Bool) → h ≡ headOf c → t ≡ tailOf c → p ≡ entriesApart g c → not p ≡ false
-          → Inspected g c ns cs (record { refusal = 0; settled = eqb h t && s .quiet })
-      undamaged h t p eh et q o =
+      pub undamaged : (h t : ℕ) (p : Bool) (m : Marks) (y : Map) → Fitted g c → h ≡ headOf c → t ≡ tailOf c → p ≡ entriesApart g c
+          → not p ≡ false → MarkedBy (keyAt cs) (g .blocks) m
+          → ((k : ℕ → Bool) → m .map ≡ mapBy k → y ≡ mapBy (λ i. k i || leb (g .blocks) i))
+          → Inspected g c ns cs (record { refusal = 0; settled = eqb h t && s .quiet; map = y })
+      undamaged h t p m y f eh et q o x z =
           let on : s .fits ≡ true = not-false (s .fits) fits in
           record {
             refusal-is = past-entries 0 (refuse-passed 6 (entriesApart g c) (sym q ∙ not-false p o));
-            settled-is = λ z. settled-test h t eh et;
-            numbers = λ z. d .numbers on;
-            currents = λ z. d .currents on;
+            settled-is = λ w. settled-test h t eh et;
+            numbers = λ w. d .numbers on;
+            currents = λ w. d .currents on;
+            map-is = λ w. z _ (x .map-is marks-apart) ∙ map-given g c cs (f .good) (d .currents on);
           }
+        where
+          -- check 6 has passed, and with it the current blocks
+          marks-apart : m .apart ≡ true
+          marks-apart =
+              let on : s .fits ≡ true = not-false (s .fits) fits in
+              listed-distinct (currentKey g c) cs 128 (g .blocks) (m .apart) (d .currents on) (x .apart-is)
+              ∙ currents-distinct g c (f .good) (sym (d .fits) ∙ on) (sym q ∙ not-false p o)
 
 -- ---- check 7
 

@@ -7,10 +7,9 @@ use native.Mathlib.Omega.{arith}
 use lib.Dec.{eqb, ltb, leb}
 use borrow.Author.Tests.{eq-eqb, eqb-true, lt-ltb, ltb-true, le-leb, leb-true}
 use Rattle.protocol.specs.Entry.{FRESH, entryOf, unused, inUse, hasLogRole, allowedFlags, isUnused, goodEntry}
-use Rattle.protocol.proofs.Below.{absurd-bool, same-or-other, and-left, and-right, and-both, or-left, or-right, or-true}
+use Rattle.protocol.proofs.Below.{absurd-bool, bool-same, same-or-other, and-left, and-right, and-both, or-left, or-right, or-true}
 use Rattle.checks.specs.Keys.{key}
 use Rattle.checks.specs.Quarters.{quartersEntry}
-use Rattle.checks.proofs.Keys.{bool-same}
 
 -- ---- one of three
 

@@ -68,7 +68,7 @@ module _ (g : Geometry) (c : List ℕ) (i : ℕ) (e : Entry) (u : Bool) (q : e �
 pub listed-distinct : (f : ℕ → ℕ) (xs : List ℕ) (l n : ℕ) (r : Bool) → Lists f xs n → r ≡ distinct (keyAt xs) l n → r ≡ distinct f l n
 listed-distinct f xs l n r h e = e ∙ distinct-same (keyAt xs) f l n h
 
-module _ (g : Geometry) (c ns cs : List ℕ) (settled : Bool) (h : Comparable g c ns cs settled) where
+module _ (g : Geometry) (c ns : List ℕ) (apart settled : Bool) (h : Comparable g c ns apart settled) where
   abbrev numbersApart : Bool
   numbersApart = distinct (numberKey g c) NONE (g .blocks)
 
@@ -84,29 +84,26 @@ module _ (g : Geometry) (c ns cs : List ℕ) (settled : Bool) (h : Comparable g 
   numbers-are : (r : Bool) → r ≡ distinct (keyAt ns) NONE (g .blocks) → r ≡ numbersApart
   numbers-are r e = listed-distinct (numberKey g c) ns NONE (g .blocks) r (h .numbers) e
 
-  currents-are : (r : Bool) → r ≡ distinct (keyAt cs) 128 (g .blocks) → r ≡ currentsApart
-  currents-are r e = listed-distinct (currentKey g c) cs 128 (g .blocks) r (h .currents) e
-
   pub apart-numbers : (r : Bool) → r ≡ distinct (keyAt ns) NONE (g .blocks) → not r ≡ true → false ≡ entriesApart g c
   apart-numbers r e t =
       let off : numbersApart ≡ false = sym (numbers-are r e) ∙ not-true r t in
       sym (three ∙ rw off)
 
-  pub apart-currents : (r : Bool) → r ≡ distinct (keyAt cs) 128 (g .blocks) → not r ≡ true → false ≡ entriesApart g c
-  apart-currents r e t =
-      let off : currentsApart ≡ false = sym (currents-are r e) ∙ not-true r t in
+  pub apart-currents : not apart ≡ true → false ≡ entriesApart g c
+  apart-currents t =
+      let off : currentsApart ≡ false = sym (h .apart-is) ∙ not-true apart t in
       sym (three ∙ and-fails numbersApart (currentsApart && settledApart) (rw off))
 
-  pub apart-rest : (r s t : Bool) → r ≡ distinct (keyAt ns) NONE (g .blocks) → not r ≡ false
-      → s ≡ distinct (keyAt cs) 128 (g .blocks) → not s ≡ false → t ≡ settledApart → t ≡ entriesApart g c
-  apart-rest r s t er nr es ns-held et =
+  pub apart-rest : (r t : Bool) → r ≡ distinct (keyAt ns) NONE (g .blocks) → not r ≡ false → not apart ≡ false → t ≡ settledApart
+      → t ≡ entriesApart g c
+  apart-rest r t er nr na et =
       let a : numbersApart ≡ true = sym (numbers-are r er) ∙ not-false r nr in
-      let b : currentsApart ≡ true = sym (currents-are s es) ∙ not-false s ns-held in
+      let b : currentsApart ≡ true = sym (h .apart-is) ∙ not-false apart na in
       sym (three ∙ rw (a, b) (sym et))
 
-  pub apart-settled : (r s : Bool) → r ≡ distinct (keyAt ns) NONE (g .blocks) → not r ≡ false
-      → s ≡ distinct (keyAt cs) 128 (g .blocks) → not s ≡ false → settled ≡ true → true ≡ entriesApart g c
-  apart-settled r s er nr es ns-held t =
+  pub apart-settled : (r : Bool) → r ≡ distinct (keyAt ns) NONE (g .blocks) → not r ≡ false → not apart ≡ false → settled ≡ true
+      → true ≡ entriesApart g c
+  apart-settled r er nr na t =
       let q : isSettled g c ≡ true = sym (h .settled-is) ∙ t in
-      apart-rest r s true er nr es ns-held
-      (sym (not-false s ns-held) ∙ currents-are s es ∙ distinct-same (currentKey g c) (settledKey g c) 128 (g .blocks) (settled-keys g c q))
+      apart-rest r true er nr na
+      (sym (not-false apart na) ∙ h .apart-is ∙ distinct-same (currentKey g c) (settledKey g c) 128 (g .blocks) (settled-keys g c q))

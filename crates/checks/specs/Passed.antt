@@ -4,13 +4,15 @@ use mathlib.Core.List.{List}
 use mathlib.Core.Bool.{Bool, true}
 use mathlib.Core.Path.{_≡_}
 use Rattle.protocol.specs.declared.Geometry.{Geometry}
-use Rattle.protocol.specs.Below.{allBelow}
+use Rattle.protocol.specs.Below.{allBelow, anyBelow}
 use Rattle.protocol.specs.Ring.{roleFreeAt, isSettled}
 use Rattle.protocol.specs.Check.{entriesFit, damageRefusal}
+use Rattle.protocol.specs.Map.{mapBy, isMarked}
 use Rattle.ring.specs.Fitted.{Fitted, Placed}
 use Rattle.checks.specs.declared.Seen.{Seen}
+use Rattle.checks.specs.declared.Marks.{Marks}
 use Rattle.checks.specs.declared.Verdict.{Verdict}
-use Rattle.checks.specs.Keys.{numberKey, currentKey, Lists}
+use Rattle.checks.specs.Keys.{numberKey, currentKey, keyed, distinct, Lists}
 
 -- what a pass over the entries found, and the keys that it listed where check 5 allows every entry
 pub record Decoded (g : Geometry) (c : List ℕ) (ns cs : List ℕ) (s : Seen) : Type 0 where
@@ -19,18 +21,25 @@ pub record Decoded (g : Geometry) (c : List ℕ) (ns cs : List ℕ) (s : Seen) :
   pub numbers : s .fits ≡ true → Lists (numberKey g c) ns (g .blocks)
   pub currents : s .fits ≡ true → Lists (currentKey g c) cs (g .blocks)
 
--- what check 6 starts from: a card that passed checks 1 to 5, its keys listed, and whether it is settled
-pub record Comparable (g : Geometry) (c ns cs : List ℕ) (settled : Bool) : Type 0 where
+-- whether the first n keys of f that are data blocks differ, and where they do a bit for each block that is a key
+pub record MarkedBy (f : ℕ → ℕ) (n : ℕ) (m : Marks) : Type 0 where
+  pub apart-is : m .apart ≡ distinct f 128 n
+  pub map-is : m .apart ≡ true → m .map ≡ mapBy (λ d. anyBelow (keyed f d) n)
+
+-- what check 6 starts from: a card that passed checks 1 to 5, the keys of its numbers listed, whether its current blocks are apart, and
+-- whether it is settled
+pub record Comparable (g : Geometry) (c ns : List ℕ) (apart settled : Bool) : Type 0 where
   pub fitted : Fitted g c
   pub placed : Placed g c
   pub fits : entriesFit g c ≡ true
   pub numbers : Lists (numberKey g c) ns (g .blocks)
-  pub currents : Lists (currentKey g c) cs (g .blocks)
+  pub apart-is : apart ≡ distinct (currentKey g c) 128 (g .blocks)
   pub settled-is : settled ≡ isSettled g c
 
--- what checks 4 to 6 found, and of a card that passed them whether it is settled and the keys of its entries
+-- what checks 4 to 6 found, and of a card that passed them whether it is settled, the keys of its entries and its map
 pub record Inspected (g : Geometry) (c ns cs : List ℕ) (v : Verdict) : Type 0 where
   pub refusal-is : v .refusal ≡ damageRefusal g c
   pub settled-is : v .refusal ≡ 0 → v .settled ≡ isSettled g c
   pub numbers : v .refusal ≡ 0 → Lists (numberKey g c) ns (g .blocks)
   pub currents : v .refusal ≡ 0 → Lists (currentKey g c) cs (g .blocks)
+  pub map-is : v .refusal ≡ 0 → v .map ≡ mapBy (isMarked g c)

@@ -1,19 +1,23 @@
 // Checks 5 to 7 of a card: the lowest refusal that holds, 0 for none, at every row of bytes, however damaged.
 use protocol::Entry;
 use protocol::Geometry;
+use protocol::Map;
 use ring::Window;
 ghost use mathlib.Core.Path.{_≡_};
-ghost use mathlib.Core.Bool.{false};
-ghost use Prim.Native.Nat.{_≤_, _<_};
+ghost use mathlib.Core.Bool.{Bool, true, false, _||_};
+ghost use Prim.Native.Nat.{ℕ, _≤_, _<_};
 ghost use lib.ListN.{length};
+ghost use lib.Dec.{leb};
 ghost use Rattle.protocol.specs.Below.{anyBelow, firstBelow};
+ghost use Rattle.protocol.specs.Layout.{goodGeometry};
 ghost use Rattle.protocol.specs.Entry.{entryAt, goodEntry};
 ghost use Rattle.protocol.specs.Check.{entriesApart, damageRefusal, cardRefusal};
+ghost use Rattle.protocol.specs.Map.{mapBy};
 ghost use Rattle.ring.specs.Fitted.{Fitted, Placed, WindowOf};
 ghost use Rattle.checks.specs.Keys.{NONE, settledKey, undoableEntry, keyed, distinct, keyAt};
 ghost use Rattle.checks.specs.Chain.{Chained};
 ghost use Rattle.checks.specs.Quarters.{quartersEntry, Quarter};
-ghost use Rattle.checks.specs.Passed.{Decoded, Comparable, Inspected};
+ghost use Rattle.checks.specs.Passed.{Decoded, MarkedBy, Comparable, Inspected};
 
 // Entry i of the card.
 pub fn entry_of(g: Geometry, card: &[u8], i: usize) -> Entry
@@ -93,24 +97,35 @@ fn wide(k: u32) -> usize
     k as usize
 }
 
-// Whether no two keys of data blocks are equal, by a mark for each block.
-fn blocks_apart(keys: &[u32; 128], n: usize) -> bool
+// Whether no two keys of data blocks are equal, and where that is so a mark for each block that is a key.
+pub struct Marks {
+    pub apart: bool,
+    pub map: Map,
+}
+
+fn mark_blocks(keys: &[u32; 128], n: usize) -> Marks
     requires { ⌜ n ≤ 128 ⌝ }
-    ensures { λ r. ⌜ r ≡ distinct (keyAt (now (keys .entry))) 128 n ⌝ }
+    ensures { λ r. ⌜ MarkedBy (keyAt (now (keys .entry))) n r ⌝ }
 {
-    let mut marks = [0u8; 128];
+    let mut map = Map { low: 0, high: 0 };
     let mut i: usize = 0;
     while i < n {
         let k = wide(keys[i]);
         i += 1;
         if k < 128 {
-            if marks[k] != 0 {
-                return false;
+            if freemap::has(map, k) {
+                return Marks {
+                    apart: false,
+                    map: map,
+                };
             }
-            marks[k] = 1;
+            map = freemap::with(map, k);
         }
     }
-    true
+    Marks {
+        apart: true,
+        map: map,
+    }
 }
 
 fn index(x: u8) -> usize
@@ -203,25 +218,19 @@ fn settled_apart(g: Geometry, card: &[u8]) -> bool
         keys[i] = settled_key(g, card, w, i);
         i += 1;
     }
-    blocks_apart(&keys, n)
+    let marks = mark_blocks(&keys, n);
+    marks.apart
 }
 
-// Not 6, from the keys of numbers and current blocks. A settled card's settled blocks are its current ones.
-fn entries_apart(
-    g: Geometry,
-    card: &[u8],
-    ids: &[u32; 128],
-    currents: &[u32; 128],
-    settled: bool,
-) -> bool
-    requires { ⌜ Comparable g (now card) (now ids) (now currents) settled ⌝ }
+// Not 6, from the keys of numbers and whether the current blocks are apart. A settled card's settled blocks are its current ones.
+fn entries_apart(g: Geometry, card: &[u8], ids: &[u32; 128], apart: bool, settled: bool) -> bool
+    requires { ⌜ Comparable g (now card) (now ids) apart settled ⌝ }
     ensures { λ r. ⌜ r ≡ entriesApart g (now (card .entry)) ⌝ }
 {
-    let n = g.blocks as usize;
-    if !numbers_apart(ids, n) {
+    if !apart {
         return false;
     }
-    if !blocks_apart(currents, n) {
+    if !numbers_apart(ids, g.blocks as usize) {
         return false;
     }
     if settled {
@@ -230,10 +239,11 @@ fn entries_apart(
     settled_apart(g, card)
 }
 
-// What checks 4 to 6 find, and where they find nothing, whether the card is settled.
+// What checks 4 to 6 find, and where they find nothing, whether the card is settled and the map that it gives.
 pub struct Verdict {
     pub refusal: u8,
     pub settled: bool,
+    pub map: Map,
 }
 
 fn refused(refusal: u8) -> Verdict
@@ -242,10 +252,20 @@ fn refused(refusal: u8) -> Verdict
     Verdict {
         refusal: refusal,
         settled: false,
+        map: Map { low: 0, high: 0 },
     }
 }
 
-// Checks 4 to 6, and with them the keys of the card's entries for whoever looks for a number or a free block next.
+// The card's map: the blocks that are marked, and those that it does not have.
+fn whole_map(g: Geometry, marks: Map) -> Map
+    requires { ⌜ goodGeometry g ≡ true ⌝ }
+    ensures { λ r. ⌜ ((p : ℕ → Bool) → marks ≡ mapBy p → r ≡ mapBy (λ d. p d || leb (g .blocks) d)) ⌝ }
+{
+    let nothing = Map { low: 0, high: 0 };
+    freemap::moved(marks, nothing, freemap::beyond(g.blocks as usize))
+}
+
+// Checks 4 to 6, and with them the keys of the card's entries for whoever looks for a number next, and the card's map.
 pub fn inspect(g: Geometry, card: &[u8], ids: &mut [u32; 128], currents: &mut [u32; 128]) -> Verdict
     requires { ⌜ Fitted g (now card) × (length (now ids) ≡ 128) × (length (now currents) ≡ 128) ⌝ }
     ensures { λ r. ⌜ Inspected g (now (card .entry)) (now (ids .exit)) (now (currents .exit)) r ⌝ }
@@ -258,12 +278,14 @@ pub fn inspect(g: Geometry, card: &[u8], ids: &mut [u32; 128], currents: &mut [u
         return refused(5);
     }
     let settled = (ring::head_of(card) == ring::tail_of(card)) & seen.quiet;
-    if !entries_apart(g, card, ids, currents, settled) {
+    let marks = mark_blocks(currents, g.blocks as usize);
+    if !entries_apart(g, card, ids, marks.apart, settled) {
         return refused(6);
     }
     Verdict {
         refusal: 0,
         settled: settled,
+        map: whole_map(g, marks.map),
     }
 }
 

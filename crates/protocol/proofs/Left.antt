@@ -389,12 +389,6 @@ module _ {g : Geometry} {c : List ℕ} (w : Intact g c) where
       (sym (made-flat (eachBelow (undoRuns g c) i) (undoRuns g c i) c))
       (turn i _ (omega arith) (turns i (omega arith)))
 
-  abbrev gone : ℕ → Bool
-  gone x = anyBelow (λ i. undoableAt g c i && eqb (entryAt g c i .current) x) (g .blocks)
-
-  abbrev come : ℕ → Bool
-  come x = anyBelow (λ i. undoableAt g c i && eqb (entryAt g c i .previous) x) (g .blocks)
-
   -- Tail's store, made or left out, touches no entry
   tail-too : (c′ : List ℕ) → Undoing (g .blocks) c′ → Undoing (g .blocks) (madeOn card (flat (ifChanging c (tailStore (headOf c)))) c′)
   unfolding ifChanging flat single madeOn
@@ -432,38 +426,60 @@ module _ {g : Geometry} {c : List ℕ} (w : Intact g c) where
         λ x b p. (ap inUse (q ∙ h) ∙ kept-used _ _ _, ap (λ (y : Entry). y .current) (q ∙ h) ∙ p),
       )
 
-  recover-moves : Moves g c (madeOn card (flat (recoverRuns g c)) c) (undoableAt g c) gone come
-  unfolding recovered usedAt
-  recover-moves =
-      let x = all-done in
-      record {
-        own = geometry-same c _ (x .header) ∙ w .own;
-        others = λ i l n. x .done i l l ∙ ap (λ (b : Bool). cond b (undone (entryAt g c i)) (entryAt g c i)) n;
-        gave = λ i l u n. any-found _ (g .blocks) i l (and-both u (eq-eqb (entryAt g c i .current) (entryAt g c i .current) refl));
-        given = λ d b e.
-            let (i, l, h) = any-witness (λ i. undoableAt g c i && eqb (entryAt g c i .current) d) (g .blocks) e in
-            let u = and-left (undoableAt g c i) _ h in
-            (i, l, u, (undoable-used i u, eqb-true _ _ (and-right (undoableAt g c i) _ h)));
-        took = λ i l u n.
-            let q = x .done i l l ∙ ap (λ (b : Bool). cond b (undone (entryAt g c i)) (entryAt g c i)) u in
-            any-found _ (g .blocks) i l (and-both u (eq-eqb _ _ (sym (undone-has i _ l u q .0 n))));
-        taken = λ d b e.
-            let (i, l, h) = any-witness (λ i. undoableAt g c i && eqb (entryAt g c i .previous) d) (g .blocks) e in
-            let u = and-left (undoableAt g c i) _ h in
-            let q = x .done i l l ∙ ap (λ (b : Bool). cond b (undone (entryAt g c i)) (entryAt g c i)) u in
-            (i, l, u, undone-has i _ l u q .1 d b (eqb-true _ _ (and-right (undoableAt g c i) _ h)));
-      }
+  -- the entries that change: of the undoable ones at least those that are not undone already
+  module _ (changed : ℕ → Bool) (only : (i : ℕ) → i < g .blocks → changed i ≡ true → undoableAt g c i ≡ true)
+      (all : (i : ℕ) → i < g .blocks → changed i ≡ false → undoableAt g c i ≡ true → undone (entryAt g c i) ≡ entryAt g c i) where
+    abbrev gone : ℕ → Bool
+    gone x = anyBelow (λ i. changed i && eqb (entryAt g c i .current) x) (g .blocks)
 
-  recover-leaves : mapOf (madeOn card (flat (recoverRuns g c)) c) ≡ mapBy (λ x. (isMarked g c x && not (gone x)) || come x)
-  recover-leaves = map-moves w recover-moves
+    abbrev come : ℕ → Bool
+    come x = anyBelow (λ i. changed i && eqb (entryAt g c i .previous) x) (g .blocks)
 
-pub recover-map : (c : List ℕ) (m : Map) → recoverRefusal c m ≡ 0
-    → mapOf (madeOn card (flat (recoverRuns (geometryOf c) c)) c)
-    ≡ mapBy (λ x.
-    (isMarked (geometryOf c) c x
-    && not (anyBelow (λ i. undoableAt (geometryOf c) c i && eqb (entryAt (geometryOf c) c i .current) x) (geometryOf c .blocks)))
-    || anyBelow (λ i. undoableAt (geometryOf c) c i && eqb (entryAt (geometryOf c) c i .previous) x) (geometryOf c .blocks))
-unfolding recoverRefusal makeRefusal
-recover-map c m z =
-    let (fit, damage) = orElse-none (fitRefusal c) _ (orElse-none (makeRefusal c) _ z .0) in
-    recover-leaves (intact c fit damage)
+    stays : (i : ℕ) → i < g .blocks → changed i ≡ false → recovered g c i ≡ entryAt g c i
+    unfolding recovered
+    stays i l n = ⊎-elim
+        (λ u. ap (λ (b : Bool). cond b (undone (entryAt g c i)) (entryAt g c i)) u ∙ all i l n u)
+        (λ u. ap (λ (b : Bool). cond b (undone (entryAt g c i)) (entryAt g c i)) u)
+        (either (undoableAt g c i))
+
+    becomes : (i : ℕ) (e : Entry) → i < g .blocks → changed i ≡ true → e ≡ recovered g c i → e ≡ undone (entryAt g c i)
+    unfolding recovered
+    becomes i e l h q = q ∙ ap (λ (b : Bool). cond b (undone (entryAt g c i)) (entryAt g c i)) (only i l h)
+
+    recover-moves : Moves g c (madeOn card (flat (recoverRuns g c)) c) changed gone come
+    unfolding usedAt
+    recover-moves =
+        let x = all-done in
+        record {
+          own = geometry-same c _ (x .header) ∙ w .own;
+          others = λ i l n. x .done i l l ∙ stays i l n;
+          gave = λ i l h n. any-found _ (g .blocks) i l (and-both h (eq-eqb (entryAt g c i .current) (entryAt g c i .current) refl));
+          given = λ d b e.
+              let (i, l, h) = any-witness (λ i. changed i && eqb (entryAt g c i .current) d) (g .blocks) e in
+              let k = and-left (changed i) _ h in
+              (i, l, k, (undoable-used i (only i l k), eqb-true _ _ (and-right (changed i) _ h)));
+          took = λ i l h n.
+              let q = becomes i _ l h (x .done i l l) in
+              any-found _ (g .blocks) i l (and-both h (eq-eqb _ _ (sym (undone-has i _ l (only i l h) q .0 n))));
+          taken = λ d b e.
+              let (i, l, h) = any-witness (λ i. changed i && eqb (entryAt g c i .previous) d) (g .blocks) e in
+              let k = and-left (changed i) _ h in
+              let q = becomes i _ l k (x .done i l l) in
+              (i, l, k, undone-has i _ l (only i l k) q .1 d b (eqb-true _ _ (and-right (changed i) _ h)));
+        }
+
+    recover-leaves : mapOf (madeOn card (flat (recoverRuns g c)) c) ≡ mapBy (λ x. (isMarked g c x && not (gone x)) || come x)
+    recover-leaves = map-moves w recover-moves
+
+module _ (c : List ℕ) (m : Map) (z : recoverRefusal c m ≡ 0) (changed : ℕ → Bool)
+    (only : (i : ℕ) → i < geometryOf c .blocks → changed i ≡ true → undoableAt (geometryOf c) c i ≡ true)
+    (all : (i : ℕ) → i < geometryOf c .blocks → changed i ≡ false → undoableAt (geometryOf c) c i ≡ true
+    → undone (entryAt (geometryOf c) c i) ≡ entryAt (geometryOf c) c i) where
+  pub recover-map : mapOf (madeOn card (flat (recoverRuns (geometryOf c) c)) c)
+      ≡ mapBy (λ x.
+      (isMarked (geometryOf c) c x && not (anyBelow (λ i. changed i && eqb (entryAt (geometryOf c) c i .current) x) (geometryOf c .blocks)))
+      || anyBelow (λ i. changed i && eqb (entryAt (geometryOf c) c i .previous) x) (geometryOf c .blocks))
+  unfolding recoverRefusal makeRefusal
+  recover-map =
+      let (fit, damage) = orElse-none (fitRefusal c) _ (orElse-none (makeRefusal c) _ z .0) in
+      recover-leaves (intact c fit damage) changed only all

@@ -18,17 +18,10 @@ use Rattle.protocol.specs.Entry.{FRESH, entryAt, inUse}
 use Rattle.protocol.specs.Ring.{usedAt}
 use Rattle.protocol.specs.Search.{takenBy, isFree}
 use Rattle.protocol.specs.Map.{mapBy, isMarked, mapOf}
-use Rattle.protocol.proofs.Below.{either, absurd-bool, and-left, and-right, and-both, or-left, or-right, or-true, any-found, any-none, any-witness, below-or-above}
+use Rattle.protocol.proofs.Below.{either, absurd-bool, bool-same, and-left, and-right, and-both, or-left, or-right, or-true, any-found, any-none, any-witness, below-or-above}
 use Rattle.protocol.proofs.Checks.{Limits, limits}
 use Rattle.protocol.proofs.Lawful.{Intact, currents-apart, current-below}
 use Rattle.protocol.proofs.Words.{map-cong}
-
--- two tests that hold together are one
-pub same-test : (a b : Bool) → (a ≡ true → b ≡ true) → (b ≡ true → a ≡ true) → a ≡ b
-same-test true true f h = refl
-same-test true false f h = absurd-bool (f refl) refl
-same-test false true f h = absurd-bool (h refl) refl
-same-test false false f h = refl
 
 -- ---- a change of some entries
 
@@ -128,7 +121,7 @@ module _ {g : Geometry} {c c′ : List ℕ} {changed gone come : ℕ → Bool} (
 
       go : (d < g .blocks) ⊎ (g .blocks ≤ d) → isMarked g c′ d ≡ (isMarked g c d && not (gone d)) || come d
       go (inl h) =
-          marked-below g c′ d h ∙ same-test _ _ there back
+          marked-below g c′ d h ∙ bool-same _ _ there back
           ∙ ap (λ (b : Bool). (b && not (gone d)) || come d) (sym (marked-below g c d h))
       go (inr h) =
           marked-beyond g c′ d h

@@ -110,7 +110,7 @@ module _ (p : ℕ → Bool) (n start : ℕ) where
           sides (inr m) (inl m′) = absurd (never k′ m′ (sym (old (x ∷ []) k′ q m′) ∙ sym e ∙ last k m l))
           sides (inr m) (inr m′) = omega (arith, long)
 
-  length-walk : (j : ℕ) → length (walked p n start j) ≡ countBelow (λ i. p (around n start i)) j
+  pub length-walk : (j : ℕ) → length (walked p n start j) ≡ countBelow (λ i. p (around n start i)) j
   unfolding walked eachBelow countBelow
   length-walk zero = refl
   length-walk (suc j) = go (longer j) (length-walk j)
@@ -136,7 +136,7 @@ count-cong p q (suc n) f =
     let ih = count-cong p q n (λ i l. f i (omega arith)) in
     λ t. cond (f n (omega arith) t) (suc (ih t)) (ih t)
 
-count-split : (p : ℕ → Bool) (a b : ℕ) → countBelow p (a + b) ≡ countBelow p a + countBelow (λ j. p (a + j)) b
+pub count-split : (p : ℕ → Bool) (a b : ℕ) → countBelow p (a + b) ≡ countBelow p a + countBelow (λ j. p (a + j)) b
 unfolding countBelow
 count-split p a zero = rw add-zero (omega arith)
 count-split p a (suc b) = rw add-suc (go (p (a + b)) (count-split p a b))
@@ -148,7 +148,7 @@ count-split p a (suc b) = rw add-suc (go (p (a + b)) (count-split p a b))
     go false h = omega arith
 
 -- a walk all round meets each place once
-count-round : (p : ℕ → Bool) (n s : ℕ) → s < n → countBelow (λ i. p (around n s i)) n ≡ countBelow p n
+pub count-round : (p : ℕ → Bool) (n s : ℕ) → s < n → countBelow (λ i. p (around n s i)) n ≡ countBelow p n
 unfolding around
 count-round p n s l =
     let m : n ≡ n - s + s = omega arith in
@@ -190,7 +190,7 @@ count-grows p q (suc n) k l a b f =
     step false true e h = absurd-bool refl e
     step false false e h = omega arith
 
-count-not : (p : ℕ → Bool) (n : ℕ) → countBelow p n + countBelow (λ i. not (p i)) n ≡ n
+pub count-not : (p : ℕ → Bool) (n : ℕ) → countBelow p n + countBelow (λ i. not (p i)) n ≡ n
 unfolding countBelow
 count-not p zero = refl
 count-not p (suc n) = go (p n) (count-not p n)

@@ -44,14 +44,14 @@ loop-again c =
     let b : l .i < length (l .keys) = omega arith in
     (search needs, search needs, search needs, lists-more _ _ _ _ b (l .inv .3) (c .settled-key .ensures))
 
-blocks-apart-requires : tie.Need-blocks-apart-requires Inv-loop μ-loop
-blocks-apart-requires c κs = search needs
+mark-blocks-requires : tie.Need-mark-blocks-requires Inv-loop μ-loop
+mark-blocks-requires c κs = search needs
 
 returns : tie.Need-returns Inv-loop μ-loop
 returns c =
-    let e = c .before .before in listed-distinct _ _ _ _ _ (lists-all _ _ _ _ (e .loop-test .left) (e .before .loop .inv .3)) (c .blocks-apart .ensures)
+    let e = c .before .before in listed-distinct _ _ _ _ _ (lists-all _ _ _ _ (e .loop-test .left) (e .before .loop .inv .3)) (c .mark-blocks .ensures .apart-is)
 
 pub settled-apart-spec : {M : Type 1} → statement M
 settled-apart-spec =
     tie.close (tie.spec Inv-loop μ-loop window-of-requires loop-holds settled-key-requires mul-keys array-write-keys add-i loop-less
-    loop-again blocks-apart-requires returns)
+    loop-again mark-blocks-requires returns)
