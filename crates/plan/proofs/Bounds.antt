@@ -11,6 +11,7 @@ use lib.ListN.{length, getD}
 use lib.Dec.{eqb, ltb}
 use borrow.Author.Tests.{eq-eqb, eqb-true, leb-true, ltb-true}
 use Rattle.protocol.specs.declared.Geometry.{Geometry}
+use Rattle.protocol.specs.declared.Map.{Map}
 use Rattle.protocol.specs.Below.{countBelow, walked}
 use Rattle.protocol.specs.Layout.{geometryOf, blockSize}
 use Rattle.protocol.specs.Entry.{entryAt}
@@ -20,7 +21,9 @@ use Rattle.protocol.specs.Search.{takenBy, isFree, unusedAt, searchStart, freeB
 use Rattle.protocol.specs.Commit.{numberOf, uncachedAt, newBlock, entryFound, countFits, dataFits, numbersFit, numbersApart, roomFor, saveRefusal, commitRefusal}
 use Rattle.protocol.proofs.Below.{absurd-bool, either, below-or-above, and-left, and-right, or-right, or-left, all-at, around-below, count-le}
 use Rattle.protocol.proofs.Checks.{Limits, limits, orElse-none, refuse-none}
+use Rattle.protocol.specs.Map.{mapRefusal}
 use Rattle.protocol.proofs.Allowed.{bounded}
+use Rattle.protocol.proofs.Lawful.{currents-apart}
 use Rattle.protocol.proofs.Searches.{walk-finds, unused-enough}
 use Rattle.ring.specs.Fitted.{Fitted}
 use Rattle.ring.proofs.Laws.{fit-fitted}
@@ -39,12 +42,13 @@ pub record Passed (g : Geometry) (c ns bs : List ℕ) : Type 0 where
   pub sized : length bs ≡ length ns * blockSize g
   pub room : length ns ≤ length (freeBlocks g c)
 
-pub passed : (c ns bs : List ℕ) → commitRefusal c ns bs ≡ 0 → Passed (geometryOf c) c ns bs
+pub passed : (c : List ℕ) (m : Map) (ns bs : List ℕ) → commitRefusal c m ns bs ≡ 0 → Passed (geometryOf c) c ns bs
 unfolding commitRefusal cardRefusal damageRefusal ringFits saveRefusal countFits dataFits roomFor
-passed c ns bs z =
+passed c m ns bs z =
     let g : Geometry = geometryOf c in
     let (fit, more) = orElse-none (fitRefusal c) _ z in
-    let (whole, own) = orElse-none (cardRefusal g c) _ more in
+    let (whole, rest) = orElse-none (cardRefusal g c) _ more in
+    let own = orElse-none (mapRefusal c m) _ rest .1 in
     let damage = orElse-none (damageRefusal g c) _ whole .0 in
     let (ring, entries) = orElse-none (refuse 4 (ringFits g c)) _ damage in
     let (five, six) = orElse-none (refuse 5 (entriesFit g c)) _ entries in
@@ -86,23 +90,6 @@ module _ {g : Geometry} {c ns bs : List ℕ} (v : Passed g c ns bs) where
   unfolding newBlock freeBlocks
   new-below i l = found-below (isFree g c) i (omega (arith, v .room))
 
-  -- two entries in use with one current block are one entry
-  currents-differ : (i j : ℕ) → i < g .blocks → j < i → usedAt g c i ≡ true → usedAt g c j ≡ true → entryAt g c i .current ≡ entryAt g c j .current → ⊥
-  unfolding entriesApart apartBefore apart alike
-  currents-differ i j li ji ui uj e =
-      let same : alike g c i j ≡ true =
-      or-right (eqb (entryAt g c i .number) (entryAt g c j .number)) _ (or-left (eqb (entryAt g c i .current) (entryAt g c j .current)) _ (eq-eqb _ _ e)) in
-      absurd-bool (all-at (apart g c i) i j (all-at (apartBefore g c) (g .blocks) i (v .distinct) li) ji) (rw (ui, uj, same))
-
-  currents-apart : (i j : ℕ) → i < g .blocks → j < g .blocks → usedAt g c i ≡ true → usedAt g c j ≡ true
-      → entryAt g c i .current ≡ entryAt g c j .current → i ≡ j
-  currents-apart i j li lj ui uj e =
-      ⊎-elim
-      (λ (l : i < j). absurd (currents-differ j i lj l uj ui (sym e)))
-      (λ (l : j ≤ i).
-      ⊎-elim (λ (m : j < i). absurd (currents-differ i j li m ui uj e)) (λ (m : i ≤ j). omega arith) (below-or-above j i))
-      (below-or-above i j)
-
   current-below : (i : ℕ) → i < g .blocks → entryAt g c i .current < g .blocks
   unfolding entriesFit goodEntryAt
   current-below i l =
@@ -113,7 +100,7 @@ module _ {g : Geometry} {c ns bs : List ℕ} (v : Passed g c ns bs) where
   enough-unused : length (freeBlocks g c) ≤ length (unusedEntries g c)
   unfolding freeBlocks unusedEntries isFree takenBy unusedAt
   enough-unused =
-      unused-enough (usedAt g c) (λ i. entryAt g c i .current) (g .blocks) (searchStart g c) currents-apart (λ i l u. current-below i l) start-below
+      unused-enough (usedAt g c) (λ i. entryAt g c i .current) (g .blocks) (searchStart g c) (currents-apart g c (v .distinct)) (λ i l u. current-below i l) start-below
 
   pub entry-below : (i : ℕ) → i < length ns → entryFound g c ns i < g .blocks
   unfolding entryFound uncachedAt cached unusedEntries

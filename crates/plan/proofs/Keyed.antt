@@ -1,5 +1,5 @@
--- What is found among the keys of a card's entries is what document 01's searches find on the card: the tests agree at each place, so the walks
--- are the same. Assumes nothing.
+-- What is found among the keys of a card's entries is what document 01's search for unused entries finds on the card: the tests agree at each
+-- place, so the walks are the same. Assumes nothing.
 use Prim.Native.Nat.{ℕ, zero, suc, _%_, _≤_, _<_}
 use mathlib.Core.List.{List, _++_}
 use mathlib.Core.Bool.{Bool, true, false, not, _&&_}
@@ -20,17 +20,11 @@ use Rattle.protocol.proofs.Checks.{Limits, limits}
 use Rattle.protocol.proofs.Allowed.{Bounded, bounded}
 use Rattle.ring.specs.Fitted.{Fitted}
 use Rattle.checks.specs.Keys.{NONE, key, keyed, keyAt, numberKey, currentKey, Lists}
+use Rattle.freemap.proofs.Search.{walked-same}
 use Rattle.plan.specs.declared.Places.{Places}
 use Rattle.plan.specs.Searched.{Searched}
 
 -- ---- walks by tests that agree
-
-walked-same : (p q : ℕ → Bool) (n s j : ℕ) → s < n → j ≤ n → ((x : ℕ) → x < n → p x ≡ q x) → walked p n s j ≡ walked q n s j
-unfolding walked eachBelow
-walked-same p q n s zero l b f = refl
-walked-same p q n s (suc j) l b f =
-    let e : walked p n s j ≡ walked q n s j = walked-same p q n s j l (omega arith) f in
-    λ t. e t ++ keep (f (around n s j) (around-below n s j l (omega arith)) t) (around n s j)
 
 searched-same : (p q : ℕ → Bool) (n s want : ℕ) (r : Places) → s < n → ((x : ℕ) → x < n → p x ≡ q x) → Searched p n s want r → Searched q n s want r
 searched-same p q n s want r l f h =
@@ -41,12 +35,6 @@ searched-same p q n s want r l f h =
     }
 
 -- ---- one entry's keys
-
--- p is the current block of an entry in use
-key-taken : (u : Bool) (x p : ℕ) → p < 128 → eqb (key u x) p ≡ u && eqb x p
-unfolding key
-key-taken true x p l = refl
-key-taken false x p l = ne-eqb NONE p (omega arith)
 
 key-none : (u : Bool) (x : ℕ) → x < NONE → eqb (key u x) NONE ≡ not u
 unfolding key
@@ -67,22 +55,6 @@ module _ (g : Geometry) (c : List ℕ) (f : Fitted g c) where
   start-below h = mod-lt h start-blocks
 
   module _ (start want : ℕ) (r : Places) (s : (start ≡ searchStart g c) × (start < g .blocks)) where
-    pub free-found : (cs marks : List ℕ) → Lists (currentKey g c) cs (g .blocks)
-        → ((p : ℕ) → p < 128 → keyed (keyAt marks) NONE p ≡ not (anyBelow (keyed (keyAt cs) p) (g .blocks)))
-        → Searched (keyed (keyAt marks) NONE) (g .blocks) start want r → Searched (isFree g c) (g .blocks) (searchStart g c) want r
-    unfolding isFree takenBy currentKey keyed
-    free-found cs marks h m x =
-        let l : Limits g = limits g (f .good) in
-        rw (← s .0)
-        (searched-same _ _ (g .blocks) start want r (s .1)
-        (λ p b.
-        let p128 : p < 128 = omega arith in
-        m p p128
-        ∙ ap not
-        (any-cong (keyed (keyAt cs) p) (takenBy g c p) (g .blocks)
-        (λ i d. ap (λ (k : ℕ). eqb k p) (h i d) ∙ key-taken (usedAt g c i) (entryAt g c i .current) p p128)))
-        x)
-
     pub unused-found : (ids : List ℕ) → entriesFit g c ≡ true → Lists (numberKey g c) ids (g .blocks)
         → Searched (keyed (keyAt ids) NONE) (g .blocks) start want r → Searched (unusedAt g c) (g .blocks) (searchStart g c) want r
     unfolding unusedAt numberKey keyed entriesFit goodEntryAt

@@ -5,24 +5,29 @@ use mathlib.Core.Bool.{Bool, true, false, not}
 use mathlib.Core.Path.{_≡_, refl, sym, ap, subst, _∙_}
 use native.Mathlib.Omega.{arith}
 use lib.ListN.{length}
-use lib.Dec.{leb}
-use borrow.Author.Tests.{le-leb, lt-leb, leb-true, not-true, not-false}
+use borrow.Author.Tests.{le-leb, lt-leb, not-true, not-false}
 use Rattle.protocol.specs.declared.Geometry.{Geometry}
-use Rattle.protocol.specs.Layout.{geometryOf}
+use Rattle.protocol.specs.declared.Map.{Map}
+use Rattle.protocol.specs.Layout.{goodGeometry, geometryOf}
 use Rattle.protocol.specs.Check.{refuse, _orElse_, ringFits, entriesFit, fitRefusal, damageRefusal, cardRefusal}
 use Rattle.protocol.specs.Search.{isFree, searchStart, freeBlocks}
+use Rattle.protocol.specs.Map.{mapBy, isMarked, mapOf, freeCount, sameMap, mapRefusal}
 use Rattle.protocol.specs.Commit.{newBlock, countFits, dataFits, numbersFit, roomFor, saveRefusal, commitRefusal}
 use Rattle.protocol.proofs.Checks.{Limits, limits, refuse-passed, refuse-failed, orElse-first, orElse-next, orElse-none, refuse-none}
+use Rattle.protocol.proofs.Below.{around-below}
+use Rattle.protocol.proofs.Searches.{walk-finds}
+use Rattle.freemap.specs.declared.Taken.{Taken}
+use Rattle.freemap.specs.Bits.{takenMap, takenAt}
+use Rattle.freemap.specs.Taken.{Took}
+use Rattle.freemap.proofs.Search.{search-block, search-map, search-count}
 use Rattle.ring.specs.Fitted.{Fitted}
 use Rattle.checks.specs.declared.Verdict.{Verdict}
 use Rattle.checks.specs.Keys.{keyAt}
 use Rattle.checks.specs.Passed.{Inspected}
 use Rattle.checks.proofs.Order.{card-damaged, card-settled, card-unsettled}
-use Rattle.plan.specs.declared.Places.{Places}
 use Rattle.plan.specs.declared.Homes.{Homes}
 use Rattle.plan.specs.declared.Saving.{Saving}
 use Rattle.plan.specs.Request.{requestRefusal}
-use Rattle.plan.specs.Searched.{Searched}
 use Rattle.plan.proofs.Rows.{walk-few}
 use Rattle.plan.specs.Planned.{Keyed, AllHoused, Planned, Saved, Examined, Prepared}
 
@@ -58,38 +63,60 @@ module _ (g : Geometry) (c ns bs : List ℕ) (r : ℕ) (e : r ≡ requestRefusal
     past-request : (q : ℕ) → q ≡ refuse 14 (roomFor g c (length ns)) → q ≡ saveRefusal g c ns bs
     past-request q h = orElse-next q (requestRefusal g ns bs) _ (sym z ∙ e) h ∙ save-splits g c ns bs
 
-    module _ (free : Places) (s : Searched (isFree g c) (g .blocks) (searchStart g c) (length ns) free) where
-      room-is : (b : Bool) → leb (length ns) (free .count) ≡ b → roomFor g c (length ns) ≡ b
-      unfolding roomFor freeBlocks
-      room-is b h = sym (s .enough) ∙ h
+    -- the free count of the card's map decides
+    module _ (good : goodGeometry g ≡ true) (m : Map) (q : m ≡ mapBy (isMarked g c)) (free : ℕ) (f : free ≡ freeCount m) where
+      counted : free ≡ length (freeBlocks g c)
+      counted = f ∙ ap freeCount q ∙ search-count g c good
 
-      pub saved-full : (u : Saving) → free .count < length ns → u .refusal ≡ 14 → Saved g c ns bs u
-      saved-full u l q =
-          let full = room-is false (lt-leb (length ns) (free .count) l) in
+      pub saved-full : (u : Saving) → free < length ns → u .refusal ≡ 14 → Saved g c ns bs u
+      unfolding roomFor
+      saved-full u l k =
+          let full : roomFor g c (length ns) ≡ false = lt-leb (length ns) (length (freeBlocks g c)) (omega (arith, counted)) in
           record {
-            refusal-is = q ∙ past-request 14 (refuse-failed 14 (roomFor g c (length ns)) full);
+            refusal-is = k ∙ past-request 14 (refuse-failed 14 (roomFor g c (length ns)) full);
             planned = λ w. absurd (omega arith);
           }
 
-      module _ (l : length ns ≤ free .count) where
-        room : roomFor g c (length ns) ≡ true
-        room = room-is true (le-leb (length ns) (free .count) l)
+      module _ (l : length ns ≤ free) where
+        enough : length ns ≤ length (freeBlocks g c)
+        enough = omega (arith, counted)
 
-        pub saved-few : (ids currents : List ℕ) → Keyed g c ids currents → length ns ≤ 128
-        unfolding roomFor freeBlocks
-        saved-few ids currents k =
-            let m : Limits g = limits g (k .fitted .good) in
-            let h : length ns ≤ length (freeBlocks g c) = leb-true _ _ room in
-            omega (arith, h, walk-few (isFree g c) (g .blocks) (searchStart g c) (g .blocks))
+        pub saved-few : length ns ≤ 128
+        unfolding freeBlocks
+        saved-few =
+            let k : Limits g = limits g good in
+            omega (arith, enough, walk-few (isFree g c) (g .blocks) (searchStart g c) (g .blocks))
 
-        pub saved-planned : (h : Homes) → AllHoused g c ns h
-            → Saved g c ns bs (record { refusal = 0; plan = record { entries = h .entries; previous = h .previous; blocks = free .places } })
-        unfolding newBlock freeBlocks keyAt
-        saved-planned h a =
-            record {
-              refusal-is = past-request 0 (refuse-passed 14 (roomFor g c (length ns)) room);
-              planned = λ w. record { entries = a .entries; previous = a .previous; blocks = λ i b. s .listed i b };
-            }
+        module _ (start : ℕ) (b : (start ≡ searchStart g c) × (start < g .blocks)) where
+          taken-block : (i : ℕ) → i < length ns → takenAt m start i ≡ newBlock g c i
+          taken-block i h = (λ t. takenAt (q t) (b .0 t) i) ∙ search-block g c good i (omega (arith, enough))
+
+          taken-few : (i : ℕ) → i < length ns → takenAt m start i < 128
+          unfolding newBlock freeBlocks
+          taken-few i h =
+              let k : Limits g = limits g good in
+              let x = walk-finds (isFree g c) (g .blocks) (searchStart g c) (g .blocks) i (omega (arith, enough)) in
+              let y = around-below (g .blocks) (searchStart g c) (x .step) (subst (λ (z : ℕ). z < g .blocks) (b .0) (b .1)) (omega (arith, x .before)) in
+              omega (arith, taken-block i h, x .at)
+
+          pub take-ready : (start < 128) × (length ns ≤ 128) × ((i : ℕ) → i < length ns → takenAt m start i < 128)
+          take-ready = let k : Limits g = limits g good in (omega (arith, b .1), saved-few, taken-few)
+
+          pub saved-planned : (t : Taken) (h : Homes) → Took m start (length ns) t → AllHoused g c ns h
+              → Saved g c ns bs
+              (record { refusal = 0; plan = record { entries = h .entries; previous = h .previous; blocks = t .blocks; map = t .map } })
+          unfolding keyAt roomFor
+          saved-planned t h x a =
+              record {
+                refusal-is = past-request 0 (refuse-passed 14 (roomFor g c (length ns)) (le-leb (length ns) (length (freeBlocks g c)) enough));
+                planned = λ w.
+                    record {
+                      entries = a .entries;
+                      previous = a .previous;
+                      blocks = λ i k. x .blocks i k ∙ taken-block i k;
+                      map-is = x .map ∙ (λ y. takenMap (q y) (b .0 y) (length ns)) ∙ search-map g c good (length ns) enough;
+                    };
+              }
 
 -- ---- the card's refusals before them
 
@@ -109,8 +136,8 @@ examined-keyed g c ids currents v h z f =
       blocks = h .currents z;
     }
 
-module _ (g : Geometry) (c ids currents ns bs : List ℕ) (v : Verdict) (h : Inspected g c ids currents v) where
-  pub examined-damaged : (u : Saving) → (v .refusal ≡ 0 → ⊥) → u .refusal ≡ v .refusal → Examined g c ns bs u
+module _ (g : Geometry) (c ids currents : List ℕ) (m : Map) (ns bs : List ℕ) (v : Verdict) (h : Inspected g c ids currents v) where
+  pub examined-damaged : (u : Saving) → (v .refusal ≡ 0 → ⊥) → u .refusal ≡ v .refusal → Examined g c m ns bs u
   examined-damaged u o q =
       record {
         refusal-is = q ∙ orElse-first (v .refusal) (cardRefusal g c) _ (card-damaged g c ids currents v h o) o;
@@ -118,7 +145,7 @@ module _ (g : Geometry) (c ids currents ns bs : List ℕ) (v : Verdict) (h : Ins
       }
 
   module _ (z : v .refusal ≡ 0) where
-    pub examined-unsettled : (u : Saving) → not (v .settled) ≡ true → u .refusal ≡ 7 → Examined g c ns bs u
+    pub examined-unsettled : (u : Saving) → not (v .settled) ≡ true → u .refusal ≡ 7 → Examined g c m ns bs u
     examined-unsettled u o q =
         record {
           refusal-is =
@@ -126,16 +153,31 @@ module _ (g : Geometry) (c ids currents ns bs : List ℕ) (v : Verdict) (h : Ins
           planned = unplanned-first g c ns u 7 (omega arith) q;
         }
 
-    pub examined-saved : (u : Saving) → not (v .settled) ≡ false → Saved g c ns bs u → Examined g c ns bs u
-    examined-saved u o s =
-        record {
-          refusal-is =
-              orElse-next (u .refusal) (cardRefusal g c) _ (card-settled g c ids currents v h z (not-false (v .settled) o)) (s .refusal-is);
-          planned = s .planned;
-        }
+    module _ (o : not (v .settled) ≡ false) (t : Bool) (e : t ≡ sameMap m (v .map)) where
+      same-is : sameMap m (mapBy (isMarked g c)) ≡ t
+      same-is = ap (sameMap m) (sym (h .map-is z)) ∙ sym e
 
-module _ (c ns bs : List ℕ) (r : ℕ) (e : r ≡ fitRefusal c) where
-  pub prepared-misfit : (u : Saving) → (r ≡ 0 → ⊥) → u .refusal ≡ r → Prepared c ns bs u
+      past-card : (r : ℕ) → r ≡ refuse 15 (sameMap m (mapBy (isMarked g c))) orElse saveRefusal g c ns bs
+          → r ≡ cardRefusal g c orElse refuse 15 (sameMap m (mapBy (isMarked g c))) orElse saveRefusal g c ns bs
+      past-card r q = orElse-next r (cardRefusal g c) _ (card-settled g c ids currents v h z (not-false (v .settled) o)) q
+
+      pub examined-other : (u : Saving) → not t ≡ true → u .refusal ≡ 15 → Examined g c m ns bs u
+      examined-other u k q =
+          record {
+            refusal-is =
+                q ∙ past-card 15 (orElse-first 15 (refuse 15 (sameMap m (mapBy (isMarked g c)))) _ (refuse-failed 15 _ (same-is ∙ not-true t k)) (omega arith));
+            planned = unplanned-first g c ns u 15 (omega arith) q;
+          }
+
+      pub examined-saved : (u : Saving) → not t ≡ false → Saved g c ns bs u → Examined g c m ns bs u
+      examined-saved u k s =
+          record {
+            refusal-is = past-card (u .refusal) (orElse-next (u .refusal) _ _ (refuse-passed 15 _ (same-is ∙ not-false t k)) (s .refusal-is));
+            planned = s .planned;
+          }
+
+module _ (c : List ℕ) (m : Map) (ns bs : List ℕ) (r : ℕ) (e : r ≡ fitRefusal c) where
+  pub prepared-misfit : (u : Saving) → (r ≡ 0 → ⊥) → u .refusal ≡ r → Prepared c m ns bs u
   unfolding commitRefusal
   prepared-misfit u o q =
       record {
@@ -143,12 +185,13 @@ module _ (c ns bs : List ℕ) (r : ℕ) (e : r ≡ fitRefusal c) where
         planned = unplanned-first (geometryOf c) c ns u r (omega arith) q;
       }
 
-  pub prepared-examined : (g : Geometry) (u : Saving) → r ≡ 0 → g ≡ geometryOf c → Examined g c ns bs u → Prepared c ns bs u
-  unfolding commitRefusal
+  pub prepared-examined : (g : Geometry) (u : Saving) → r ≡ 0 → g ≡ geometryOf c → Examined g c m ns bs u → Prepared c m ns bs u
+  unfolding commitRefusal mapRefusal mapOf
   prepared-examined g u z q x =
       record {
         refusal-is =
             orElse-next (u .refusal) (fitRefusal c) _ (sym z ∙ e)
-            (x .refusal-is ∙ ap (λ (y : Geometry). cardRefusal y c orElse saveRefusal y c ns bs) q);
+            (x .refusal-is
+            ∙ ap (λ (y : Geometry). cardRefusal y c orElse refuse 15 (sameMap m (mapBy (isMarked y c))) orElse saveRefusal y c ns bs) q);
         planned = λ w. subst (λ (y : Geometry). Planned y c ns (u .plan)) q (x .planned w);
       }

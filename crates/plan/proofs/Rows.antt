@@ -17,47 +17,6 @@ use Rattle.protocol.proofs.Below.{same-or-other, below-or-above, any-hit, any-m
 use Rattle.checks.specs.Keys.{NONE, keyed, keyAt}
 use Rattle.plan.specs.Searched.{Searched}
 
--- ---- marks
-
--- place v is marked free where it is none of the first i keys
-pub record Marked (keys : List ℕ) (i : ℕ) (marks : List ℕ) : Type 0 where
-  pub long : length marks ≡ 128
-  pub free : (v : ℕ) → v < 128 → keyed (keyAt marks) NONE v ≡ not (anyBelow (keyed (keyAt keys) v) i)
-
-pub marked-start : (keys : List ℕ) → Marked keys 0 (replicate 128 NONE)
-unfolding keyed keyAt anyBelow
-marked-start keys = record {
-  long = length-replicate {A = ℕ} 128 NONE;
-  free = λ v h. eq-eqb _ NONE (getD-replicate 128 v NONE 0 h);
-}
-
-module _ (keys : List ℕ) (i : ℕ) (marks : List ℕ) (h : Marked keys i marks) where
-  -- another key leaves what is said of v
-  mark-kept : (v : ℕ) → v < 128 → (getD keys i 0 ≡ v → ⊥) → keyed (keyAt marks) NONE v ≡ not (anyBelow (keyed (keyAt keys) v) (i + 1))
-  unfolding keyed keyAt
-  mark-kept v l o = h .free v l ∙ ap not (sym (any-miss (keyed (keyAt keys) v) i (ne-eqb (getD keys i 0) v o)))
-
-  pub marked-skip : (k : ℕ) → k ≡ getD keys i 0 → 128 ≤ k → Marked keys (i + 1) marks
-  marked-skip k q b = record { long = h .long; free = λ v l. mark-kept v l (omega arith) }
-
-  pub marked-more : (k : ℕ) → k ≡ getD keys i 0 → k < 128 → Marked keys (i + 1) (set marks k 0)
-  unfolding keyed keyAt
-  marked-more k q b = record {
-    long = length-set marks k 0 ∙ h .long;
-    free =
-        λ v l.
-        ⊎-elim
-        (λ (e : v ≡ k).
-        ap (λ (x : ℕ). eqb (getD (set marks k 0) x 0) NONE) e
-        ∙ ap (λ (x : ℕ). eqb x NONE) (getD-set-same marks k 0 0 (omega (arith, h .long)))
-        ∙ ap not (sym (any-hit (keyed (keyAt keys) v) i (eq-eqb (getD keys i 0) v (sym (e ∙ q))))))
-        (λ (e : v ≡ k → ⊥). ap (λ (x : ℕ). eqb x NONE) (getD-set-other marks k v 0 0 e) ∙ mark-kept v l (λ z. e (sym z ∙ sym q)))
-        (same-or-other v k);
-  }
-
-  pub marked-end : (n : ℕ) → i ≤ n → n ≤ i → (v : ℕ) → v < 128 → keyed (keyAt marks) NONE v ≡ not (anyBelow (keyed (keyAt keys) v) n)
-  marked-end n a b v l = let e : i ≡ n = omega arith in h .free v l ∙ ap (λ (z : ℕ). not (anyBelow (keyed (keyAt keys) v) z)) e
-
 -- ---- a walk round
 
 zeros : (n k : ℕ) → getD {A = ℕ} (replicate n 0) k 0 ≡ 0

@@ -1,15 +1,17 @@
 -- What a plan holds: for each block of the commit the place of its entry, its previous and its new data block.
 use Prim.Native.Nat.{ℕ, _+_}
 use mathlib.Core.List.{List}
-use mathlib.Core.Bool.{true, cond}
+use mathlib.Core.Bool.{true, cond, _||_}
 use mathlib.Core.Path.{_≡_}
 use lib.ListN.{length, getD}
-use lib.Dec.{ltb}
+use lib.Dec.{eqb, ltb}
 use Rattle.protocol.specs.declared.Geometry.{Geometry}
-use Rattle.protocol.specs.Below.{firstBelow}
+use Rattle.protocol.specs.declared.Map.{Map}
+use Rattle.protocol.specs.Below.{anyBelow, firstBelow}
 use Rattle.protocol.specs.Entry.{FRESH}
 use Rattle.protocol.specs.Layout.{geometryOf}
-use Rattle.protocol.specs.Check.{_orElse_, entriesFit, cardRefusal}
+use Rattle.protocol.specs.Check.{refuse, _orElse_, entriesFit, cardRefusal}
+use Rattle.protocol.specs.Map.{mapBy, isMarked, sameMap}
 use Rattle.protocol.specs.Commit.{newBlock, entryFound, oldBlock, saveRefusal, commitRefusal}
 use Rattle.ring.specs.Fitted.{Fitted}
 use Rattle.checks.specs.Keys.{keyed, keyAt, numberKey, currentKey, Lists}
@@ -45,18 +47,19 @@ pub record Planned (g : Geometry) (c ns : List ℕ) (p : Plan) : Type 0 where
   pub entries : Lists (entryFound g c ns) (p .entries) (length ns)
   pub previous : Lists (oldBlock g c ns) (p .previous) (length ns)
   pub blocks : Lists (newBlock g c) (p .blocks) (length ns)
+  pub map-is : p .map ≡ mapBy (λ x. isMarked g c x || anyBelow (λ k. eqb (newBlock g c k) x) (length ns))
 
 -- commit's own refusal, and where there is none the plan
 pub record Saved (g : Geometry) (c ns bs : List ℕ) (r : Saving) : Type 0 where
   pub refusal-is : r .refusal ≡ saveRefusal g c ns bs
   pub planned : r .refusal ≡ 0 → Planned g c ns (r .plan)
 
--- the refusals of the card's contents before commit's own
-pub record Examined (g : Geometry) (c ns bs : List ℕ) (r : Saving) : Type 0 where
-  pub refusal-is : r .refusal ≡ cardRefusal g c orElse saveRefusal g c ns bs
+-- the refusals of the card's contents and of the map before commit's own
+pub record Examined (g : Geometry) (c : List ℕ) (m : Map) (ns bs : List ℕ) (r : Saving) : Type 0 where
+  pub refusal-is : r .refusal ≡ cardRefusal g c orElse refuse 15 (sameMap m (mapBy (isMarked g c))) orElse saveRefusal g c ns bs
   pub planned : r .refusal ≡ 0 → Planned g c ns (r .plan)
 
 -- all of commit's refusals, and where there is none the plan
-pub record Prepared (c ns bs : List ℕ) (r : Saving) : Type 0 where
-  pub refusal-is : r .refusal ≡ commitRefusal c ns bs
+pub record Prepared (c : List ℕ) (m : Map) (ns bs : List ℕ) (r : Saving) : Type 0 where
+  pub refusal-is : r .refusal ≡ commitRefusal c m ns bs
   pub planned : r .refusal ≡ 0 → Planned (geometryOf c) c ns (r .plan)

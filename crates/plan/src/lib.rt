@@ -1,22 +1,24 @@
 // The plan of a commit, from the card at entry: its own refusals, and for each block its entry, its previous and its new data block.
 use protocol::FRESH;
 use protocol::Geometry;
+use protocol::Map;
 ghost use mathlib.Core.Path.{_≡_};
-ghost use mathlib.Core.Bool.{true, not};
-ghost use Prim.Native.Nat.{ℕ, _≤_, _<_};
+ghost use mathlib.Core.Bool.{true};
+ghost use Prim.Native.Nat.{_≤_, _<_};
 ghost use lib.ListN.{length};
-ghost use Rattle.protocol.specs.Below.{anyBelow, around};
+ghost use Rattle.protocol.specs.Below.{around};
 ghost use Rattle.protocol.specs.Layout.{goodGeometry};
-ghost use Rattle.protocol.specs.Search.{isFree, unusedAt, searchStart};
+ghost use Rattle.protocol.specs.Search.{unusedAt, searchStart};
+ghost use Rattle.protocol.specs.Map.{mapBy, isMarked};
 ghost use Rattle.protocol.specs.Check.{entriesFit};
 ghost use Rattle.protocol.specs.Commit.{numbersFit, newNumber, numbersApart};
 ghost use Rattle.plan.specs.Request.{requestRefusal};
 ghost use Rattle.ring.specs.Fitted.{Fitted};
-ghost use Rattle.checks.specs.Keys.{NONE, keyed, keyAt, numberKey, currentKey, Lists};
+ghost use Rattle.checks.specs.Keys.{NONE, keyed, keyAt, numberKey, Lists};
 ghost use Rattle.plan.specs.Searched.{Searched};
 ghost use Rattle.plan.specs.Planned.{Keyed, Housed, AllHoused, Saved, Examined, Prepared};
 
-// The key of an unused entry and the mark of a free data block: no disk block and no data block has this number.
+// The key of an unused entry: no disk block has this number.
 const NOTHING: u32 = 65536;
 
 // Not 10: each number is below D.
@@ -86,29 +88,6 @@ fn request_refusal(g: Geometry, numbers: &[u64], data: &[u8]) -> u8
     0
 }
 
-fn wide(x: u32) -> usize
-    ensures { λ r. ⌜ r ≡ x ⌝ }
-{
-    x as usize
-}
-
-// A mark for each data block: NOTHING where it is none of the n keys.
-fn free_marks(keys: &[u32; 128], n: usize) -> [u32; 128]
-    requires { ⌜ n ≤ 128 ⌝ }
-    ensures { λ r. ⌜ ((p : ℕ) → p < 128 → keyed (keyAt r) NONE p ≡ not (anyBelow (keyed (keyAt (now (keys .entry))) p) n)) ⌝ }
-{
-    let mut marks = [NOTHING; 128];
-    let mut i: usize = 0;
-    while i < n {
-        let key = wide(keys[i]);
-        i += 1;
-        if key < 128 {
-            marks[key] = 0;
-        }
-    }
-    marks
-}
-
 // Places that a search found, in the order of the search.
 pub struct Places {
     pub count: usize,
@@ -155,21 +134,11 @@ fn walk(marks: &[u32; 128], n: usize, start: usize, want: usize) -> Places
 }
 
 // Document 01's search starts at Head mod N.
-fn search_start(g: Geometry, card: &[u8]) -> usize
+pub fn search_start(g: Geometry, card: &[u8]) -> usize
     requires { ⌜ Fitted g (now card) ⌝ }
     ensures { λ r. ⌜ (r ≡ searchStart g (now (card .entry))) × (r < g .blocks) ⌝ }
 {
     (ring::head_of(card) % g.blocks) as usize
-}
-
-// The first `want` free data blocks, from the keys of the current blocks.
-pub fn free_blocks(g: Geometry, card: &[u8], currents: &[u32; 128], want: usize) -> Places
-    requires { ⌜ Fitted g (now card) × Lists (currentKey g (now card)) (now currents) (g .blocks) ⌝ }
-    ensures { λ r. ⌜ Searched (isFree g (now (card .entry))) (g .blocks) (searchStart g (now (card .entry))) want r ⌝ }
-{
-    let n = g.blocks as usize;
-    let marks = free_marks(currents, n);
-    walk(&marks, n, search_start(g, card), want)
 }
 
 // The first `want` unused entries, from the keys of the numbers.
@@ -257,11 +226,12 @@ fn homes_of(
     }
 }
 
-// The plan of a commit: for each block its entry's place, its previous and its new data block.
+// The plan of a commit: for each block its entry's place, its previous and its new data block, and the map with the new ones marked.
 pub struct Plan {
     pub entries: [u8; 128],
     pub previous: [u32; 128],
     pub blocks: [u8; 128],
+    pub map: Map,
 }
 
 // What a commit asks of a card that is not damaged and settled: refused, or planned.
@@ -279,48 +249,52 @@ fn unplanned(refusal: u8) -> Saving
             entries: [0u8; 128],
             previous: [0u32; 128],
             blocks: [0u8; 128],
+            map: Map { low: 0, high: 0 },
         },
     }
 }
 
-// 8 to 14, and where none of them is given the plan.
+// 8 to 14, and where none of them is given the plan. Free blocks are counted and searched by the card's map.
 pub fn save(
     g: Geometry,
     card: &[u8],
     ids: &[u32; 128],
     currents: &[u32; 128],
+    map: Map,
     numbers: &[u64],
     data: &[u8],
 ) -> Saving
-    requires { ⌜ Keyed g (now card) (now ids) (now currents) ⌝ }
+    requires { ⌜ Keyed g (now card) (now ids) (now currents) × (map ≡ mapBy (isMarked g (now card))) ⌝ }
     ensures { λ r. ⌜ Saved g (now (card .entry)) (now (numbers .entry)) (now («data» .entry)) r ⌝ }
 {
     let refusal = request_refusal(g, numbers, data);
     if refusal != 0 {
         return unplanned(refusal);
     }
-    let free = free_blocks(g, card, currents, numbers.len());
-    if free.count < numbers.len() {
+    if freemap::free_count(map) < numbers.len() as u64 {
         return unplanned(14);
     }
+    let free = freemap::take(map, search_start(g, card), numbers.len());
     let h = homes_of(g, card, ids, currents, numbers);
     let entries = h.entries;
     let previous = h.previous;
-    let blocks = free.places;
+    let blocks = free.blocks;
+    let marked = free.map;
     Saving {
         refusal: 0,
         plan: Plan {
             entries: entries,
             previous: previous,
             blocks: blocks,
+            map: marked,
         },
     }
 }
 
-// 4 to 14 of a card that fits, and where none of them is given the plan. Each entry is decoded once, for the checks and for the plan.
-fn examine(g: Geometry, card: &[u8], numbers: &[u64], data: &[u8]) -> Saving
+// 4 to 15 of a card that fits, and where none of them is given the plan. Each entry is decoded once, for the checks and for the plan.
+fn examine(g: Geometry, card: &[u8], map: Map, numbers: &[u64], data: &[u8]) -> Saving
     requires { ⌜ Fitted g (now card) ⌝ }
-    ensures { λ r. ⌜ Examined g (now (card .entry)) (now (numbers .entry)) (now («data» .entry)) r ⌝ }
+    ensures { λ r. ⌜ Examined g (now (card .entry)) map (now (numbers .entry)) (now («data» .entry)) r ⌝ }
 {
     let mut ids = [0u32; 128];
     let mut currents = [0u32; 128];
@@ -331,16 +305,19 @@ fn examine(g: Geometry, card: &[u8], numbers: &[u64], data: &[u8]) -> Saving
     if !v.settled {
         return unplanned(7);
     }
-    save(g, card, &ids, &currents, numbers, data)
+    if !freemap::same(map, v.map) {
+        return unplanned(15);
+    }
+    save(g, card, &ids, &currents, v.map, numbers, data)
 }
 
 // What a commit comes to on the card at entry: its refusal, and where there is none its plan.
-pub fn prepare(card: &[u8], numbers: &[u64], data: &[u8]) -> Saving
-    ensures { λ r. ⌜ Prepared (now (card .entry)) (now (numbers .entry)) (now («data» .entry)) r ⌝ }
+pub fn prepare(card: &[u8], map: Map, numbers: &[u64], data: &[u8]) -> Saving
+    ensures { λ r. ⌜ Prepared (now (card .entry)) map (now (numbers .entry)) (now («data» .entry)) r ⌝ }
 {
     let misfit = ring::fit_refusal(card);
     if misfit != 0 {
         return unplanned(misfit);
     }
-    examine(ring::geometry_of(card), card, numbers, data)
+    examine(ring::geometry_of(card), card, map, numbers, data)
 }

@@ -1,5 +1,5 @@
--- `examine` answers the refusals of the card's contents and commit's own, or the plan: one law for each answer.
-use Rattle.plan.proofs.Order.{examined-damaged, examined-unsettled, examined-keyed, examined-saved}
+-- `examine` answers the refusals of the card's contents, of the map and commit's own, or the plan: one law for each answer.
+use Rattle.plan.proofs.Order.{examined-damaged, examined-unsettled, examined-other, examined-keyed, examined-saved}
 use borrow.Author.Needs.{needs}
 use Rattle.plan.proofs.examine.Statement.{statement}
 use Rattle.plan.proofs.examine.Tie as tie
@@ -19,14 +19,24 @@ unplanned-requires-2 c κs = search needs
 returns-2 : tie.Need-returns-2
 returns-2 c = search (examined-unsettled, needs)
 
-save-requires : tie.Need-save-requires
-save-requires c κs =
-    let e = c .before .before .before .before in
-    let i = e .before .before in
-    examined-keyed _ _ _ _ _ (i .inspect .ensures) (e .if1 .left) (i .before .before .before .before .before .before .pre)
+same-requires : tie.Need-same-requires
+same-requires c κs = search needs
+
+unplanned-requires-3 : tie.Need-unplanned-requires-3
+unplanned-requires-3 c κs = search needs
 
 returns-3 : tie.Need-returns-3
-returns-3 c = search (examined-saved, needs)
+returns-3 c = search (examined-other, needs)
+
+save-requires : tie.Need-save-requires
+save-requires c κs =
+    let e = c .before .before .before .before .before .before in
+    let i = e .before .before in
+    let x = i .inspect .ensures in
+    (examined-keyed _ _ _ _ _ x (e .if1 .left) (i .before .before .before .before .before .before .pre), x .map-is (e .if1 .left))
+
+returns-4 : tie.Need-returns-4
+returns-4 c = search (examined-saved, needs)
 
 pub examine-spec : {M : Type 1} → statement M
 examine-spec =
@@ -37,5 +47,8 @@ examine-spec =
     returns
     unplanned-requires-2
     returns-2
+    same-requires
+    unplanned-requires-3
+    returns-3
     save-requires
-    returns-3)
+    returns-4)

@@ -1,5 +1,5 @@
 -- `save` answers commit's own refusal or its plan: one law for each answer.
-use Rattle.plan.proofs.Order.{passed-numbers, saved-request, saved-full, saved-few, saved-planned}
+use Rattle.plan.proofs.Order.{passed-numbers, saved-request, saved-full, saved-few, take-ready, saved-planned}
 use borrow.Author.Needs.{needs}
 use Rattle.plan.proofs.save.Statement.{statement}
 use Rattle.plan.proofs.save.Tie as tie
@@ -13,14 +13,25 @@ unplanned-requires c κs = search needs
 returns : tie.Need-returns
 returns c = search (saved-request, needs)
 
-free-blocks-requires : tie.Need-free-blocks-requires
-free-blocks-requires c κs = search needs
+free-count-requires : tie.Need-free-count-requires
+free-count-requires c κs = search needs
 
 unplanned-requires-2 : tie.Need-unplanned-requires-2
 unplanned-requires-2 c κs = search needs
 
 returns-2 : tie.Need-returns-2
 returns-2 c = search (saved-full, needs)
+
+search-start-requires : tie.Need-search-start-requires
+search-start-requires c κs = search needs
+
+take-requires : tie.Need-take-requires
+take-requires c κs =
+    let f = c .before .before in
+    let q = f .before .before in
+    let s = q .before .before .before .before in
+    take-ready _ _ _ _ _ (q .request-refusal .ensures) (f .before .if1 .left) (s .pre .0 .fitted .good) _ (s .pre .1) _ (f .free-count .ensures)
+    (c .before .if2 .left) _ (c .search-start .ensures)
 
 homes-of-requires : tie.Need-homes-of-requires
 homes-of-requires c κs = search (passed-numbers, saved-few, needs)
@@ -35,8 +46,10 @@ save-spec =
     request-refusal-requires
     unplanned-requires
     returns
-    free-blocks-requires
+    free-count-requires
     unplanned-requires-2
     returns-2
+    search-start-requires
+    take-requires
     homes-of-requires
     returns-3)
