@@ -3,5 +3,6 @@ pub mod Request
 pub mod Rows
 pub mod Keyed
 pub mod Housing
+pub mod Released
 pub mod Order
 pub mod Bounds

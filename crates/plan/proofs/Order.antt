@@ -1,21 +1,24 @@
 -- Commit's refusals in order, and the plan where there is none. Assumes nothing.
 use Prim.Native.Nat.{ℕ, zero, suc, _≤_, _<_}
 use mathlib.Core.List.{List}
-use mathlib.Core.Bool.{Bool, true, false, not}
+use mathlib.Core.Bool.{Bool, true, false, not, _&&_, _||_}
 use mathlib.Core.Path.{_≡_, refl, sym, ap, subst, _∙_}
 use native.Mathlib.Omega.{arith}
-use lib.ListN.{length}
+use lib.ListN.{length, getD}
+use lib.Dec.{eqb}
 use borrow.Author.Tests.{le-leb, lt-leb, not-true, not-false}
 use Rattle.protocol.specs.declared.Geometry.{Geometry}
 use Rattle.protocol.specs.declared.Map.{Map}
 use Rattle.protocol.specs.Layout.{goodGeometry, geometryOf}
 use Rattle.protocol.specs.Check.{refuse, _orElse_, ringFits, entriesFit, fitRefusal, damageRefusal, cardRefusal}
+use Rattle.protocol.specs.Below.{anyBelow}
 use Rattle.protocol.specs.Search.{isFree, searchStart, freeBlocks}
 use Rattle.protocol.specs.Map.{mapBy, isMarked, mapOf, freeCount, sameMap, mapRefusal}
 use Rattle.protocol.specs.Commit.{newBlock, countFits, dataFits, numbersFit, roomFor, saveRefusal, commitRefusal}
 use Rattle.protocol.proofs.Checks.{Limits, limits, refuse-passed, refuse-failed, orElse-first, orElse-next, orElse-none, refuse-none}
-use Rattle.protocol.proofs.Below.{around-below}
+use Rattle.protocol.proofs.Below.{around-below, any-cong}
 use Rattle.protocol.proofs.Searches.{walk-finds}
+use Rattle.protocol.proofs.Words.{map-cong}
 use Rattle.freemap.specs.declared.Taken.{Taken}
 use Rattle.freemap.specs.Bits.{takenMap, takenAt}
 use Rattle.freemap.specs.Taken.{Took}
@@ -29,7 +32,7 @@ use Rattle.plan.specs.declared.Homes.{Homes}
 use Rattle.plan.specs.declared.Saving.{Saving}
 use Rattle.plan.specs.Request.{requestRefusal}
 use Rattle.plan.proofs.Rows.{walk-few}
-use Rattle.plan.specs.Planned.{Keyed, AllHoused, Planned, Saved, Examined, Prepared}
+use Rattle.plan.specs.Planned.{released, Keyed, AllHoused, Planned, Saved, Examined, Prepared}
 
 -- what stands behind a refusal that is one of several
 orElse-assoc : (a b c : ℕ) → (a orElse b) orElse c ≡ a orElse (b orElse c)
@@ -102,11 +105,12 @@ module _ (g : Geometry) (c ns bs : List ℕ) (r : ℕ) (e : r ≡ requestRefusal
           pub take-ready : (start < 128) × (length ns ≤ 128) × ((i : ℕ) → i < length ns → takenAt m start i < 128)
           take-ready = let k : Limits g = limits g good in (omega (arith, b .1), saved-few, taken-few)
 
-          pub saved-planned : (t : Taken) (h : Homes) → Took m start (length ns) t → AllHoused g c ns h
+          pub saved-planned : (t : Taken) (h : Homes) (y : Map) → Took m start (length ns) t → AllHoused g c ns h
+              → ((p : ℕ → Bool) → t .map ≡ mapBy p → y ≡ mapBy (released p (h .previous) (length ns)))
               → Saved g c ns bs
-              (record { refusal = 0; plan = record { entries = h .entries; previous = h .previous; blocks = t .blocks; map = t .map } })
-          unfolding keyAt roomFor
-          saved-planned t h x a =
+              (record { refusal = 0; plan = record { entries = h .entries; previous = h .previous; blocks = t .blocks; map = y } })
+          unfolding keyAt roomFor released
+          saved-planned t h y x a r =
               record {
                 refusal-is = past-request 0 (refuse-passed 14 (roomFor g c (length ns)) (le-leb (length ns) (length (freeBlocks g c)) enough));
                 planned = λ w.
@@ -114,7 +118,12 @@ module _ (g : Geometry) (c ns bs : List ℕ) (r : ℕ) (e : r ≡ requestRefusal
                       entries = a .entries;
                       previous = a .previous;
                       blocks = λ i k. x .blocks i k ∙ taken-block i k;
-                      map-is = x .map ∙ (λ y. takenMap (q y) (b .0 y) (length ns)) ∙ search-map g c good (length ns) enough;
+                      map-is =
+                          r _ (x .map ∙ (λ z. takenMap (q z) (b .0 z) (length ns)) ∙ search-map g c good (length ns) enough)
+                          ∙ map-cong _ _
+                          (λ d l.
+                          ap (λ (o : Bool). (isMarked g c d || anyBelow (λ k. eqb (newBlock g c k) d) (length ns)) && not o)
+                          (any-cong _ _ (length ns) (λ k n. ap (λ (z : ℕ). eqb z d) (a .previous k n))));
                     };
               }
 

@@ -1,7 +1,7 @@
 -- What a plan holds: for each block of the commit the place of its entry, its previous and its new data block.
 use Prim.Native.Nat.{ℕ, _+_}
 use mathlib.Core.List.{List}
-use mathlib.Core.Bool.{true, cond, _||_}
+use mathlib.Core.Bool.{Bool, true, cond, not, _&&_, _||_}
 use mathlib.Core.Path.{_≡_}
 use lib.ListN.{length, getD}
 use lib.Dec.{eqb, ltb}
@@ -27,6 +27,10 @@ pub record Keyed (g : Geometry) (c ids currents : List ℕ) : Type 0 where
   pub numbers : Lists (numberKey g c) ids (g .blocks)
   pub blocks : Lists (currentKey g c) currents (g .blocks)
 
+-- p holds of x, and x is none of the first n elements of xs
+unfoldable pub released : (ℕ → Bool) → List ℕ → ℕ → ℕ → Bool
+released p xs n x = p x && not (anyBelow (λ k. eqb (getD xs k 0) x) n)
+
 -- the first of n keys that is b
 unfoldable pub keyPlace : List ℕ → ℕ → ℕ → ℕ
 keyPlace ids n b = firstBelow (keyed (keyAt ids) b) n
@@ -47,7 +51,9 @@ pub record Planned (g : Geometry) (c ns : List ℕ) (p : Plan) : Type 0 where
   pub entries : Lists (entryFound g c ns) (p .entries) (length ns)
   pub previous : Lists (oldBlock g c ns) (p .previous) (length ns)
   pub blocks : Lists (newBlock g c) (p .blocks) (length ns)
-  pub map-is : p .map ≡ mapBy (λ x. isMarked g c x || anyBelow (λ k. eqb (newBlock g c k) x) (length ns))
+  pub map-is : p .map
+      ≡ mapBy (λ x.
+      (isMarked g c x || anyBelow (λ k. eqb (newBlock g c k) x) (length ns)) && not (anyBelow (λ k. eqb (oldBlock g c ns k) x) (length ns)))
 
 -- commit's own refusal, and where there is none the plan
 pub record Saved (g : Geometry) (c ns bs : List ℕ) (r : Saving) : Type 0 where

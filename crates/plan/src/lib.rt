@@ -3,8 +3,8 @@ use protocol::FRESH;
 use protocol::Geometry;
 use protocol::Map;
 ghost use mathlib.Core.Path.{_≡_};
-ghost use mathlib.Core.Bool.{true};
-ghost use Prim.Native.Nat.{_≤_, _<_};
+ghost use mathlib.Core.Bool.{Bool, true};
+ghost use Prim.Native.Nat.{ℕ, _≤_, _<_};
 ghost use lib.ListN.{length};
 ghost use Rattle.protocol.specs.Below.{around};
 ghost use Rattle.protocol.specs.Layout.{goodGeometry};
@@ -16,7 +16,7 @@ ghost use Rattle.plan.specs.Request.{requestRefusal};
 ghost use Rattle.ring.specs.Fitted.{Fitted};
 ghost use Rattle.checks.specs.Keys.{NONE, keyed, keyAt, numberKey, Lists};
 ghost use Rattle.plan.specs.Searched.{Searched};
-ghost use Rattle.plan.specs.Planned.{Keyed, Housed, AllHoused, Saved, Examined, Prepared};
+ghost use Rattle.plan.specs.Planned.{released, Keyed, Housed, AllHoused, Saved, Examined, Prepared};
 
 // The key of an unused entry: no disk block has this number.
 const NOTHING: u32 = 65536;
@@ -226,12 +226,35 @@ fn homes_of(
     }
 }
 
-// The plan of a commit: for each block its entry's place, its previous and its new data block, and the map with the new ones marked.
+// The plan of a commit: for each block its entry's place, its previous and its new data block, and the map once it is made.
 pub struct Plan {
     pub entries: [u8; 128],
     pub previous: [u32; 128],
     pub blocks: [u8; 128],
     pub map: Map,
+}
+
+fn wide(x: u32) -> usize
+    ensures { λ r. ⌜ r ≡ x ⌝ }
+{
+    x as usize
+}
+
+// The map with the bits of the first n previous blocks cleared: a finished commit gives them up. FRESH is no block.
+fn release(map: Map, previous: &[u32; 128], n: usize) -> Map
+    requires { ⌜ n ≤ 128 ⌝ }
+    ensures { λ r. ⌜ ((p : ℕ → Bool) → map ≡ mapBy p → r ≡ mapBy (released p (now (previous .entry)) n)) ⌝ }
+{
+    let mut left = map;
+    let mut i: usize = 0;
+    while i < n {
+        let d = wide(previous[i]);
+        i += 1;
+        if d < 128 {
+            left = freemap::without(left, d);
+        }
+    }
+    left
 }
 
 // What a commit asks of a card that is not damaged and settled: refused, or planned.
@@ -279,14 +302,14 @@ pub fn save(
     let entries = h.entries;
     let previous = h.previous;
     let blocks = free.blocks;
-    let marked = free.map;
+    let after = release(free.map, &previous, numbers.len());
     Saving {
         refusal: 0,
         plan: Plan {
             entries: entries,
             previous: previous,
             blocks: blocks,
-            map: marked,
+            map: after,
         },
     }
 }

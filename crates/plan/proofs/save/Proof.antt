@@ -36,8 +36,19 @@ take-requires c κs =
 homes-of-requires : tie.Need-homes-of-requires
 homes-of-requires c κs = search (passed-numbers, saved-few, needs)
 
+release-requires : tie.Need-release-requires
+release-requires c κs = search (saved-few, needs)
+
 returns-3 : tie.Need-returns-3
-returns-3 c = search (saved-planned, needs)
+returns-3 c =
+    let h = c .before .before .before .before .before in
+    let t = h .before in
+    let u = t .before in
+    let f = u .before .before in
+    let q = f .before .before in
+    let s = q .before .before .before .before in
+    saved-planned _ _ _ _ _ (q .request-refusal .ensures) (f .before .if1 .left) (s .pre .0 .fitted .good) _ (s .pre .1) _ (f .free-count .ensures)
+    (u .before .if2 .left) _ (u .search-start .ensures) _ _ _ (t .take .ensures) (h .homes-of .ensures) (c .release .ensures)
 
 pub save-spec : {M : Type 1} → statement M
 save-spec =
@@ -52,4 +63,5 @@ save-spec =
     search-start-requires
     take-requires
     homes-of-requires
+    release-requires
     returns-3)
