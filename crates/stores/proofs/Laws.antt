@@ -20,10 +20,12 @@ use Rattle.protocol.specs.declared.Answer.{Answer}
 use Rattle.protocol.specs.declared.Answer.the-variants.{Done, Cut, Refused}
 use Rattle.protocol.specs.declared.Entry.{Entry}
 use Rattle.protocol.specs.declared.Geometry.{Geometry}
+use Rattle.protocol.specs.declared.Map.{Map}
 use Rattle.protocol.specs.Entry.{entryBytes}
 use Rattle.protocol.specs.Below.{eachBelow}
 use Rattle.protocol.specs.Layout.{goodGeometry, blockSize, entryPlace, blockPlace, diskPlace, cardLength, diskLength}
 use Rattle.protocol.specs.Store.{Medium, card, disk, Store, Run, Work, isOn, storedOn, madeOn, flat, made, units, words, sectors, entryStore, storesOf, answerOf, afterOn}
+use Rattle.protocol.specs.Map.{mapOf, handedOn, mapAfter}
 use Rattle.protocol.proofs.Stores.{length-made, made-cut, flat-append, units-made, length-units}
 use Rattle.protocol.proofs.Below.{below-or-above}
 use Rattle.protocol.proofs.Checks.{limits}
@@ -212,6 +214,10 @@ module _ (w : Work) (a : ℕ) where
   unfolding afterOn
   refused-after m r xs e h = rw (← e, ne-eqb r 0 h)
 
+  pub refused-map : (r : ℕ) (c : List ℕ) (m : Map) → r ≡ w .refusal → (r ≡ 0 → ⊥) → m ≡ mapAfter a w c m
+  unfolding mapAfter handedOn
+  refused-map r c m e h = rw (← refused-answer r e h)
+
   module _ (r : ℕ) (e : r ≡ w .refusal) (z : r ≡ 0) where
     pub made-answer : (n : ℕ) (x : Answer) → n ≡ storesOf w → x ≡ cond (ltb a n) Cut (Done n) → x ≡ answerOf a w
     unfolding answerOf storesOf
@@ -220,3 +226,22 @@ module _ (w : Work) (a : ℕ) where
     pub made-after : {m : Medium} {xs ys : List ℕ} {q : ℕ} → Did m (flat (w .runs)) a xs ys q → ys ≡ afterOn m a w xs
     unfolding afterOn made
     made-after {m} {xs} {ys} {q} x = rw (← e, eq-eqb r 0 z) (x .made)
+
+    -- all stores are made where the allowance gives as many
+    all-made : (c : List ℕ) → storesOf w ≤ a → afterOn card a w c ≡ madeOn card (flat (w .runs)) c
+    unfolding afterOn made storesOf
+    all-made c h = rw (← e, eq-eqb r 0 z, take-all a (flat (w .runs)) h)
+
+    cut-made : a < storesOf w → answerOf a w ≡ Cut
+    unfolding answerOf storesOf
+    cut-made h = rw (← e, eq-eqb r 0 z, lt-ltb a (storesOf w) h)
+
+    -- the map of the card that all stores leave is the one to hand on
+    pub made-map : (x : Answer) (c : List ℕ) (m new : Map) → x ≡ answerOf a w → new ≡ mapOf (madeOn card (flat (w .runs)) c)
+        → handedOn x m new ≡ mapAfter a w c m
+    unfolding mapAfter handedOn
+    made-map x c m new p q =
+        ⊎-elim
+        (λ h. rw (p, cut-made h))
+        (λ h t. handedOn (p t) m ((q ∙ ap mapOf (sym (all-made c h))) t))
+        (below-or-above a (storesOf w))

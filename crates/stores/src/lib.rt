@@ -3,6 +3,8 @@
 use protocol::Answer;
 use protocol::Entry;
 use protocol::Geometry;
+use protocol::Map;
+use protocol::Stored;
 ghost use mathlib.Core.Path.{_≡_};
 ghost use mathlib.Core.List.{[], _∷_};
 ghost use mathlib.Core.Bool.{true, cond};
@@ -12,6 +14,7 @@ ghost use lib.Dec.{ltb};
 ghost use Rattle.numbers.specs.Bytes.{part};
 ghost use Rattle.protocol.specs.Layout.{goodGeometry, blockSize, entryPlace, blockPlace, diskPlace, cardLength, diskLength};
 ghost use Rattle.protocol.specs.Entry.{entryBytes};
+ghost use Rattle.protocol.specs.Map.{handedOn};
 ghost use Rattle.protocol.specs.Store.{Medium, card, disk, units, words, sectors, entryStore, wordStore};
 ghost use Rattle.stores.specs.Did.{Did, cardStore};
 
@@ -127,5 +130,20 @@ pub fn answer(count: u64, allowance: u64) -> Answer
         Answer::Cut
     } else {
         Answer::Done(count)
+    }
+}
+
+// What a storing call hands back: the new map where all its stores were made, and otherwise the map that it got.
+pub fn hand_on(answer: Answer, old: Map, new: Map) -> Stored
+    ensures { λ r. ⌜ (r .answer ≡ answer) × (r .map ≡ handedOn answer old new) ⌝ }
+{
+    let map = match answer {
+        Answer::Done(_) => new,
+        Answer::Cut => old,
+        Answer::Refused(_) => old,
+    };
+    Stored {
+        answer: answer,
+        map: map,
     }
 }
