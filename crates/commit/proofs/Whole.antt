@@ -12,13 +12,17 @@ use lib.Dec.{ltb}
 use Rattle.protocol.specs.declared.Answer.{Answer}
 use Rattle.protocol.specs.declared.Answer.the-variants.{Done, Cut, Refused}
 use Rattle.protocol.specs.declared.Geometry.{Geometry}
+use Rattle.protocol.specs.declared.Map.{Map}
+use Rattle.protocol.specs.declared.Stored.{Stored}
 use Rattle.protocol.specs.Below.{eachBelow, around}
 use Rattle.protocol.specs.Layout.{goodGeometry, geometryOf, blockSize}
 use Rattle.protocol.specs.Entry.{entryOf, switched}
 use Rattle.protocol.specs.Ring.{headOf}
 use Rattle.protocol.specs.Store.{card, Run, flat, single, units, words, entryStore, wordStore, tailStore, storesOf}
+use Rattle.protocol.specs.Map.{mapOf, handedOn}
 use Rattle.protocol.specs.Commit.{numberOf, entryFound, logEntry, dataOf, headAfter, blockRuns, switchRuns, commitRuns, commitWork}
 use Rattle.protocol.proofs.Checks.{Limits, limits}
+use Rattle.protocol.proofs.Left.{commit-map}
 use Rattle.protocol.proofs.Stores.{flat-append, length-units}
 use Rattle.protocol.proofs.Region.{whole}
 use Rattle.ring.specs.Fitted.{Fitted}
@@ -29,7 +33,7 @@ use Rattle.plan.specs.declared.Saving.{Saving}
 use Rattle.plan.specs.Planned.{Planned, Prepared}
 use Rattle.plan.proofs.Bounds.{Passed, passed, few-numbers, new-below, entry-below}
 use Rattle.stores.specs.Did.{Did}
-use Rattle.stores.proofs.Laws.{did-then, did-same, length-each, refused-answer, refused-after, made-answer, made-after}
+use Rattle.stores.proofs.Laws.{did-then, did-same, length-each, refused-answer, refused-after, refused-map, made-answer, made-after, made-map}
 use Rattle.commit.specs.Making.{stepRuns, plannedEntry, plannedBlock, plannedSwitch, plannedRuns, Ready}
 use Rattle.commit.specs.Committed.{Committed}
 
@@ -139,17 +143,19 @@ module _ (g : Geometry) (n o : ℕ) (h : (goodGeometry g ≡ true) × (n < g .sl
 
 -- ---- what the checks have passed
 
-module _ (c ns bs : List ℕ) (s : Saving) (x : Prepared c ns bs s) where
-  pub commit-refused : (a : ℕ) → (s .refusal ≡ 0 → ⊥) → Committed c ns bs a (Refused (s .refusal)) c
-  unfolding commitWork
-  commit-refused a h = record {
-    answers = refused-answer (commitWork c ns bs) a (s .refusal) (x .refusal-is) h;
-    leaves = refused-after (commitWork c ns bs) a card (s .refusal) c (x .refusal-is) h;
+module _ (c : List ℕ) (m : Map) (ns bs : List ℕ) (s : Saving) (x : Prepared c m ns bs s) where
+  pub commit-refused : (a : ℕ) (r : Stored) → (s .refusal ≡ 0 → ⊥)
+      → (r .answer ≡ Refused (s .refusal)) × (r .map ≡ handedOn (Refused (s .refusal)) m m) → Committed c m ns bs a r c
+  unfolding commitWork handedOn
+  commit-refused a r h e = record {
+    answers = e .0 ∙ refused-answer (commitWork c m ns bs) a (s .refusal) (x .refusal-is) h;
+    hands = e .1 ∙ refused-map (commitWork c m ns bs) a (s .refusal) c m (x .refusal-is) h;
+    leaves = refused-after (commitWork c m ns bs) a card (s .refusal) c (x .refusal-is) h;
   }
 
   module _ (z : s .refusal ≡ 0) where
     pub commit-passed : Passed (geometryOf c) c ns bs
-    commit-passed = passed c ns bs (sym (x .refusal-is) ∙ z)
+    commit-passed = passed c m ns bs (sym (x .refusal-is) ∙ z)
 
     pub commit-long : 128 ≤ length c
     commit-long = fitted-long (geometryOf c) c (commit-passed .fitted)
@@ -183,17 +189,21 @@ module _ (c ns bs : List ℕ) (s : Saving) (x : Prepared c ns bs s) where
           sized = v .sized;
         })
 
-    pub commit-made : (g : Geometry) (h a n r : ℕ) (d : List ℕ) (y : Answer) → g ≡ geometryOf c → h ≡ headOf c
+    pub commit-made : (g : Geometry) (h a n r : ℕ) (d : List ℕ) (y : Answer) (t : Stored) → g ≡ geometryOf c → h ≡ headOf c
         → Did card (flat (plannedRuns g (s .plan) h ns bs)) a c d r → n ≡ length ns * (blockSize g / 8 + 4) + 1
-        → y ≡ cond (ltb a n) Cut (Done n) → Committed c ns bs a y d
+        → y ≡ cond (ltb a n) Cut (Done n) → (t .answer ≡ y) × (t .map ≡ handedOn y m (s .plan .map)) → Committed c m ns bs a t d
     unfolding commitWork storesOf
-    commit-made g h a n r d y e q m k w =
+    commit-made g h a n r d y t e q made k w o =
         let g₀ = geometryOf c in
+        let p = x .planned z in
+        let answered =
+        made-answer (commitWork c m ns bs) a (s .refusal) (x .refusal-is) z n y
+        (k ∙ ap (λ (v : Geometry). length ns * (blockSize v / 8 + 4) + 1) e ∙ sym (runs-count g₀ c ns bs)) w in
+        let left = p .map-is ∙ sym (commit-map c m ns bs (sym (x .refusal-is) ∙ z)) in
         record {
-          answers =
-              made-answer (commitWork c ns bs) a (s .refusal) (x .refusal-is) z n y
-              (k ∙ ap (λ (v : Geometry). length ns * (blockSize v / 8 + 4) + 1) e ∙ sym (runs-count g₀ c ns bs)) w;
+          answers = o .0 ∙ answered;
+          hands = o .1 ∙ made-map (commitWork c m ns bs) a (s .refusal) (x .refusal-is) z y c m (s .plan .map) answered left;
           leaves =
-              made-after (commitWork c ns bs) a (s .refusal) (x .refusal-is) z
-              (did-same ((λ t. flat (plannedRuns (e t) (s .plan) (q t) ns bs)) ∙ ap flat (runs-same g₀ c ns bs (s .plan) (x .planned z))) m);
+              made-after (commitWork c m ns bs) a (s .refusal) (x .refusal-is) z
+              (did-same ((λ i. flat (plannedRuns (e i) (s .plan) (q i) ns bs)) ∙ ap flat (runs-same g₀ c ns bs (s .plan) p)) made);
         }

@@ -3,6 +3,8 @@ use plan::Plan;
 use protocol::Answer;
 use protocol::Entry;
 use protocol::Geometry;
+use protocol::Map;
+use protocol::Stored;
 ghost use mathlib.Core.Path.{_≡_};
 ghost use mathlib.Core.List.{[], _∷_};
 ghost use mathlib.Core.Bool.{true};
@@ -145,17 +147,18 @@ fn count_of(g: Geometry, n: usize) -> u64
 }
 
 // Saves the blocks `numbers`, with their bytes side by side in `data`, as one commit. `allowance` stores still happen. Refused before any
-// store: 1, 2, 4 to 11 and 14.
-pub fn commit(card: &mut [u8], numbers: &[u64], data: &[u8], allowance: u64) -> Answer
-    ensures { λ r. ⌜ Committed (now (card .entry)) (now (numbers .entry)) (now («data» .entry)) allowance r (now (card .exit)) ⌝ }
+// store: 1, 2, 4 to 11, 14 and 15. Done hands on the map of the card that is left.
+pub fn commit(card: &mut [u8], map: Map, numbers: &[u64], data: &[u8], allowance: u64) -> Stored
+    ensures { λ r. ⌜ Committed (now (card .entry)) map (now (numbers .entry)) (now («data» .entry)) allowance r (now (card .exit)) ⌝ }
 {
-    let s = plan::prepare(card, numbers, data);
+    let s = plan::prepare(card, map, numbers, data);
     if s.refusal != 0 {
-        return Answer::Refused(s.refusal);
+        return stores::hand_on(Answer::Refused(s.refusal), map, map);
     }
     let g = ring::geometry_of(card);
     let head = ring::head_of(card) as usize;
     let p = s.plan;
     make_plan(g, card, p, numbers, data, head, allowance);
-    stores::answer(count_of(g, numbers.len()), allowance)
+    let answer = stores::answer(count_of(g, numbers.len()), allowance);
+    stores::hand_on(answer, map, p.map)
 }

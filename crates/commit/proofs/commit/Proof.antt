@@ -1,4 +1,4 @@
--- `commit` answers as its definition does and leaves the card so: refused with nothing changed, or planned and made.
+-- `commit` answers as its definition does, hands on the map and leaves the card so: refused with nothing changed, or planned and made.
 use Rattle.commit.proofs.Whole.{commit-refused, commit-long, commit-fitted, commit-good, commit-few, commit-ready, commit-made}
 use borrow.Author.Needs.{needs}
 use Rattle.commit.proofs.commit.Statement.{statement}
@@ -6,6 +6,9 @@ use Rattle.commit.proofs.commit.Tie as tie
 
 prepare-requires : tie.Need-prepare-requires
 prepare-requires c κs = search needs
+
+hand-on-requires : tie.Need-hand-on-requires
+hand-on-requires c κs = search needs
 
 same-length : tie.Need-same-length
 same-length c = search needs
@@ -28,6 +31,9 @@ count-of-requires c κs = search (commit-good, commit-few, needs)
 answer-requires : tie.Need-answer-requires
 answer-requires c κs = search needs
 
+hand-on-requires-2 : tie.Need-hand-on-requires-2
+hand-on-requires-2 c κs = search needs
+
 same-length-2 : tie.Need-same-length-2
 same-length-2 c = search needs
 
@@ -39,6 +45,7 @@ commit-spec =
     tie.close
     (tie.spec
     prepare-requires
+    hand-on-requires
     same-length
     returns
     geometry-of-requires
@@ -46,5 +53,6 @@ commit-spec =
     make-plan-requires
     count-of-requires
     answer-requires
+    hand-on-requires-2
     same-length-2
     returns-2)
