@@ -6,23 +6,20 @@ use mathlib.Core.Path.{_≡_, refl, sym, ap, subst, _∙_}
 use native.Mathlib.Omega.{arith}
 use lib.ListN.{length, getD}
 use lib.Dec.{eqb}
-use borrow.Author.Tests.{le-leb, lt-leb, not-true, not-false}
+use borrow.Author.Tests.{not-true, not-false}
 use Rattle.protocol.specs.declared.Geometry.{Geometry}
 use Rattle.protocol.specs.declared.Map.{Map}
 use Rattle.protocol.specs.Layout.{goodGeometry, geometryOf}
 use Rattle.protocol.specs.Check.{refuse, _orElse_, ringFits, entriesFit, fitRefusal, damageRefusal, cardRefusal}
-use Rattle.protocol.specs.Below.{anyBelow}
-use Rattle.protocol.specs.Search.{isFree, searchStart, freeBlocks}
+use Rattle.protocol.specs.Search.{searchStart}
 use Rattle.protocol.specs.Map.{mapBy, isMarked, mapOf, freeCount, sameMap, mapRefusal}
+use Rattle.protocol.specs.Below.{anyBelow}
 use Rattle.protocol.specs.Commit.{newBlock, countFits, dataFits, numbersFit, roomFor, saveRefusal, commitRefusal}
-use Rattle.protocol.proofs.Checks.{Limits, limits, refuse-passed, refuse-failed, orElse-first, orElse-next, orElse-none, refuse-none}
-use Rattle.protocol.proofs.Below.{around-below, any-cong}
-use Rattle.protocol.proofs.Searches.{walk-finds}
+use Rattle.protocol.proofs.Checks.{refuse-passed, refuse-failed, orElse-first, orElse-next, orElse-none, refuse-none}
+use Rattle.protocol.proofs.Below.{any-cong}
 use Rattle.protocol.proofs.Words.{map-cong}
 use Rattle.freemap.specs.declared.Taken.{Taken}
-use Rattle.freemap.specs.Bits.{takenMap, takenAt}
 use Rattle.freemap.specs.Taken.{Took}
-use Rattle.freemap.proofs.Search.{search-block, search-map, search-count}
 use Rattle.ring.specs.Fitted.{Fitted}
 use Rattle.checks.specs.declared.Verdict.{Verdict}
 use Rattle.checks.specs.Keys.{keyAt}
@@ -31,7 +28,7 @@ use Rattle.checks.proofs.Order.{card-damaged, card-settled, card-unsettled}
 use Rattle.plan.specs.declared.Homes.{Homes}
 use Rattle.plan.specs.declared.Saving.{Saving}
 use Rattle.plan.specs.Request.{requestRefusal}
-use Rattle.plan.proofs.Rows.{walk-few}
+use Rattle.plan.proofs.Room.{no-room, room, taken-block, taken-map}
 use Rattle.plan.specs.Planned.{released, Keyed, AllHoused, Planned, Saved, Examined, Prepared}
 
 -- what stands behind a refusal that is one of several
@@ -66,66 +63,35 @@ module _ (g : Geometry) (c ns bs : List ℕ) (r : ℕ) (e : r ≡ requestRefusal
     past-request : (q : ℕ) → q ≡ refuse 14 (roomFor g c (length ns)) → q ≡ saveRefusal g c ns bs
     past-request q h = orElse-next q (requestRefusal g ns bs) _ (sym z ∙ e) h ∙ save-splits g c ns bs
 
-    -- the free count of the card's map decides
     module _ (good : goodGeometry g ≡ true) (m : Map) (q : m ≡ mapBy (isMarked g c)) (free : ℕ) (f : free ≡ freeCount m) where
-      counted : free ≡ length (freeBlocks g c)
-      counted = f ∙ ap freeCount q ∙ search-count g c good
-
       pub saved-full : (u : Saving) → free < length ns → u .refusal ≡ 14 → Saved g c ns bs u
-      unfolding roomFor
       saved-full u l k =
-          let full : roomFor g c (length ns) ≡ false = lt-leb (length ns) (length (freeBlocks g c)) (omega (arith, counted)) in
           record {
-            refusal-is = k ∙ past-request 14 (refuse-failed 14 (roomFor g c (length ns)) full);
+            refusal-is = k ∙ past-request 14 (refuse-failed 14 (roomFor g c (length ns)) (no-room g c good m q free f (length ns) l));
             planned = λ w. absurd (omega arith);
           }
 
-      module _ (l : length ns ≤ free) where
-        enough : length ns ≤ length (freeBlocks g c)
-        enough = omega (arith, counted)
-
-        pub saved-few : length ns ≤ 128
-        unfolding freeBlocks
-        saved-few =
-            let k : Limits g = limits g good in
-            omega (arith, enough, walk-few (isFree g c) (g .blocks) (searchStart g c) (g .blocks))
-
-        module _ (start : ℕ) (b : (start ≡ searchStart g c) × (start < g .blocks)) where
-          taken-block : (i : ℕ) → i < length ns → takenAt m start i ≡ newBlock g c i
-          taken-block i h = (λ t. takenAt (q t) (b .0 t) i) ∙ search-block g c good i (omega (arith, enough))
-
-          taken-few : (i : ℕ) → i < length ns → takenAt m start i < 128
-          unfolding newBlock freeBlocks
-          taken-few i h =
-              let k : Limits g = limits g good in
-              let x = walk-finds (isFree g c) (g .blocks) (searchStart g c) (g .blocks) i (omega (arith, enough)) in
-              let y = around-below (g .blocks) (searchStart g c) (x .step) (subst (λ (z : ℕ). z < g .blocks) (b .0) (b .1)) (omega (arith, x .before)) in
-              omega (arith, taken-block i h, x .at)
-
-          pub take-ready : (start < 128) × (length ns ≤ 128) × ((i : ℕ) → i < length ns → takenAt m start i < 128)
-          take-ready = let k : Limits g = limits g good in (omega (arith, b .1), saved-few, taken-few)
-
-          pub saved-planned : (t : Taken) (h : Homes) (y : Map) → Took m start (length ns) t → AllHoused g c ns h
-              → ((p : ℕ → Bool) → t .map ≡ mapBy p → y ≡ mapBy (released p (h .previous) (length ns)))
-              → Saved g c ns bs
-              (record { refusal = 0; plan = record { entries = h .entries; previous = h .previous; blocks = t .blocks; map = y } })
-          unfolding keyAt roomFor released
-          saved-planned t h y x a r =
-              record {
-                refusal-is = past-request 0 (refuse-passed 14 (roomFor g c (length ns)) (le-leb (length ns) (length (freeBlocks g c)) enough));
-                planned = λ w.
-                    record {
-                      entries = a .entries;
-                      previous = a .previous;
-                      blocks = λ i k. x .blocks i k ∙ taken-block i k;
-                      map-is =
-                          r _ (x .map ∙ (λ z. takenMap (q z) (b .0 z) (length ns)) ∙ search-map g c good (length ns) enough)
-                          ∙ map-cong _ _
-                          (λ d l.
-                          ap (λ (o : Bool). (isMarked g c d || anyBelow (λ k. eqb (newBlock g c k) d) (length ns)) && not o)
-                          (any-cong _ _ (length ns) (λ k n. ap (λ (z : ℕ). eqb z d) (a .previous k n))));
-                    };
-              }
+      pub saved-planned : length ns ≤ free → (start : ℕ) → (start ≡ searchStart g c) × (start < g .blocks) → (t : Taken) (h : Homes) (y : Map)
+          → Took m start (length ns) t → AllHoused g c ns h
+          → ((p : ℕ → Bool) → t .map ≡ mapBy p → y ≡ mapBy (released p (h .previous) (length ns)))
+          → Saved g c ns bs (record { refusal = 0; plan = record { entries = h .entries; previous = h .previous; blocks = t .blocks; map = y } })
+      unfolding keyAt released
+      saved-planned l start b t h y x a r =
+          record {
+            refusal-is = past-request 0 (refuse-passed 14 (roomFor g c (length ns)) (room g c good m q free f (length ns) l));
+            planned = λ w.
+                record {
+                  entries = a .entries;
+                  previous = a .previous;
+                  blocks = λ i k. x .blocks i k ∙ taken-block g c good m q free f (length ns) l start b i k;
+                  map-is =
+                      r _ (x .map ∙ taken-map g c good m q free f (length ns) l start b)
+                      ∙ map-cong _ _
+                      (λ d k.
+                      ap (λ (o : Bool). (isMarked g c d || anyBelow (λ j. eqb (newBlock g c j) d) (length ns)) && not o)
+                      (any-cong _ _ (length ns) (λ j n. ap (λ (i : ℕ). eqb i d) (a .previous j n))));
+                };
+          }
 
 -- ---- the card's refusals before them
 

@@ -1,5 +1,6 @@
 -- `save` answers commit's own refusal or its plan: one law for each answer.
-use Rattle.plan.proofs.Order.{passed-numbers, saved-request, saved-full, saved-few, take-ready, saved-planned}
+use Rattle.plan.proofs.Order.{passed-numbers, saved-request, saved-full, saved-planned}
+use Rattle.plan.proofs.Room.{room-few, take-ready}
 use borrow.Author.Needs.{needs}
 use Rattle.plan.proofs.save.Statement.{statement}
 use Rattle.plan.proofs.save.Tie as tie
@@ -28,16 +29,14 @@ search-start-requires c κs = search needs
 take-requires : tie.Need-take-requires
 take-requires c κs =
     let f = c .before .before in
-    let q = f .before .before in
-    let s = q .before .before .before .before in
-    take-ready _ _ _ _ _ (q .request-refusal .ensures) (f .before .if1 .left) (s .pre .0 .fitted .good) _ (s .pre .1) _ (f .free-count .ensures)
-    (c .before .if2 .left) _ (c .search-start .ensures)
+    let s = f .before .before .before .before .before .before in
+    take-ready _ _ (s .pre .0 .fitted .good) _ (s .pre .1) _ (f .free-count .ensures) _ (c .before .if2 .left) _ (c .search-start .ensures)
 
 homes-of-requires : tie.Need-homes-of-requires
-homes-of-requires c κs = search (passed-numbers, saved-few, needs)
+homes-of-requires c κs = search (passed-numbers, room-few, needs)
 
 release-requires : tie.Need-release-requires
-release-requires c κs = search (saved-few, needs)
+release-requires c κs = search (room-few, needs)
 
 returns-3 : tie.Need-returns-3
 returns-3 c =
