@@ -1,6 +1,8 @@
 // The drill of document 01: what a power cut at each place of a save of one block leaves, once the card is recovered.
 use libc::STDOUT_FILENO;
 use protocol::Answer;
+use protocol::Map;
+use protocol::Mapped;
 
 fn say(a: Answer) {
     match a {
@@ -29,6 +31,14 @@ fn wide(x: u8) -> u64 {
     x as u64
 }
 
+// The map that the card gives, as a station makes it when it starts.
+fn made(card: &[u8]) -> Map {
+    match recovery::make_map(card) {
+        Mapped::Is(m) => m,
+        Mapped::Refused(_) => Map { low: 0, high: 0 },
+    }
+}
+
 // One run: a fresh card over a zeroed disk, block 3 filled with 7 and saved under the allowance, recovered in full, read.
 fn run(allowance: u64) {
     let mut card = [0u8; 2304];
@@ -37,14 +47,16 @@ fn run(allowance: u64) {
     let bytes = [7u8; 512];
     let mut out = [0u8; 512];
     format::format(9, 8, 4, 16, &mut card);
-    let saved = commit::commit(&mut card, &numbers, &bytes, allowance);
-    let undone = recovery::recover(&mut card, 0xFFFF_FFFF_FFFF_FFFF);
+    let map = made(&card);
+    let saved = commit::commit(&mut card, map, &numbers, &bytes, allowance);
+    let again = made(&card);
+    let undone = recovery::recover(&mut card, again, 0xFFFF_FFFF_FFFF_FFFF);
     lookup::read(&card, &disk, 3, &mut out);
     io::print_decimal(STDOUT_FILENO, allowance);
     io::write_all(STDOUT_FILENO, b",");
-    say(saved);
+    say(saved.answer);
     io::write_all(STDOUT_FILENO, b",");
-    io::print_decimal(STDOUT_FILENO, stores_of(undone));
+    io::print_decimal(STDOUT_FILENO, stores_of(undone.answer));
     io::write_all(STDOUT_FILENO, b",");
     io::print_decimal(STDOUT_FILENO, wide(out[0]));
     io::write_all(STDOUT_FILENO, b"\n");

@@ -1,13 +1,43 @@
 // A longer story: saves over each other, cuts at chosen places, recoveries, loads, evicts and refusals, with what each call answers and
-// the first byte of the blocks that are read. Blocks of 512 bytes, four on the card, sixteen on the disk, which holds ones.
+// the first byte of the blocks that are read. Blocks of 512 bytes, four on the card, sixteen on the disk, which holds ones. The map is made at
+// start, handed on by each call, and made again after a cut.
+use protocol::Answer;
+use protocol::Map;
+use protocol::Mapped;
+use protocol::Stored;
+
 const AMPLE: u64 = 0xFFFF_FFFF_FFFF_FFFF;
 
 fn byte(x: u8) -> u64 {
     x as u64
 }
 
+fn made(card: &[u8]) -> Map {
+    match recovery::make_map(card) {
+        Mapped::Is(m) => m,
+        Mapped::Refused(_) => Map { low: 0, high: 0 },
+    }
+}
+
+// Prints the answer; the map to go on with is made again after a cut.
+fn told(card: &[u8], s: Stored) -> Map {
+    let a = s.answer;
+    print::answer(a);
+    match a {
+        Answer::Done(_) => s.map,
+        Answer::Cut => made(card),
+        Answer::Refused(_) => s.map,
+    }
+}
+
+fn free(map: Map) {
+    print::text(b"free");
+    print::number(freemap::free_count(map));
+    print::text(b"\n");
+}
+
 // Saves blocks a and b filled with one byte.
-fn save_two(card: &mut [u8], a: u64, b: u64, fill: u8, allowance: u64) {
+fn save_two(card: &mut [u8], map: Map, a: u64, b: u64, fill: u8, allowance: u64) -> Map {
     let mut numbers = [0u64; 2];
     numbers[0] = a;
     numbers[1] = b;
@@ -16,33 +46,38 @@ fn save_two(card: &mut [u8], a: u64, b: u64, fill: u8, allowance: u64) {
     print::number(a);
     print::number(b);
     print::number(byte(fill));
-    print::answer(commit::commit(card, &numbers, &bytes, allowance));
+    let s = commit::commit(card, map, &numbers, &bytes, allowance);
+    told(card, s)
 }
 
-fn save_one(card: &mut [u8], a: u64, fill: u8, allowance: u64) {
+fn save_one(card: &mut [u8], map: Map, a: u64, fill: u8, allowance: u64) -> Map {
     let numbers = [a; 1];
     let bytes = [fill; 512];
     print::text(b"commit");
     print::number(a);
     print::number(byte(fill));
-    print::answer(commit::commit(card, &numbers, &bytes, allowance));
+    let s = commit::commit(card, map, &numbers, &bytes, allowance);
+    told(card, s)
 }
 
-fn recover(card: &mut [u8], allowance: u64) {
+fn recover(card: &mut [u8], map: Map, allowance: u64) -> Map {
     print::text(b"recover");
-    print::answer(recovery::recover(card, allowance));
+    let s = recovery::recover(card, map, allowance);
+    told(card, s)
 }
 
-fn evict(card: &mut [u8], disk: &mut [u8], b: u64, allowance: u64) {
+fn evict(card: &mut [u8], disk: &mut [u8], map: Map, b: u64, allowance: u64) -> Map {
     print::text(b"evict");
     print::number(b);
-    print::answer(transfer::evict(card, disk, b, allowance));
+    let s = transfer::evict(card, disk, map, b, allowance);
+    told(card, s)
 }
 
-fn load(card: &mut [u8], disk: &[u8], b: u64, allowance: u64) {
+fn load(card: &mut [u8], disk: &[u8], map: Map, b: u64, allowance: u64) -> Map {
     print::text(b"load");
     print::number(b);
-    print::answer(transfer::load(card, disk, b, allowance));
+    let s = transfer::load(card, disk, map, b, allowance);
+    told(card, s)
 }
 
 // Reads a block: who held it, and its first and last byte.
@@ -57,60 +92,70 @@ fn read(card: &[u8], disk: &[u8], b: u64) {
 }
 
 // A finished save, and one cut between its two blocks.
-fn first_part(card: &mut [u8], disk: &[u8]) {
-    save_two(card, 2, 3, 7, AMPLE);
-    save_two(card, 2, 3, 8, 68);
+fn first_part(card: &mut [u8], disk: &[u8]) -> Map {
+    let m0 = made(card);
+    free(m0);
+    let m1 = save_two(card, m0, 2, 3, 7, AMPLE);
+    let m2 = save_two(card, m1, 2, 3, 8, 68);
     print::state(lookup::state(card));
     read(card, disk, 2);
-    load(card, disk, 9, AMPLE);
-    recover(card, AMPLE);
+    let m3 = load(card, disk, m2, 9, AMPLE);
+    let m4 = recover(card, m1, AMPLE);
+    let m5 = recover(card, m3, AMPLE);
     read(card, disk, 2);
     read(card, disk, 3);
+    m5
 }
 
 // A save cut at its last role switch, and a recovery cut after its first store.
-fn second_part(card: &mut [u8], disk: &[u8]) {
-    save_two(card, 2, 3, 9, 136);
+fn second_part(card: &mut [u8], disk: &[u8], map: Map) -> Map {
+    let m1 = save_two(card, map, 2, 3, 9, 136);
     print::state(lookup::state(card));
-    recover(card, 1);
+    let m2 = recover(card, m1, 1);
     print::state(lookup::state(card));
-    recover(card, AMPLE);
-    recover(card, AMPLE);
+    let m3 = recover(card, m2, AMPLE);
+    let m4 = recover(card, m3, AMPLE);
     read(card, disk, 2);
-    save_two(card, 3, 2, 10, AMPLE);
+    let m5 = save_two(card, m4, 3, 2, 10, AMPLE);
     read(card, disk, 2);
     print::state(lookup::state(card));
+    m5
 }
 
 // The card fills up; an evict makes room.
-fn third_part(card: &mut [u8], disk: &mut [u8]) {
-    save_one(card, 5, 11, AMPLE);
-    save_two(card, 6, 7, 12, AMPLE);
-    evict(card, disk, 2, 1);
+fn third_part(card: &mut [u8], disk: &mut [u8], map: Map) -> Map {
+    let m1 = save_one(card, map, 5, 11, AMPLE);
+    free(m1);
+    let m2 = save_two(card, m1, 6, 7, 12, AMPLE);
+    let m3 = evict(card, disk, m2, 2, 1);
     read(card, disk, 2);
-    evict(card, disk, 2, AMPLE);
+    let m4 = evict(card, disk, m3, 2, AMPLE);
+    free(m4);
     read(card, disk, 2);
+    m4
 }
 
 // A load cut before its entry, and one that finishes.
-fn fourth_part(card: &mut [u8], disk: &mut [u8]) {
-    load(card, disk, 2, 64);
-    load(card, disk, 2, AMPLE);
-    load(card, disk, 2, AMPLE);
-    evict(card, disk, 9, AMPLE);
-    evict(card, disk, 2, AMPLE);
+fn fourth_part(card: &mut [u8], disk: &mut [u8], map: Map) -> Map {
+    let m1 = load(card, disk, map, 2, 64);
+    let m2 = load(card, disk, m1, 2, AMPLE);
+    let m3 = load(card, disk, m2, 2, AMPLE);
+    let m4 = load(card, disk, m1, 2, AMPLE);
+    let m5 = evict(card, disk, m3, 9, AMPLE);
+    evict(card, disk, m5, 2, AMPLE)
 }
 
-fn refusals(card: &mut [u8]) {
-    save_two(card, 4, 4, 13, AMPLE);
-    save_two(card, 4, 16, 13, AMPLE);
-    save_two(card, 5, 14, 13, 0);
+fn refusals(card: &mut [u8], map: Map) -> Map {
+    let m1 = save_two(card, map, 4, 4, 13, AMPLE);
+    let m2 = save_two(card, m1, 4, 16, 13, AMPLE);
+    save_two(card, m2, 5, 14, 13, 0)
 }
 
-fn last_part(card: &mut [u8], disk: &[u8]) {
+fn last_part(card: &mut [u8], disk: &[u8], map: Map) {
     read(card, disk, 5);
-    recover(card, AMPLE);
-    save_two(card, 5, 14, 13, AMPLE);
+    let m1 = recover(card, map, AMPLE);
+    let m2 = save_two(card, m1, 5, 14, 13, AMPLE);
+    free(m2);
     read(card, disk, 5);
     read(card, disk, 14);
     read(card, disk, 15);
@@ -123,10 +168,10 @@ fn main() {
     let mut disk = [1u8; 8192];
     print::text(b"format");
     print::outcome(format::format(9, 8, 4, 16, &mut card));
-    first_part(&mut card, &disk);
-    second_part(&mut card, &disk);
-    third_part(&mut card, &mut disk);
-    fourth_part(&mut card, &mut disk);
-    refusals(&mut card);
-    last_part(&mut card, &disk);
+    let m1 = first_part(&mut card, &disk);
+    let m2 = second_part(&mut card, &disk, m1);
+    let m3 = third_part(&mut card, &mut disk, m2);
+    let m4 = fourth_part(&mut card, &mut disk, m3);
+    let m5 = refusals(&mut card, m4);
+    last_part(&mut card, &disk, m5);
 }

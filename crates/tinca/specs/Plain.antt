@@ -1,22 +1,30 @@
 -- The answers as plain numbers, each case with its kind.
-use Prim.Native.Nat.{ℕ}
-use mathlib.Core.Bool.{true, false}
+use Prim.Native.Nat.{ℕ, _-_}
+use mathlib.Core.List.{List, [], _∷_}
+use mathlib.Core.Bool.{true, false, cond}
+use lib.ListN.{length, getD}
+use lib.Dec.{eqb}
 use Rattle.protocol.specs.declared.Answer.{Answer}
 use Rattle.protocol.specs.declared.Answer.the-variants.{Done, Cut, Refused}
 use Rattle.protocol.specs.declared.Condition.{Condition}
 use Rattle.protocol.specs.declared.Condition.the-variants.{Settled, Unsettled}
 use Rattle.protocol.specs.declared.Geometry.{Geometry}
+use Rattle.protocol.specs.declared.Map.{Map}
+use Rattle.protocol.specs.declared.Mapped.{Mapped}
+use Rattle.protocol.specs.declared.Mapped.the-variants.{Is as MapIs, Refused as MapRefused}
 use Rattle.protocol.specs.declared.Outcome.{Outcome}
 use Rattle.protocol.specs.declared.Outcome.the-variants.{Done as FormatDone, Refused as FormatRefused}
 use Rattle.protocol.specs.declared.Reported.{Reported}
 use Rattle.protocol.specs.declared.Reported.the-variants.{Is, Refused as StateRefused}
 use Rattle.protocol.specs.declared.State.{State}
+use Rattle.protocol.specs.Map.{madeMap}
 use Rattle.lookup.specs.declared.Cached.{Cached}
 use Rattle.lookup.specs.declared.Cached.the-variants.{Block, Nothing, Refused as CachedRefused}
 use Rattle.lookup.specs.declared.Found.{Found}
 use Rattle.lookup.specs.declared.Found.the-variants.{Card, Disk, Outside, Refused as FoundRefused}
 use Rattle.tinca.specs.declared.TincaAnswer.{TincaAnswer}
 use Rattle.tinca.specs.declared.TincaEntry.{TincaEntry}
+use Rattle.tinca.specs.declared.TincaMap.{TincaMap}
 use Rattle.tinca.specs.declared.TincaPlace.{TincaPlace}
 use Rattle.tinca.specs.declared.TincaState.{TincaState}
 
@@ -56,3 +64,23 @@ plainEntry (Block b true) = record { kind = 0; refusal = 0; block = b; modified 
 plainEntry (Block b false) = record { kind = 0; refusal = 0; block = b; modified = 0 }
 plainEntry Nothing = record { kind = 1; refusal = 0; block = 0; modified = 0 }
 plainEntry (CachedRefused r) = record { kind = 2; refusal = r; block = 0; modified = 0 }
+
+-- 0 made, with its two words; 2 refused
+abbrev pub plainMap : Mapped → TincaMap
+plainMap (MapIs m) = record { kind = 0; refusal = 0; low = m .low; high = m .high }
+plainMap (MapRefused r) = record { kind = 2; refusal = r; low = 0; high = 0 }
+
+-- a map that is not the card's, where the card gives one
+abbrev pub otherMap : Mapped → Map
+otherMap (MapIs m) = record { low = 0xFFFFFFFFFFFFFFFF - m .low; high = m .high }
+otherMap (MapRefused r) = record { low = 0; high = 0 }
+
+-- the map that is lent as the words ws. One not of two words is another than the card's, so that it is refused with 15
+unfoldable pub lentMap : List ℕ → List ℕ → Map
+lentMap c ws = cond (eqb (length ws) 2) (record { low = getD ws 0 0; high = getD ws 1 0 }) (otherMap (madeMap c))
+
+-- the lent words after the answer: on done those of the map that is handed on
+abbrev pub wordsAfter : Answer → Map → List ℕ → List ℕ
+wordsAfter (Done n) m ws = cond (eqb (length ws) 2) (m .low ∷ m .high ∷ []) ws
+wordsAfter Cut m ws = ws
+wordsAfter (Refused r) m ws = ws

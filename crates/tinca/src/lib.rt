@@ -3,20 +3,24 @@ use lookup::Cached;
 use lookup::Found;
 use protocol::Answer;
 use protocol::Condition;
+use protocol::Map;
+use protocol::Mapped;
 use protocol::Outcome;
 use protocol::Reported;
 use protocol::State;
+use protocol::Stored;
 ghost use mathlib.Core.Path.{_≡_};
 ghost use Rattle.protocol.specs.Table.{geometry};
 ghost use Rattle.protocol.specs.Store.{card as onCard, disk as onDisk, answerOf, afterOn};
 ghost use Rattle.protocol.specs.Format.{outcomeOf, formatRefusal, afterFormat};
+ghost use Rattle.protocol.specs.Map.{freeCount, madeMap, mapAfter};
 ghost use Rattle.protocol.specs.Commit.{commitWork};
 ghost use Rattle.protocol.specs.Load.{loadWork, evictWork};
 ghost use Rattle.protocol.specs.Recover.{recoverWork};
 ghost use Rattle.protocol.specs.Read.{outputAfter, stateOf};
 ghost use Rattle.lookup.specs.Place.{foundAt, fetchedAt};
 ghost use Rattle.lookup.specs.Cached.{cachedAt};
-ghost use Rattle.tinca.specs.Plain.{plainAnswer, plainOutcome, plainPlace, plainState, plainEntry};
+ghost use Rattle.tinca.specs.Plain.{plainAnswer, plainOutcome, plainPlace, plainState, plainEntry, plainMap, otherMap, lentMap, wordsAfter};
 
 // kind 0 done, with the stores made; 1 cut; 2 refused, with the number
 #[repr(C)]
@@ -46,6 +50,15 @@ pub struct TincaState {
     pub disk: u64,
     pub first: u64,
     pub second: u64,
+}
+
+// kind 0 made: the map's two words; 2 refused, with the number
+#[repr(C)]
+pub struct TincaMap {
+    pub kind: u32,
+    pub refusal: u32,
+    pub low: u64,
+    pub high: u64,
 }
 
 // kind 0 cached: the block's number, modified 1 or 0; 1 nothing; 2 refused, with the number
@@ -209,6 +222,70 @@ fn entry(c: Cached) -> TincaEntry
     }
 }
 
+fn mapped(m: Mapped) -> TincaMap
+    ensures { λ r. ⌜ r ≡ plainMap m ⌝ }
+{
+    match m {
+        Mapped::Is(w) => TincaMap {
+            kind: 0,
+            refusal: 0,
+            low: w.low,
+            high: w.high,
+        },
+        Mapped::Refused(r) => TincaMap {
+            kind: 2,
+            refusal: r as u32,
+            low: 0,
+            high: 0,
+        },
+    }
+}
+
+// A map that is not m: one word turned over.
+fn other(m: Mapped) -> Map
+    ensures { λ r. ⌜ r ≡ otherMap m ⌝ }
+{
+    match m {
+        Mapped::Is(w) => Map {
+            low: !w.low,
+            high: w.high,
+        },
+        Mapped::Refused(_) => Map { low: 0, high: 0 },
+    }
+}
+
+// The map that the station lends. Where it is not of two words the call gets one that is not the card's, and asks 15 in its turn.
+fn lent(card: &[u8], words: &[u64]) -> Map
+    ensures { λ r. ⌜ r ≡ lentMap (now (card .entry)) (now (words .entry)) ⌝ }
+{
+    if words.len() == 2 {
+        return Map {
+            low: words[0],
+            high: words[1],
+        };
+    }
+    other(recovery::make_map(card))
+}
+
+// The answer, and on done the map's two words where the station lent them.
+fn handed(words: &mut [u64], s: Stored) -> TincaAnswer
+    ensures answer { λ r. ⌜ r ≡ plainAnswer (s .answer) ⌝ }
+    ensures words { λ r. ⌜ now (words .exit) ≡ wordsAfter (s .answer) (s .map) (now (words .entry)) ⌝ }
+{
+    let m = s.map;
+    let a = s.answer;
+    let done = match a {
+        Answer::Done(_) => true,
+        Answer::Cut => false,
+        Answer::Refused(_) => false,
+    };
+    if done & (words.len() == 2) {
+        words[0] = m.low;
+        words[1] = m.high;
+    }
+    answer(a)
+}
+
 #[no_mangle]
 pub extern "C" fn tinca_format(
     k: u64,
@@ -224,51 +301,83 @@ pub extern "C" fn tinca_format(
 }
 
 #[no_mangle]
+pub extern "C" fn tinca_make_map(card: &[u8]) -> TincaMap
+    ensures { λ r. ⌜ r ≡ plainMap (madeMap (now (card .entry))) ⌝ }
+{
+    mapped(recovery::make_map(card))
+}
+
+#[no_mangle]
+pub extern "C" fn tinca_free_count(low: u64, high: u64) -> u64
+    ensures { λ r. ⌜ r ≡ freeCount (record { low = low; high = high }) ⌝ }
+{
+    freemap::free_count(Map {
+        low: low,
+        high: high,
+    })
+}
+
+#[no_mangle]
 pub extern "C" fn tinca_commit(
     card: &mut [u8],
+    map: &mut [u64],
     numbers: &[u64],
     bytes: &[u8],
     allowance: u64,
 ) -> TincaAnswer
-    ensures answer { λ r. ⌜ r ≡ plainAnswer (answerOf allowance (commitWork (now (card .entry)) (now (numbers .entry)) (now (bytes .entry)))) ⌝ }
-    ensures card { λ r. ⌜ now (card .exit) ≡ afterOn onCard allowance (commitWork (now (card .entry)) (now (numbers .entry)) (now (bytes .entry))) (now (card .entry)) ⌝ }
+    ensures answer { λ r. ⌜ r ≡ plainAnswer (answerOf allowance (commitWork (now (card .entry)) (lentMap (now (card .entry)) (now (map .entry))) (now (numbers .entry)) (now (bytes .entry)))) ⌝ }
+    ensures card { λ r. ⌜ now (card .exit) ≡ afterOn onCard allowance (commitWork (now (card .entry)) (lentMap (now (card .entry)) (now (map .entry))) (now (numbers .entry)) (now (bytes .entry))) (now (card .entry)) ⌝ }
+    ensures map { λ r. ⌜ now (map .exit) ≡ wordsAfter (answerOf allowance (commitWork (now (card .entry)) (lentMap (now (card .entry)) (now (map .entry))) (now (numbers .entry)) (now (bytes .entry)))) (mapAfter allowance (commitWork (now (card .entry)) (lentMap (now (card .entry)) (now (map .entry))) (now (numbers .entry)) (now (bytes .entry))) (now (card .entry)) (lentMap (now (card .entry)) (now (map .entry)))) (now (map .entry)) ⌝ }
 {
-    answer(commit::commit(card, numbers, bytes, allowance))
+    let m = lent(card, map);
+    handed(map, commit::commit(card, m, numbers, bytes, allowance))
 }
 
 #[no_mangle]
 pub extern "C" fn tinca_load(
     card: &mut [u8],
     disk: &[u8],
+    map: &mut [u64],
     block: u64,
     allowance: u64,
 ) -> TincaAnswer
-    ensures answer { λ r. ⌜ r ≡ plainAnswer (answerOf allowance (loadWork (now (card .entry)) (now (disk .entry)) block)) ⌝ }
-    ensures card { λ r. ⌜ now (card .exit) ≡ afterOn onCard allowance (loadWork (now (card .entry)) (now (disk .entry)) block) (now (card .entry)) ⌝ }
+    ensures answer { λ r. ⌜ r ≡ plainAnswer (answerOf allowance (loadWork (now (card .entry)) (now (disk .entry)) (lentMap (now (card .entry)) (now (map .entry))) block)) ⌝ }
+    ensures card { λ r. ⌜ now (card .exit) ≡ afterOn onCard allowance (loadWork (now (card .entry)) (now (disk .entry)) (lentMap (now (card .entry)) (now (map .entry))) block) (now (card .entry)) ⌝ }
+    ensures map { λ r. ⌜ now (map .exit) ≡ wordsAfter (answerOf allowance (loadWork (now (card .entry)) (now (disk .entry)) (lentMap (now (card .entry)) (now (map .entry))) block)) (mapAfter allowance (loadWork (now (card .entry)) (now (disk .entry)) (lentMap (now (card .entry)) (now (map .entry))) block) (now (card .entry)) (lentMap (now (card .entry)) (now (map .entry)))) (now (map .entry)) ⌝ }
 {
-    answer(transfer::load(card, disk, block, allowance))
+    let m = lent(card, map);
+    handed(map, transfer::load(card, disk, m, block, allowance))
 }
 
 #[no_mangle]
 pub extern "C" fn tinca_evict(
     card: &mut [u8],
     disk: &mut [u8],
+    map: &mut [u64],
     block: u64,
     allowance: u64,
 ) -> TincaAnswer
-    ensures answer { λ r. ⌜ r ≡ plainAnswer (answerOf allowance (evictWork (now (card .entry)) (now (disk .entry)) block)) ⌝ }
-    ensures card { λ r. ⌜ now (card .exit) ≡ afterOn onCard allowance (evictWork (now (card .entry)) (now (disk .entry)) block) (now (card .entry)) ⌝ }
-    ensures disk { λ r. ⌜ now (disk .exit) ≡ afterOn onDisk allowance (evictWork (now (card .entry)) (now (disk .entry)) block) (now (disk .entry)) ⌝ }
+    ensures answer { λ r. ⌜ r ≡ plainAnswer (answerOf allowance (evictWork (now (card .entry)) (now (disk .entry)) (lentMap (now (card .entry)) (now (map .entry))) block)) ⌝ }
+    ensures card { λ r. ⌜ now (card .exit) ≡ afterOn onCard allowance (evictWork (now (card .entry)) (now (disk .entry)) (lentMap (now (card .entry)) (now (map .entry))) block) (now (card .entry)) ⌝ }
+    ensures disk { λ r. ⌜ now (disk .exit) ≡ afterOn onDisk allowance (evictWork (now (card .entry)) (now (disk .entry)) (lentMap (now (card .entry)) (now (map .entry))) block) (now (disk .entry)) ⌝ }
+    ensures map { λ r. ⌜ now (map .exit) ≡ wordsAfter (answerOf allowance (evictWork (now (card .entry)) (now (disk .entry)) (lentMap (now (card .entry)) (now (map .entry))) block)) (mapAfter allowance (evictWork (now (card .entry)) (now (disk .entry)) (lentMap (now (card .entry)) (now (map .entry))) block) (now (card .entry)) (lentMap (now (card .entry)) (now (map .entry)))) (now (map .entry)) ⌝ }
 {
-    answer(transfer::evict(card, disk, block, allowance))
+    let m = lent(card, map);
+    handed(map, transfer::evict(card, disk, m, block, allowance))
 }
 
 #[no_mangle]
-pub extern "C" fn tinca_recover(card: &mut [u8], allowance: u64) -> TincaAnswer
-    ensures answer { λ r. ⌜ r ≡ plainAnswer (answerOf allowance (recoverWork (now (card .entry)))) ⌝ }
-    ensures card { λ r. ⌜ now (card .exit) ≡ afterOn onCard allowance (recoverWork (now (card .entry))) (now (card .entry)) ⌝ }
+pub extern "C" fn tinca_recover(
+    card: &mut [u8],
+    map: &mut [u64],
+    allowance: u64,
+) -> TincaAnswer
+    ensures answer { λ r. ⌜ r ≡ plainAnswer (answerOf allowance (recoverWork (now (card .entry)) (lentMap (now (card .entry)) (now (map .entry))))) ⌝ }
+    ensures card { λ r. ⌜ now (card .exit) ≡ afterOn onCard allowance (recoverWork (now (card .entry)) (lentMap (now (card .entry)) (now (map .entry)))) (now (card .entry)) ⌝ }
+    ensures map { λ r. ⌜ now (map .exit) ≡ wordsAfter (answerOf allowance (recoverWork (now (card .entry)) (lentMap (now (card .entry)) (now (map .entry))))) (mapAfter allowance (recoverWork (now (card .entry)) (lentMap (now (card .entry)) (now (map .entry)))) (now (card .entry)) (lentMap (now (card .entry)) (now (map .entry)))) (now (map .entry)) ⌝ }
 {
-    answer(recovery::recover(card, allowance))
+    let m = lent(card, map);
+    handed(map, recovery::recover(card, m, allowance))
 }
 
 #[no_mangle]
