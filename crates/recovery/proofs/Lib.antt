@@ -1,4 +1,5 @@
--- When a store is left out, how recovery's steps come together, and a step as bytes.
+-- When a store is left out, how recovery's steps come together, which data blocks they move, and a step as bytes.
+pub mod Moving
 pub mod Passed
 pub mod Skipped
 pub mod Spelling

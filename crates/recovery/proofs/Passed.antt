@@ -1,63 +1,85 @@
--- What recovery's refusal decides: the call is refused, or the card fits and its stores are made. Assumes nothing.
-use Prim.Native.Nat.{ℕ}
+-- What recovery's refusal decides: the call is refused, or the card fits and its stores are made; and the map that each hands on.
+-- Assumes nothing.
+use Prim.Native.Nat.{ℕ, _≤_, _<_}
 use mathlib.Core.List.{List}
-use mathlib.Core.Bool.{cond, _&&_}
-use mathlib.Core.Path.{_≡_, sym, ap, subst, _∙_}
+use mathlib.Core.Bool.{Bool, true, false, cond, not}
+use mathlib.Core.Path.{_≡_, refl, sym, ap, subst, _∙_}
 use native.Mathlib.Omega.{arith}
-use lib.Dec.{ltb}
-use borrow.Author.Tests.{ltb-true}
+use lib.Seq.{take-all}
+use lib.Dec.{eqb, ltb}
+use borrow.Author.Tests.{eqb-true, not-true, not-false}
 use Rattle.protocol.specs.declared.Answer.{Answer}
 use Rattle.protocol.specs.declared.Answer.the-variants.{Done, Cut, Refused}
 use Rattle.protocol.specs.declared.Geometry.{Geometry}
-use Rattle.protocol.specs.Below.{allBelow}
+use Rattle.protocol.specs.declared.Map.{Map}
 use Rattle.protocol.specs.Layout.{geometryOf}
-use Rattle.protocol.specs.Ring.{headOf, tailOf, windowOf}
-use Rattle.protocol.specs.Check.{refuse, windowNumberFits, ringFits, fitRefusal, damageRefusal}
-use Rattle.protocol.specs.Store.{card, flat, storesOf, answerOf, afterOn}
+use Rattle.protocol.specs.Check.{entriesFit, fitRefusal, damageRefusal}
+use Rattle.protocol.specs.Store.{card, Store, flat, madeOn, storesOf, answerOf, afterOn}
+use Rattle.protocol.specs.Map.{mapBy, isMarked, mapOf, sameMap, makeRefusal, mapRefusal, handedOn, mapAfter}
 use Rattle.protocol.specs.Recover.{recoverRuns, recoverRefusal, recoverWork}
 use Rattle.protocol.proofs.Below.{and-left, and-right}
-use Rattle.protocol.proofs.Checks.{orElse-first, orElse-next, orElse-none, refuse-none}
+use Rattle.protocol.proofs.Checks.{orElse-first, orElse-next, refuse-passed, refuse-failed}
+use Rattle.protocol.proofs.Lawful.{Intact, intact}
+use Rattle.checks.specs.declared.Verdict.{Verdict}
+use Rattle.checks.specs.Passed.{Inspected}
+use Rattle.freemap.specs.Bits.{movedMap}
 use Rattle.ring.specs.Fitted.{Fitted, Placed, WindowOf}
 use Rattle.ring.proofs.Laws.{fit-fitted}
-use Rattle.stores.proofs.Laws.{refused-answer, refused-after, made-answer, made-after}
+use Rattle.stores.proofs.Laws.{says-cut, says-done, refused-answer, refused-after, made-answer, made-after}
 use Rattle.ring.specs.declared.Window.{Window}
 use Rattle.recovery.specs.declared.Checked.{Checked}
+use Rattle.recovery.specs.declared.Moved.{Moved}
 use Rattle.recovery.specs.declared.Progress.{Progress}
 use Rattle.recovery.specs.Step.{Examined}
-use Rattle.recovery.specs.Went.{Went}
+use Rattle.recovery.specs.Went.{Went, Recovered}
+use Rattle.recovery.specs.Blocks.{Noted}
+use Rattle.recovery.proofs.Moving.{moved-map}
 
 -- ---- refusals in order
 
 -- a refused card is examined no further
-refused-examined : (c : List ℕ) (s : Checked) → s .refusal ≡ recoverRefusal c → (s .refusal ≡ 0 → ⊥) → Examined c s
-refused-examined c s e h = record { refusal-is = e; own = λ z. absurd (h z); fitted = λ z. absurd (h z); window = λ z. absurd (h z) }
+refused-examined : (c : List ℕ) (s : Checked) → s .refusal ≡ makeRefusal c → (s .refusal ≡ 0 → ⊥) → Examined c s
+refused-examined c s e h =
+    record {
+      refusal-is = e;
+      own = λ z. absurd (h z);
+      fitted = λ z. absurd (h z);
+      window = λ z. absurd (h z);
+      entries = λ z. absurd (h z);
+      map-is = λ z. absurd (h z);
+    }
 
 pub fit-refuses : (c : List ℕ) (r : ℕ) (s : Checked) → r ≡ fitRefusal c → (r ≡ 0 → ⊥) → s .refusal ≡ r → Examined c s
-unfolding recoverRefusal
+unfolding makeRefusal
 fit-refuses c r s e h q = refused-examined c s (q ∙ orElse-first r (fitRefusal c) _ e h) (λ z. h (sym q ∙ z))
 
-module _ (c : List ℕ) (g : Geometry) (r f : ℕ) (fe : f ≡ fitRefusal c) (fz : f ≡ 0) (q : g ≡ geometryOf c) (e : r ≡ damageRefusal g c) where
-  refusal-is : r ≡ recoverRefusal c
-  unfolding recoverRefusal
-  refusal-is = orElse-next r (fitRefusal c) _ (sym (sym fe ∙ fz)) (e ∙ ap (λ (y : Geometry). damageRefusal y c) q)
+module _ (c : List ℕ) (g : Geometry) (f : ℕ) (fe : f ≡ fitRefusal c) (fz : f ≡ 0) (q : g ≡ geometryOf c) (ns cs : List ℕ) (v : Verdict)
+    (e : Inspected g c ns cs v) where
+  refusal-is : v .refusal ≡ makeRefusal c
+  unfolding makeRefusal
+  refusal-is = orElse-next (v .refusal) (fitRefusal c) _ (sym (sym fe ∙ fz)) (e .refusal-is ∙ ap (λ (y : Geometry). damageRefusal y c) q)
 
-  pub damage-refuses : (s : Checked) → (r ≡ 0 → ⊥) → s .refusal ≡ r → Examined c s
+  pub damage-refuses : (s : Checked) → (v .refusal ≡ 0 → ⊥) → s .refusal ≡ v .refusal → Examined c s
   damage-refuses s h p = refused-examined c s (p ∙ refusal-is) (λ z. h (sym p ∙ z))
 
-  pub damage-placed : r ≡ 0 → Placed g c
-  unfolding damageRefusal ringFits
-  damage-placed z =
-      let first = orElse-none (refuse 4 (ringFits g c)) _ (sym e ∙ z) .0 in
-      let ring = refuse-none 4 (ringFits g c) (omega arith) first in
-      let rest = and-right (ltb (headOf c) (g .slots)) (ltb (tailOf c) (g .slots) && allBelow (windowNumberFits g c) (windowOf g c)) ring in
-      record {
-        head = ltb-true (headOf c) (g .slots) (and-left (ltb (headOf c) (g .slots)) _ ring);
-        tail = ltb-true (tailOf c) (g .slots) (and-left (ltb (tailOf c) (g .slots)) _ rest);
-      }
+  module _ (z : v .refusal ≡ 0) where
+    whole : Intact (geometryOf c) c
+    whole = intact c (sym fe ∙ fz) (ap (λ (y : Geometry). damageRefusal y c) (sym q) ∙ sym (e .refusal-is) ∙ z)
 
-  pub damage-passes : (w : Window) → r ≡ 0 → WindowOf g c w → Examined c (record { refusal = 0; geometry = g; window = w })
-  damage-passes w z x =
-      record { refusal-is = sym z ∙ refusal-is; own = λ y. q; fitted = λ y. fit-fitted c g f fe fz q; window = λ y. x }
+    pub damage-placed : Placed g c
+    damage-placed = subst (λ (y : Geometry). Placed y c) (sym q) (record { head = whole .head; tail = whole .tail })
+
+    pub damage-passes : (w : Window) (m : Map) → WindowOf g c w → m ≡ v .map → Examined c (record { refusal = 0; geometry = g; window = w; map = m })
+    unfolding mapOf
+    damage-passes w m x k =
+        record {
+          refusal-is = sym z ∙ refusal-is;
+          own = λ y. q;
+          fitted = λ y. fit-fitted c g f fe fz q;
+          window = λ y. x;
+          entries = λ y. ap (λ (h : Geometry). entriesFit h c) q ∙ whole .fits;
+          map-is = λ y. k ∙ e .map-is z ∙ ap (λ (h : Geometry). mapBy (isMarked h c)) q;
+        }
 
 -- ---- past them
 
@@ -68,26 +90,87 @@ module _ (c : List ℕ) (s : Checked) (x : Examined c s) (z : s .refusal ≡ 0) 
   pub examined-window : WindowOf (s .geometry) c (s .window)
   examined-window = x .window z
 
-module _ (c : List ℕ) (s : Checked) (x : Examined c s) (z : s .refusal ≡ 0) (a : ℕ) (d : List ℕ) (p : Progress)
-    (y : Went (flat (recoverRuns (s .geometry) c)) a c d p) where
-  own : Went (flat (recoverRuns (geometryOf c) c)) a c d p
-  own = subst (λ (h : Geometry). Went (flat (recoverRuns h c)) a c d p) (x .own z) y
-
-  pub recovered-answer : (r : Answer) → r ≡ cond (ltb a (p .count)) Cut (Done (p .count)) → r ≡ answerOf a (recoverWork c)
-  unfolding recoverWork storesOf
-  recovered-answer r e = made-answer (recoverWork c) a (s .refusal) (x .refusal-is) z (p .count) r (own .counted) e
-
-  pub recovered-after : d ≡ afterOn card a (recoverWork c) c
-  unfolding recoverWork
-  recovered-after = made-after (recoverWork c) a (s .refusal) (x .refusal-is) z (own .did)
+  pub examined-entries : entriesFit (s .geometry) c ≡ true
+  examined-entries = x .entries z
 
 -- ---- a refused call
 
-module _ (c : List ℕ) (a r : ℕ) (e : r ≡ recoverRefusal c) (h : r ≡ 0 → ⊥) where
-  pub refused-recovery : Refused r ≡ answerOf a (recoverWork c)
-  unfolding recoverWork
-  refused-recovery = refused-answer (recoverWork c) a r e h
+same-map : (m n : Map) → sameMap m n ≡ true → m ≡ n
+unfolding sameMap
+same-map m n h =
+    let low = eqb-true (m .low) (n .low) (and-left (eqb (m .low) (n .low)) _ h) in
+    let high = eqb-true (m .high) (n .high) (and-right (eqb (m .low) (n .low)) _ h) in
+    λ t. record { low = low t; high = high t }
 
-  pub refused-card : c ≡ afterOn card a (recoverWork c) c
-  unfolding recoverWork
-  refused-card = refused-after (recoverWork c) a card r c e h
+module _ (a : ℕ) (c : List ℕ) (m : Map) where
+  refused-call : (r : ℕ) → r ≡ recoverRefusal c m → (r ≡ 0 → ⊥) → Recovered a c m c (record { answer = Refused r; map = m })
+  unfolding recoverWork mapAfter handedOn
+  refused-call r e h =
+      let said = refused-answer (recoverWork c m) a r e h in
+      record {
+        answer-is = said;
+        map-is = ap (λ (y : Answer). handedOn y m (mapOf (afterOn card a (recoverWork c m) c))) said;
+        after-is = refused-after (recoverWork c m) a card r c e h;
+      }
+
+  module _ (s : Checked) (x : Examined c s) where
+    pub refused-recovery : (s .refusal ≡ 0 → ⊥) → Recovered a c m c (record { answer = Refused (s .refusal); map = m })
+    unfolding recoverRefusal
+    refused-recovery h = refused-call (s .refusal) (orElse-first (s .refusal) (makeRefusal c) _ (x .refusal-is) h) h
+
+    module _ (z : s .refusal ≡ 0) (t : Bool) (same : t ≡ sameMap m (s .map)) where
+      told : t ≡ sameMap m (mapOf c)
+      told = same ∙ ap (sameMap m) (x .map-is z)
+
+      pub refused-map : not t ≡ true → Recovered a c m c (record { answer = Refused 15; map = m })
+      unfolding recoverRefusal mapRefusal
+      refused-map h =
+          refused-call 15
+          (orElse-next 15 (makeRefusal c) _ (sym z ∙ x .refusal-is) (refuse-failed 15 (sameMap m (mapOf c)) (sym told ∙ not-true t h)))
+          (λ e. omega arith)
+
+      -- ---- the stores made
+
+      module _ (h : not t ≡ false) (d : List ℕ) (p : Progress) (y : Went (flat (recoverRuns (s .geometry) c)) a c d p) where
+        none : 0 ≡ recoverRefusal c m
+        unfolding recoverRefusal mapRefusal
+        none = orElse-next 0 (makeRefusal c) _ (sym z ∙ x .refusal-is) (refuse-passed 15 (sameMap m (mapOf c)) (sym told ∙ not-false t h))
+
+        made : Went (flat (recoverRuns (geometryOf c) c)) a c d p
+        made = subst (λ (g : Geometry). Went (flat (recoverRuns g c)) a c d p) (x .own z) y
+
+        answer-is : (r : Answer) → r ≡ cond (ltb a (p .count)) Cut (Done (p .count)) → r ≡ answerOf a (recoverWork c m)
+        unfolding recoverWork storesOf
+        answer-is r e = made-answer (recoverWork c m) a 0 none refl (p .count) r (made .counted) e
+
+        after-is : d ≡ afterOn card a (recoverWork c m) c
+        unfolding recoverWork
+        after-is = made-after (recoverWork c m) a 0 none refl (made .did)
+
+        pub cut-recovery : a < p .count → Recovered a c m d (record { answer = Cut; map = m })
+        unfolding mapAfter handedOn
+        cut-recovery l =
+            let said = answer-is Cut (says-cut a (p .count) l) in
+            record {
+              answer-is = said;
+              map-is = ap (λ (r : Answer). handedOn r m (mapOf (afterOn card a (recoverWork c m) c))) said;
+              after-is = after-is;
+            }
+
+        pub done-recovery : p .count ≤ a → (b : Moved) → Noted (s .geometry) c (s .geometry .blocks) b → (n : Map) → n ≡ movedMap m (b .gone) (b .come)
+            → Recovered a c m d (record { answer = Done (p .count); map = n })
+        unfolding mapAfter handedOn
+        done-recovery l b k n e =
+            let said = answer-is (Done (p .count)) (says-done a (p .count) l) in
+            let all : d ≡ madeOn card (flat (recoverRuns (geometryOf c) c)) c =
+            made .did .made ∙ ap (λ (ss : List Store). madeOn card ss c) (take-all a _ (omega (arith, made .counted))) in
+            let old : m ≡ mapOf c = same-map m (mapOf c) (sym told ∙ not-false t h) in
+            let own = subst (λ (g : Geometry). Noted g c (g .blocks) b) (x .own z) k in
+            record {
+              answer-is = said;
+              map-is =
+                  e ∙ ap (λ (o : Map). movedMap o (b .gone) (b .come)) old ∙ moved-map c m (sym none) b own
+                  ∙ ap mapOf (sym all ∙ after-is)
+                  ∙ ap (λ (r : Answer). handedOn r m (mapOf (afterOn card a (recoverWork c m) c))) said;
+              after-is = after-is;
+            }

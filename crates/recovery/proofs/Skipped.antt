@@ -30,7 +30,7 @@ unfolding sameBytes
 bytes-same [] = refl
 bytes-same (x ∷ xs) = and-both (eq-eqb x x refl) (bytes-same xs)
 
-same-fields : (a b : Entry) → sameEntry a b ≡ true → a ≡ b
+pub same-fields : (a b : Entry) → sameEntry a b ≡ true → a ≡ b
 unfolding sameEntry
 same-fields a b h =
     let r = and-right (eqb (a .flags) (b .flags)) _ h in

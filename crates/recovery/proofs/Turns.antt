@@ -35,7 +35,7 @@ use Rattle.stores.proofs.Laws.{did-none, did-same, did-each, did-length, length
 use Rattle.recovery.specs.declared.Progress.{Progress}
 use Rattle.recovery.specs.declared.Step.{Step}
 use Rattle.recovery.specs.declared.Step.the-variants.{Nothing, Undo, Tail}
-use Rattle.recovery.specs.Step.{runsAt, stepStores, undoes, Listed}
+use Rattle.recovery.specs.Step.{changedAt, runsAt, stepStores, undoes, Undoes, Listed}
 use Rattle.recovery.specs.Went.{Went, sameEntry}
 use Rattle.recovery.proofs.Skipped.{entry-left-out, entry-changing, tail-left-out, tail-changing}
 
@@ -63,29 +63,43 @@ unfolding undoableAt usedAt undoableEntry
 undoable-is g c i e t p q = ap (undoableEntry g c) (sym p) ∙ sym q
 
 module _ (g : Geometry) (c : List ℕ) (i : ℕ) (e : Entry) (t : Bool) (p : e ≡ entryAt g c i) (q : t ≡ undoableEntry g c e) where
-  pub step-passed : not t ≡ true → stepStores g i Nothing ≡ flat (undoRuns g c i)
-  unfolding undoRuns stepStores
-  step-passed h = no-stores _ (rw (undoable-is g c i e t p q, not-true t h))
+  pub step-passed : not t ≡ true → Undoes g c i Nothing
+  unfolding undoRuns stepStores undoes changedAt
+  step-passed h =
+      let n : undoableAt g c i ≡ false = undoable-is g c i e t p q ∙ not-true t h in
+      record { stores = no-stores _ (rw n refl); changes = rw n refl }
 
   module _ (f : Fitted g c) (b : Bytes c) (l : i < g .blocks) (h : not t ≡ false) (u : Entry) (k : u ≡ undone e) (s : Bool) (m : s ≡ sameEntry e u) where
+    is-undoable : undoableAt g c i ≡ true
+    is-undoable = undoable-is g c i e t p q ∙ not-false t h
+
     runs-are : undoRuns g c i ≡ ifChanging c (entryStore g i (undone (entryAt g c i)))
     unfolding undoRuns
-    runs-are = rw (undoable-is g c i e t p q, not-false t h)
+    runs-are = rw is-undoable
 
     same-is : sameEntry (entryAt g c i) (undone (entryAt g c i)) ≡ s
     same-is = ap (λ (x : Entry). sameEntry x (undone x)) (sym p) ∙ ap (sameEntry e) (sym k) ∙ sym m
 
-    pub step-left-out : s ≡ true → stepStores g i Nothing ≡ flat (undoRuns g c i)
-    unfolding stepStores
-    step-left-out z = no-stores _ (runs-are ∙ entry-left-out g c (f .long) b i l (same-is ∙ z))
+    changed-is : (b : Bool) → s ≡ b → not b ≡ changedAt g c i
+    unfolding changedAt
+    changed-is b z = rw (is-undoable, same-is, z)
 
-    pub step-undone : s ≡ false → stepStores g i (Undo u) ≡ flat (undoRuns g c i)
-    unfolding stepStores
+    pub step-left-out : s ≡ true → Undoes g c i Nothing
+    unfolding stepStores undoes
+    step-left-out z =
+        record { stores = no-stores _ (runs-are ∙ entry-left-out g c (f .long) b i l (same-is ∙ z)); changes = changed-is true z }
+
+    pub step-undone : s ≡ false → Undoes g c i (Undo u)
+    unfolding stepStores undoes
     step-undone z =
-        single-stores _ _
-        (runs-are
-        ∙ entry-changing g c (f .long) b i l (same-is ∙ z)
-        ∙ ap (λ (y : Entry). single (entryStore g i y)) (ap undone (sym p) ∙ sym k))
+        record {
+          stores =
+              single-stores _ _
+              (runs-are
+              ∙ entry-changing g c (f .long) b i l (same-is ∙ z)
+              ∙ ap (λ (y : Entry). single (entryStore g i y)) (ap undone (sym p) ∙ sym k));
+          changes = changed-is false z;
+        }
 
 module _ (g : Geometry) (i : ℕ) (c : List ℕ) (b : Bytes c) (n : 128 ≤ length c) (h t : ℕ) (eh : h ≡ headOf c) (et : t ≡ tailOf c) where
   pub tail-stands : t ≡ h → stepStores g i Nothing ≡ flat (ifChanging c (tailStore (headOf c)))
@@ -106,11 +120,16 @@ unfolding runsAt
 at-tail g c i l = rw (le-ltb i (g .blocks) l)
 
 module _ (g : Geometry) (c : List ℕ) (i : ℕ) (u : Step) where
-  pub listed-entry : i < g .blocks → stepStores g i u ≡ flat (undoRuns g c i) → Listed g c i u
-  listed-entry l e = record { stores = e ∙ ap flat (sym (at-entry g c i l)); fits = λ q. l }
+  pub listed-entry : i < g .blocks → Undoes g c i u → Listed g c i u
+  listed-entry l e = record { stores = e .stores ∙ ap flat (sym (at-entry g c i l)); fits = λ q. l; changes = λ q. e .changes }
 
   pub listed-tail : g .blocks ≤ i → (stepStores g i u ≡ flat (ifChanging c (tailStore (headOf c)))) × (undoes u ≡ false) → Listed g c i u
-  listed-tail l e = record { stores = e .0 ∙ ap flat (sym (at-tail g c i l)); fits = λ q. absurd-bool q (e .1) }
+  listed-tail l e =
+      record {
+        stores = e .0 ∙ ap flat (sym (at-tail g c i l));
+        fits = λ q. absurd-bool q (e .1);
+        changes = λ q. absurd (omega arith);
+      }
 
 -- what making a step does, in each of its three forms
 module _ (g : Geometry) (i a : ℕ) (c : List ℕ) (u : Step) where
@@ -232,7 +251,7 @@ module _ (g : Geometry) (c₀ : List ℕ) (i a : ℕ) (c : List ℕ) (n r : ℕ)
         let k : j ≤ g .slots = omega (arith, v .count, v .ends) in
         number-kept g c₀ c head-stays tail-stays j (slot-stays _ (around-below (g .slots) (tailOf c₀) j t k)))
 
-    entry-stays : (l : i < g .blocks) → entryAt g c i ≡ entryAt g c₀ i
+    pub entry-stays : (l : i < g .blocks) → entryAt g c i ≡ entryAt g c₀ i
     unfolding entryAt entryPlace
     entry-stays l =
         entry-of-part c (entryPlace g i)
@@ -245,6 +264,10 @@ module _ (g : Geometry) (c₀ : List ℕ) (i a : ℕ) (c : List ℕ) (n r : ℕ)
         let e = entryAt g c₀ i in
         (λ t. let y = entry-stays l t in inUse y && (hasLogRole y || inWindow g c (y .number)))
         ∙ ap (λ (b : Bool). inUse e && (hasLogRole e || b)) (in-window-stays (e .number))
+
+    pub changed-stays : (l : i < g .blocks) → changedAt g c i ≡ changedAt g c₀ i
+    unfolding changedAt
+    changed-stays l = λ t. let y = entry-stays l t in undoable-stays l t && not (sameEntry y (undone y))
 
     runs-stay : (l : i < g .blocks) → undoRuns g c i ≡ undoRuns g c₀ i
     unfolding undoRuns entryStore entryPlace

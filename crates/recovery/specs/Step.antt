@@ -1,14 +1,17 @@
 -- Recovery's list place by place: the N entries in ascending order, then Tail.
 use Prim.Native.Nat.{ℕ, _<_}
 use mathlib.Core.List.{List, [], _∷_}
-use mathlib.Core.Bool.{Bool, true, false, cond}
+use mathlib.Core.Bool.{Bool, true, false, cond, not, _&&_}
 use mathlib.Core.Path.{_≡_}
 use lib.Dec.{eqb, ltb}
 use Rattle.numbers.specs.Bytes.{part}
 use Rattle.protocol.specs.declared.Geometry.{Geometry}
-use Rattle.protocol.specs.Ring.{headOf}
+use Rattle.protocol.specs.Entry.{entryAt, undone}
+use Rattle.protocol.specs.Ring.{headOf, undoableAt}
+use Rattle.protocol.specs.Check.{entriesFit}
+use Rattle.protocol.specs.Map.{mapOf, makeRefusal}
 use Rattle.protocol.specs.Store.{Run, Store, flat, entryStore, tailStore}
-use Rattle.protocol.specs.Recover.{ifChanging, undoRuns, recoverRefusal}
+use Rattle.protocol.specs.Recover.{ifChanging, undoRuns}
 use Rattle.protocol.specs.Layout.{geometryOf}
 use Rattle.ring.specs.Fitted.{Fitted, WindowOf}
 use Rattle.stores.specs.Did.{cardStore}
@@ -16,6 +19,11 @@ use Rattle.recovery.specs.declared.Spelled.{Spelled}
 use Rattle.recovery.specs.declared.Checked.{Checked}
 use Rattle.recovery.specs.declared.Step.{Step}
 use Rattle.recovery.specs.declared.Step.the-variants.{Nothing, Undo, Tail}
+use Rattle.recovery.specs.Went.{sameEntry}
+
+-- recovery changes entry i: it is undoable, and not undone already
+unfoldable pub changedAt : Geometry → List ℕ → ℕ → Bool
+changedAt g c i = undoableAt g c i && not (sameEntry (entryAt g c i) (undone (entryAt g c i)))
 
 -- the stores of place i of the list: those of entry i, and at place N Tail's
 unfoldable pub runsAt : Geometry → List ℕ → ℕ → List Run
@@ -37,14 +45,22 @@ undoes (Tail v) = false
 unfoldable pub spelledStores : Spelled → List Store
 spelledStores s = cond (eqb (s .size) 0) [] (cardStore (s .place) (part (s .bytes) 0 (s .size)) ∷ [])
 
+-- the step u is what becomes of entry i of the card c
+pub record Undoes (g : Geometry) (c : List ℕ) (i : ℕ) (u : Step) : Type 0 where
+  pub stores : stepStores g i u ≡ flat (undoRuns g c i)
+  pub changes : undoes u ≡ changedAt g c i
+
 -- the step u is what the list of the card c has at place i
 pub record Listed (g : Geometry) (c : List ℕ) (i : ℕ) (u : Step) : Type 0 where
   pub stores : stepStores g i u ≡ flat (runsAt g c i)
   pub fits : undoes u ≡ true → i < g .blocks
+  pub changes : i < g .blocks → undoes u ≡ changedAt g c i
 
--- what recovery finds first: its refusal, or where there is none a card that fits, its geometry and its window
+-- what recovery finds first: its refusal, or where there is none a card whose parts fit, its geometry, its window and its map
 pub record Examined (c : List ℕ) (s : Checked) : Type 0 where
-  pub refusal-is : s .refusal ≡ recoverRefusal c
+  pub refusal-is : s .refusal ≡ makeRefusal c
   pub own : s .refusal ≡ 0 → s .geometry ≡ geometryOf c
   pub fitted : s .refusal ≡ 0 → Fitted (s .geometry) c
   pub window : s .refusal ≡ 0 → WindowOf (s .geometry) c (s .window)
+  pub entries : s .refusal ≡ 0 → entriesFit (s .geometry) c ≡ true
+  pub map-is : s .refusal ≡ 0 → s .map ≡ mapOf c

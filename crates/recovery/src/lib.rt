@@ -3,6 +3,8 @@ use protocol::Answer;
 use protocol::Entry;
 use protocol::FRESH;
 use protocol::Geometry;
+use protocol::Map;
+use protocol::Stored;
 use ring::Window;
 ghost use mathlib.Core.Path.{_≡_};
 ghost use mathlib.Core.Bool.{true, false};
@@ -10,13 +12,15 @@ ghost use Prim.Native.Nat.{_≤_, _<_};
 ghost use lib.ListN.{length};
 ghost use Rattle.numbers.specs.Bytes.{bytesBE, part};
 ghost use Rattle.protocol.specs.Layout.{goodGeometry};
-ghost use Rattle.protocol.specs.Entry.{undone, entryBytes};
+ghost use Rattle.protocol.specs.Entry.{FRESH as NO_BLOCK, undone, entryAt, entryBytes};
 ghost use Rattle.protocol.specs.Ring.{headOf};
-ghost use Rattle.protocol.specs.Store.{Medium, flat, tailStore, answerOf, afterOn};
-ghost use Rattle.protocol.specs.Recover.{ifChanging, undoRuns, recoverRuns, recoverWork};
+ghost use Rattle.protocol.specs.Check.{goodEntryAt, entriesFit};
+ghost use Rattle.protocol.specs.Store.{flat, tailStore};
+ghost use Rattle.protocol.specs.Recover.{ifChanging, recoverRuns};
 ghost use Rattle.ring.specs.Fitted.{Fitted, WindowOf};
-ghost use Rattle.recovery.specs.Step.{stepStores, undoes, spelledStores, Listed, Examined};
-ghost use Rattle.recovery.specs.Went.{Went, sameEntry};
+ghost use Rattle.recovery.specs.Step.{stepStores, undoes, spelledStores, Undoes, Listed, Examined};
+ghost use Rattle.recovery.specs.Went.{Went, Recovered, sameEntry};
+ghost use Rattle.recovery.specs.Blocks.{noted, Noted};
 
 // How far recovery has come: the stores that its list has so far, and what is left of the allowance.
 pub struct Progress {
@@ -62,7 +66,7 @@ pub enum Step {
 // as the bytes.
 fn undo_step(g: Geometry, card: &[u8], w: Window, i: usize) -> Step
     requires { ⌜ Fitted g (now card) × WindowOf g (now card) w × (i < g .blocks) ⌝ }
-    ensures { λ r. ⌜ stepStores g i r ≡ flat (undoRuns g (now (card .entry)) i) ⌝ }
+    ensures { λ r. ⌜ Undoes g (now (card .entry)) i r ⌝ }
 {
     let e = checks::entry_of(g, card, i);
     if !checks::undoable(g, card, w, e) {
@@ -169,34 +173,87 @@ pub fn spell(g: Geometry, i: usize, u: Step) -> Spelled
     }
 }
 
-// Makes the whole list. A store touches its own entry alone, so the others and the window are read as they stood at the start.
-fn make_list(g: Geometry, card: &mut [u8], w: Window, allowance: u64) -> Progress
-    requires { ⌜ Fitted g (now card) × WindowOf g (now card) w ⌝ }
-    ensures { λ r. ⌜ Went (flat (recoverRuns g (now (card .entry)))) allowance (now (card .entry)) (now (card .exit)) r ⌝ }
+// The data blocks that the list moves: those that undone entries give up, and those that they take.
+pub struct Moved {
+    pub gone: Map,
+    pub come: Map,
+}
+
+// Notes the blocks of an entry that is to be undone.
+fn note_entry(e: Entry, so: Moved) -> Moved
+    requires { ⌜ (e .current < 128) × ((e .previous ≡ NO_BLOCK → ⊥) → e .previous < 128) ⌝ }
+    ensures { λ r. ⌜ r ≡ noted true e so ⌝ }
+{
+    let gone = freemap::with(so.gone, e.current as usize);
+    let come = so.come;
+    if e.previous == FRESH {
+        return Moved {
+            gone: gone,
+            come: come,
+        };
+    }
+    Moved {
+        gone: gone,
+        come: freemap::with(come, e.previous as usize),
+    }
+}
+
+// Notes the blocks of the step u of place i, which is still to be made.
+fn note_step(g: Geometry, card: &[u8], i: usize, u: Step, so: Moved) -> Moved
+    requires { ⌜ Fitted g (now card) × (undoes u ≡ true → i < g .blocks) × (i < g .blocks → goodEntryAt g (now card) i ≡ true) ⌝ }
+    ensures { λ r. ⌜ r ≡ noted (undoes u) (entryAt g (now (card .entry)) i) so ⌝ }
+{
+    match u {
+        Step::Nothing => so,
+        Step::Undo(_) => note_entry(checks::entry_of(g, card, i), so),
+        Step::Tail(_) => so,
+    }
+}
+
+// What the whole list came to.
+pub struct Made {
+    pub progress: Progress,
+    pub moved: Moved,
+}
+
+// Makes the whole list. A store touches its own entry alone, so the others and the window are read as they stood at the start. A block may
+// go from one entry to another, so what is given up and what is taken are kept apart.
+fn make_list(g: Geometry, card: &mut [u8], w: Window, allowance: u64) -> Made
+    requires { ⌜ Fitted g (now card) × WindowOf g (now card) w × (entriesFit g (now card) ≡ true) ⌝ }
+    ensures { λ r. ⌜ Went (flat (recoverRuns g (now (card .entry)))) allowance (now (card .entry)) (now (card .exit)) (r .progress) × Noted g (now (card .entry)) (g .blocks) (r .moved) ⌝ }
 {
     let n = g.blocks as usize;
     let mut count: u64 = 0;
     let mut left = allowance;
+    let mut moved = Moved {
+        gone: Map { low: 0, high: 0 },
+        come: Map { low: 0, high: 0 },
+    };
     let mut i: usize = 0;
     while i <= n {
         let at = i;
         i += 1;
         let u = step_at(g, card, w, at);
+        moved = note_step(g, card, at, u, moved);
         let p = make_step(g, card, at, u, left);
         count += p.count;
         left = p.left;
     }
-    Progress {
-        count: count,
-        left: left,
+    Made {
+        progress: Progress {
+            count: count,
+            left: left,
+        },
+        moved: moved,
     }
 }
 
-// What recovery finds first: its refusal, and of a card that is not refused the geometry and the window.
+// What recovery finds first: its refusal, and of a card that is not refused the geometry, the window and the map.
 pub struct Checked {
     pub refusal: u8,
     pub geometry: Geometry,
     pub window: Window,
+    pub map: Map,
 }
 
 fn refused(refusal: u8) -> Checked
@@ -211,6 +268,7 @@ fn refused(refusal: u8) -> Checked
             disk: 0,
         },
         window: Window { tail: 0, count: 0 },
+        map: Map { low: 0, high: 0 },
     }
 }
 
@@ -223,27 +281,51 @@ pub fn examine(card: &[u8]) -> Checked
         return refused(fit);
     }
     let g = ring::geometry_of(card);
-    let damage = checks::damage_refusal(g, card);
-    if damage != 0 {
-        return refused(damage);
+    let mut ids = [0u32; 128];
+    let mut currents = [0u32; 128];
+    let v = checks::inspect(g, card, &mut ids, &mut currents);
+    if v.refusal != 0 {
+        return refused(v.refusal);
     }
+    let map = v.map;
     Checked {
         refusal: 0,
         geometry: g,
         window: ring::window_of(g, card),
+        map: map,
     }
 }
 
 // Undoes what a cut left half made: each undoable entry becomes what it was, and Tail is set to Head. The service desk's undo of a
 // half-made commit is this same call.
-pub fn recover(card: &mut [u8], allowance: u64) -> Answer
-    ensures answer { λ r. ⌜ r ≡ answerOf allowance (recoverWork (now (card .entry))) ⌝ }
-    ensures after { λ r. ⌜ now (card .exit) ≡ afterOn Medium.card allowance (recoverWork (now (card .entry))) (now (card .entry)) ⌝ }
+pub fn recover(card: &mut [u8], map: Map, allowance: u64) -> Stored
+    ensures { λ r. ⌜ Recovered allowance (now (card .entry)) map (now (card .exit)) r ⌝ }
 {
     let s = examine(card);
     if s.refusal != 0 {
-        return Answer::Refused(s.refusal);
+        return Stored {
+            answer: Answer::Refused(s.refusal),
+            map: map,
+        };
     }
-    let p = make_list(s.geometry, card, s.window, allowance);
-    stores::answer(p.count, allowance)
+    if !freemap::same(map, s.map) {
+        return Stored {
+            answer: Answer::Refused(15),
+            map: map,
+        };
+    }
+    let r = make_list(s.geometry, card, s.window, allowance);
+    let p = r.progress;
+    let count = p.count;
+    if allowance < count {
+        return Stored {
+            answer: Answer::Cut,
+            map: map,
+        };
+    }
+    let blocks = r.moved;
+    Stored {
+        answer: Answer::Done(count),
+        map: freemap::moved(map, blocks.gone, blocks.come),
+    }
 }

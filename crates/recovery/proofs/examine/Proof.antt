@@ -1,4 +1,4 @@
--- `examine` answers the lowest refusal that holds, and of a card that has none what the list starts from.
+-- `examine` answers the lowest refusal that holds, and of a card that has none what the list starts from, with its map.
 use borrow.Author.Needs.{needs}
 use Rattle.ring.proofs.Laws.{fit-long, fit-fitted}
 use Rattle.recovery.proofs.Passed.{fit-refuses, damage-refuses, damage-passes, damage-placed}
@@ -17,8 +17,8 @@ returns c = search (fit-refuses, needs)
 geometry-of-requires : tie.Need-geometry-of-requires
 geometry-of-requires c κs = search (fit-long, needs)
 
-damage-refusal-requires : tie.Need-damage-refusal-requires
-damage-refusal-requires c κs = search (fit-fitted, needs)
+inspect-requires : tie.Need-inspect-requires
+inspect-requires c κs = search (fit-fitted, needs)
 
 refused-requires-2 : tie.Need-refused-requires-2
 refused-requires-2 c κs = search needs
@@ -40,7 +40,7 @@ examine-spec =
     refused-requires
     returns
     geometry-of-requires
-    damage-refusal-requires
+    inspect-requires
     refused-requires-2
     returns-2
     window-of-requires
