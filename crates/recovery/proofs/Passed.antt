@@ -7,15 +7,16 @@ use mathlib.Core.Path.{_≡_, refl, sym, ap, subst, _∙_}
 use native.Mathlib.Omega.{arith}
 use lib.Seq.{take-all}
 use lib.Dec.{eqb, ltb}
-use borrow.Author.Tests.{eqb-true, not-true, not-false}
+use borrow.Author.Tests.{eq-eqb, ne-eqb, eqb-true, not-true, not-false}
 use Rattle.protocol.specs.declared.Answer.{Answer}
 use Rattle.protocol.specs.declared.Answer.the-variants.{Done, Cut, Refused}
 use Rattle.protocol.specs.declared.Geometry.{Geometry}
 use Rattle.protocol.specs.declared.Map.{Map}
+use Rattle.protocol.specs.declared.Mapped.the-variants.{Is, Refused as RefusedMap}
 use Rattle.protocol.specs.Layout.{geometryOf}
 use Rattle.protocol.specs.Check.{entriesFit, fitRefusal, damageRefusal}
 use Rattle.protocol.specs.Store.{card, Store, flat, madeOn, storesOf, answerOf, afterOn}
-use Rattle.protocol.specs.Map.{mapBy, isMarked, mapOf, sameMap, makeRefusal, mapRefusal, handedOn, mapAfter}
+use Rattle.protocol.specs.Map.{mapBy, isMarked, mapOf, sameMap, makeRefusal, madeMap, mapRefusal, handedOn, mapAfter}
 use Rattle.protocol.specs.Recover.{recoverRuns, recoverRefusal, recoverWork}
 use Rattle.protocol.proofs.Below.{and-left, and-right}
 use Rattle.protocol.proofs.Checks.{orElse-first, orElse-next, refuse-passed, refuse-failed}
@@ -174,3 +175,14 @@ module _ (a : ℕ) (c : List ℕ) (m : Map) where
                   ∙ ap (λ (r : Answer). handedOn r m (mapOf (afterOn card a (recoverWork c m) c))) said;
               after-is = after-is;
             }
+
+-- ---- the map alone
+
+module _ (c : List ℕ) (s : Checked) (x : Examined c s) where
+  pub map-refused : (s .refusal ≡ 0 → ⊥) → RefusedMap (s .refusal) ≡ madeMap c
+  unfolding madeMap
+  map-refused h = let e = x .refusal-is in rw (ne-eqb (makeRefusal c) 0 (λ z. h (e ∙ z))) (ap RefusedMap e)
+
+  pub map-told : s .refusal ≡ 0 → Is (s .map) ≡ madeMap c
+  unfolding madeMap
+  map-told z = rw (eq-eqb (makeRefusal c) 0 (sym (x .refusal-is) ∙ z)) (ap Is (x .map-is z))

@@ -4,6 +4,7 @@ use protocol::Entry;
 use protocol::FRESH;
 use protocol::Geometry;
 use protocol::Map;
+use protocol::Mapped;
 use protocol::Stored;
 use ring::Window;
 ghost use mathlib.Core.Path.{_≡_};
@@ -16,6 +17,7 @@ ghost use Rattle.protocol.specs.Entry.{FRESH as NO_BLOCK, undone, entryAt, entr
 ghost use Rattle.protocol.specs.Ring.{headOf};
 ghost use Rattle.protocol.specs.Check.{goodEntryAt, entriesFit};
 ghost use Rattle.protocol.specs.Store.{flat, tailStore};
+ghost use Rattle.protocol.specs.Map.{madeMap};
 ghost use Rattle.protocol.specs.Recover.{ifChanging, recoverRuns};
 ghost use Rattle.ring.specs.Fitted.{Fitted, WindowOf};
 ghost use Rattle.recovery.specs.Step.{stepStores, undoes, spelledStores, Undoes, Listed, Examined};
@@ -294,6 +296,18 @@ pub fn examine(card: &[u8]) -> Checked
         window: ring::window_of(g, card),
         map: map,
     }
+}
+
+// The map of the card's data blocks, settled or not: what a station makes when it starts. Refused with 1, 2 and 4 to 6.
+pub fn make_map(card: &[u8]) -> Mapped
+    ensures { λ r. ⌜ r ≡ madeMap (now (card .entry)) ⌝ }
+{
+    let s = examine(card);
+    if s.refusal != 0 {
+        return Mapped::Refused(s.refusal);
+    }
+    let map = s.map;
+    Mapped::Is(map)
 }
 
 // Undoes what a cut left half made: each undoable entry becomes what it was, and Tail is set to Head. The service desk's undo of a

@@ -367,11 +367,7 @@ pub extern "C" fn tinca_evict(
 }
 
 #[no_mangle]
-pub extern "C" fn tinca_recover(
-    card: &mut [u8],
-    map: &mut [u64],
-    allowance: u64,
-) -> TincaAnswer
+pub extern "C" fn tinca_recover(card: &mut [u8], map: &mut [u64], allowance: u64) -> TincaAnswer
     ensures answer { λ r. ⌜ r ≡ plainAnswer (answerOf allowance (recoverWork (now (card .entry)) (lentMap (now (card .entry)) (now (map .entry))))) ⌝ }
     ensures card { λ r. ⌜ now (card .exit) ≡ afterOn onCard allowance (recoverWork (now (card .entry)) (lentMap (now (card .entry)) (now (map .entry)))) (now (card .entry)) ⌝ }
     ensures map { λ r. ⌜ now (map .exit) ≡ wordsAfter (answerOf allowance (recoverWork (now (card .entry)) (lentMap (now (card .entry)) (now (map .entry))))) (mapAfter allowance (recoverWork (now (card .entry)) (lentMap (now (card .entry)) (now (map .entry)))) (now (card .entry)) (lentMap (now (card .entry)) (now (map .entry)))) (now (map .entry)) ⌝ }
