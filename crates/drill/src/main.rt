@@ -49,14 +49,16 @@ fn run(allowance: u64) {
     format::format(9, 8, 4, 16, &mut card);
     let map = made(&card);
     let saved = commit::commit(&mut card, map, &numbers, &bytes, allowance);
+    let committed = saved.answer;
     let again = made(&card);
     let undone = recovery::recover(&mut card, again, 0xFFFF_FFFF_FFFF_FFFF);
+    let recovered = undone.answer;
     lookup::read(&card, &disk, 3, &mut out);
     io::print_decimal(STDOUT_FILENO, allowance);
     io::write_all(STDOUT_FILENO, b",");
-    say(saved.answer);
+    say(committed);
     io::write_all(STDOUT_FILENO, b",");
-    io::print_decimal(STDOUT_FILENO, stores_of(undone.answer));
+    io::print_decimal(STDOUT_FILENO, stores_of(recovered));
     io::write_all(STDOUT_FILENO, b",");
     io::print_decimal(STDOUT_FILENO, wide(out[0]));
     io::write_all(STDOUT_FILENO, b"\n");
