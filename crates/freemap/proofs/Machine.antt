@@ -3,12 +3,14 @@ use Prim.Native.Nat.{ℕ, _+_, _*_, _-_, _/_, _%_, _^_, _≤_, _<_}
 use mathlib.Core.Bool.{not}
 use mathlib.Core.Path.{_≡_, sym, ap, _∙_}
 use mathlib.Core.Logic.{⊎-elim}
-use native.Mathlib.Nat.{add-zero, one-mul, mul-mod-left}
+use native.Mathlib.Nat.{add-zero, one-mul, mul-mod-left, div-add-mod'}
 use native.Mathlib.Omega.{arith}
 use lib.Bits.{bitAnd, bitOr}
-use lib.Count.{ones, trailingZeros, ones-le, trailing-le}
+use lib.Count.{ones, trailingZeros, ones-cat, ones-le, trailing-le}
 use lib.Dec.{ltb, leb, eqb}
 use lib.Pow.{pow-pos, shl-exact, shl-shr, mod-pow-add, low, ones-split, ones-lt, high-ones}
+use mir.Syntax.{w64}
+use mir.Val.{Fits}
 use borrow.Author.Tests.{lt-ltb, le-ltb, le-leb, lt-leb}
 use Rattle.protocol.specs.declared.Map.{Map}
 use Rattle.protocol.specs.Map.{word, mapBy}
@@ -103,14 +105,31 @@ module _ (n : ℕ) where
 
 -- ---- counts
 
-pub ones-both : (a b : ℕ) → a < 2 ^ 64 → b < 2 ^ 64 → ones a + ones b ≤ 128
-ones-both a b h l = omega (arith, ones-le 64 a h, ones-le 64 b l)
+pub quarter-few : (w : ℕ) → ones (w % 65536) ≤ 16
+quarter-few w = ones-le 16 (w % 65536) (omega arith)
 
-pub ones-fit-32 : (a b : ℕ) → a < 2 ^ 64 → b < 2 ^ 64 → ones a + ones b < 2 ^ 32
-ones-fit-32 a b h l = omega (arith, ones-both a b h l)
+-- the ones above the lowest quarter, and those in it
+lowest : (w : ℕ) → ones w ≡ ones (w / 65536) + ones (w % 65536)
+lowest w = ap ones (sym (div-add-mod' w 65536)) ∙ ones-cat 16 (w / 65536) (w % 65536) (omega arith)
 
-pub ones-fit-64 : (a b : ℕ) → a < 2 ^ 64 → b < 2 ^ 64 → ones a + ones b < 2 ^ 64
-ones-fit-64 a b h l = omega (arith, ones-both a b h l)
+-- the four quarters have all the ones of a word
+module _ (w a b c d : ℕ) (h : w < 2 ^ 64) (p : (a ≡ ones (w % 65536)) × (a ≤ 16)) (q : (b ≡ ones (w / 65536 % 65536)) × (b ≤ 16))
+    (r : (c ≡ ones (w / 4294967296 % 65536)) × (c ≤ 16)) (s : (d ≡ ones (w / 281474976710656 % 65536)) × (d ≤ 16)) where
+  pub four-quarters : (a + b + c + d ≡ ones w) × (a + b + c + d ≤ 64)
+  four-quarters =
+      let two : w / 65536 / 65536 ≡ w / 4294967296 = omega arith in
+      let three : w / 4294967296 / 65536 ≡ w / 281474976710656 = omega arith in
+      let last : w / 281474976710656 % 65536 ≡ w / 281474976710656 = omega arith in
+      let e₁ = lowest w in
+      let e₂ = lowest (w / 65536) in
+      let e₃ = lowest (w / 4294967296) in
+      let f₂ = ap ones two in
+      let f₃ = ap ones three in
+      let f₄ = ap ones last in
+      (omega (arith, p .0, q .0, r .0, s .0), omega (arith, p .1, q .1, r .1, s .1))
+
+pub quarter-fits : (w : ℕ) → Fits w64 (ones (w % 65536))
+quarter-fits w = record { fits = omega (arith, quarter-few w) }
 
 pub shift-pos : (k : ℕ) → k < 64 → 1 ≤ 1 * 2 ^ k % 2 ^ 64
 shift-pos k h = omega (arith, shift-one k h, pow-pos k)

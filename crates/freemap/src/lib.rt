@@ -1,7 +1,8 @@
 // The map of free data blocks in two words: its bits set, cleared, counted and searched.
 use protocol::Map;
 ghost use mathlib.Core.Path.{_≡_};
-ghost use Prim.Native.Nat.{ℕ, _≤_, _<_};
+ghost use Prim.Native.Nat.{ℕ, _%_, _≤_, _<_};
+ghost use lib.Count.{ones};
 ghost use lib.Dec.{leb};
 ghost use Rattle.protocol.specs.Map.{mapBy, freeCount, sameMap};
 ghost use Rattle.freemap.specs.Bits.{withBit, withoutBit, hasBit, movedMap, clearFrom, freeFrom, nextFree, takenAt};
@@ -92,11 +93,26 @@ pub fn same(a: Map, b: Map) -> bool
     (a.low == b.low) & (a.high == b.high)
 }
 
+// The ones of the sixteen lowest bits.
+fn quarter_ones(w: u64) -> u64
+    ensures { λ r. ⌜ (r ≡ ones (w % 65536)) × (r ≤ 16) ⌝ }
+{
+    u16::count_ones((w % 65536) as u16) as u64
+}
+
+// The ones of a word, by its quarters: of a whole word at once the compiler counts them with a multiply, which the new board lacks.
+fn ones_of(w: u64) -> u64
+    ensures { λ r. ⌜ (r ≡ ones w) × (r ≤ 64) ⌝ }
+{
+    let low = quarter_ones(w) + quarter_ones(w / 0x1_0000);
+    low + quarter_ones(w / 0x1_0000_0000) + quarter_ones(w / 0x1_0000_0000_0000)
+}
+
 // How many data blocks are free, by the ones of both words.
 pub fn free_count(m: Map) -> u64
     ensures { λ r. ⌜ r ≡ freeCount m ⌝ }
 {
-    128 - (u64::count_ones(m.low) + u64::count_ones(m.high)) as u64
+    128 - (ones_of(m.low) + ones_of(m.high))
 }
 
 // The lowest bit of w from place `at` on that is clear, 64 where there is none: the trailing zeros of the complement.

@@ -79,8 +79,12 @@ otherMap (MapRefused r) = record { low = 0; high = 0 }
 unfoldable pub lentMap : List ℕ → List ℕ → Map
 lentMap c ws = cond (eqb (length ws) 2) (record { low = getD ws 0 0; high = getD ws 1 0 }) (otherMap (madeMap c))
 
+-- the words of the map m in place of two words
+unfoldable pub wordsOf : Map → List ℕ → List ℕ
+wordsOf m ws = cond (eqb (length ws) 2) (m .low ∷ m .high ∷ []) ws
+
 -- the lent words after the answer: on done those of the map that is handed on
 abbrev pub wordsAfter : Answer → Map → List ℕ → List ℕ
-wordsAfter (Done n) m ws = cond (eqb (length ws) 2) (m .low ∷ m .high ∷ []) ws
+wordsAfter (Done n) m ws = wordsOf m ws
 wordsAfter Cut m ws = ws
 wordsAfter (Refused r) m ws = ws

@@ -20,7 +20,7 @@ ghost use Rattle.protocol.specs.Recover.{recoverWork};
 ghost use Rattle.protocol.specs.Read.{outputAfter, stateOf};
 ghost use Rattle.lookup.specs.Place.{foundAt, fetchedAt};
 ghost use Rattle.lookup.specs.Cached.{cachedAt};
-ghost use Rattle.tinca.specs.Plain.{plainAnswer, plainOutcome, plainPlace, plainState, plainEntry, plainMap, otherMap, lentMap, wordsAfter};
+ghost use Rattle.tinca.specs.Plain.{plainAnswer, plainOutcome, plainPlace, plainState, plainEntry, plainMap, otherMap, lentMap, wordsOf, wordsAfter};
 
 // kind 0 done, with the stores made; 1 cut; 2 refused, with the number
 #[repr(C)]
@@ -267,23 +267,31 @@ fn lent(card: &[u8], words: &[u64]) -> Map
     other(recovery::make_map(card))
 }
 
-// The answer, and on done the map's two words where the station lent them.
+// The map's two words, where there is room for just them.
+fn put_words(words: &mut [u64], m: Map)
+    ensures { λ r. ⌜ now (words .exit) ≡ wordsOf m (now (words .entry)) ⌝ }
+{
+    if words.len() == 2 {
+        words[0] = m.low;
+        words[1] = m.high;
+    }
+}
+
+// The answer, and on done the map in the station's words.
 fn handed(words: &mut [u64], s: Stored) -> TincaAnswer
     ensures answer { λ r. ⌜ r ≡ plainAnswer (s .answer) ⌝ }
     ensures words { λ r. ⌜ now (words .exit) ≡ wordsAfter (s .answer) (s .map) (now (words .entry)) ⌝ }
 {
     let m = s.map;
     let a = s.answer;
-    let done = match a {
-        Answer::Done(_) => true,
-        Answer::Cut => false,
-        Answer::Refused(_) => false,
-    };
-    if done & (words.len() == 2) {
-        words[0] = m.low;
-        words[1] = m.high;
+    match a {
+        Answer::Done(_) => {
+            put_words(words, m);
+            answer(a)
+        }
+        Answer::Cut => answer(a),
+        Answer::Refused(_) => answer(a),
     }
-    answer(a)
 }
 
 #[no_mangle]

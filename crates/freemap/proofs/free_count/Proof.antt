@@ -1,23 +1,25 @@
 -- `free_count` takes the ones of both words from 128, which are no more. Assumes nothing.
-use mathlib.Core.Path.{refl}
 use Rattle.protocol.specs.Map.{freeCount}
-use Rattle.freemap.proofs.Machine.{ones-both, ones-fit-32, ones-fit-64}
 use borrow.Author.Needs.{needs}
 use Rattle.freemap.proofs.free_count.Statement.{statement}
 use Rattle.freemap.proofs.free_count.Tie as tie
 
-add-result : tie.Need-add-result
-add-result c = search (ones-fit-32, needs)
+ones-of-requires : tie.Need-ones-of-requires
+ones-of-requires c κs = search needs
 
-cast-result : tie.Need-cast-result
-cast-result c = search (ones-fit-64, needs)
+ones-of-requires-2 : tie.Need-ones-of-requires-2
+ones-of-requires-2 c κs = search needs
+
+add-result : tie.Need-add-result
+add-result c = search needs
 
 sub-result : tie.Need-sub-result
-sub-result c = search (ones-both, needs)
+sub-result c = search needs
 
 returns : tie.Need-returns
 unfolding freeCount
-returns c = refl
+returns c = cc
 
 pub free-count-spec : {M : Type 1} → statement M
-free-count-spec = tie.close (tie.spec add-result cast-result sub-result returns)
+free-count-spec =
+    tie.close (tie.spec ones-of-requires ones-of-requires-2 add-result sub-result returns)
