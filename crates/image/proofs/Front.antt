@@ -1,22 +1,22 @@
 -- A file's front, one byte longer than the largest card, is answered as the whole file is: where the file is longer than its front,
 -- both have the same header and both are longer than every card. Assumes nothing.
-use Prim.Native.Nat.{ℕ, zero, suc, _+_, _≤_, _<_}
+use Prim.Native.Nat.{ℕ, _≤_, _<_}
 use mathlib.Core.List.{List}
-use mathlib.Core.Bool.{Bool, true, false, cond, _&&_}
+use mathlib.Core.Bool.{Bool, true, false, cond}
 use mathlib.Core.Logic.{⊎-elim}
 use mathlib.Core.Path.{_≡_, refl, sym, ap, _∙_}
 use native.Mathlib.Omega.{arith}
 use lib.ListN.{length, take}
-use lib.Seq.{take-all, length-take-le, getD-take}
-use Rattle.numbers.specs.Bytes.{be, part, numberAt}
+use lib.Seq.{take-all, length-take-le}
+use Rattle.numbers.specs.Bytes.{part}
 use Rattle.numbers.proofs.Laws.{part-part}
 use Rattle.protocol.specs.declared.Geometry.{Geometry}
-use Rattle.protocol.specs.Below.{allBelow}
-use Rattle.protocol.specs.Layout.{goodGeometry, cardLength, geometryOf, zeroFrom, goodHeader}
+use Rattle.protocol.specs.Layout.{goodGeometry, cardLength, geometryOf, goodHeader}
 use Rattle.protocol.specs.Check.{headerFits, fitRefusal}
-use Rattle.protocol.specs.Recover.{recoverRefusal}
+use Rattle.protocol.specs.Map.{makeRefusal}
 use Rattle.protocol.proofs.Below.{below-or-above, same-or-other}
 use Rattle.protocol.proofs.Checks.{limits, orElse-first}
+use Rattle.protocol.proofs.Codec.{header-same}
 use Rattle.ring.proofs.Laws.{header-end, header-geometry, fit-header, fit-length, fit-fitted}
 use Rattle.image.specs.Front.{readFront}
 
@@ -71,7 +71,7 @@ front-same answer refused h f =
     (λ (z : fitRefusal f ≡ 0 → ⊥). h (readFront f) (λ e. z (sym (front-fit f) ∙ e)) ∙ ap refused (front-fit f) ∙ sym (h f z))
     (same-or-other (fitRefusal f) 0)
 
--- so recovery's refusal is the same
-pub front-refusal : (f : List ℕ) → recoverRefusal (readFront f) ≡ recoverRefusal f
-unfolding recoverRefusal
-front-refusal = front-same recoverRefusal (λ r. r) (λ c h. sym (orElse-first (fitRefusal c) (fitRefusal c) _ refl h))
+-- so recovery's refusal is the same, but for 15, which is not the card's alone
+pub front-refusal : (f : List ℕ) → makeRefusal (readFront f) ≡ makeRefusal f
+unfolding makeRefusal
+front-refusal = front-same makeRefusal (λ r. r) (λ c h. sym (orElse-first (fitRefusal c) (fitRefusal c) _ refl h))

@@ -6,7 +6,8 @@ use mathlib.Core.Path.{_≡_}
 use lib.ListN.{length, take}
 use lib.Dec.{eqb}
 use Rattle.protocol.specs.Store.{card, Store, madeOn, storesOf, afterOn}
-use Rattle.protocol.specs.Recover.{recoverRefusal, recoverWork}
+use Rattle.protocol.specs.Map.{mapOf, makeRefusal}
+use Rattle.protocol.specs.Recover.{recoverWork}
 use Rattle.image.specs.declared.Walk.{Walk}
 use Rattle.image.specs.declared.Repair.{Repair}
 
@@ -19,12 +20,12 @@ pub record Walked (ss : List Store) (a : ℕ) (c d : List ℕ) (r : Walk) : Type
   pub whole : r .failed ≡ false → r .made ≡ min a (r .count)
   pub short : r .failed ≡ true → r .made < min a (r .count)
 
--- recovery of a file's card: refused, or its list's first stores are made, as many as are said; these are all that the allowance lets
--- happen, or where a failure is said fewer
+-- recovery of a file's card, with the map that it gives: refused, or its list's first stores are made, as many as are said; these are all that
+-- the allowance lets happen, or where a failure is said fewer
 pub record Repaired (a : ℕ) (c d : List ℕ) (r : Repair) : Type 0 where
-  pub refusal-is : r .refusal ≡ recoverRefusal c
-  pub count-is : r .count ≡ cond (eqb (recoverRefusal c) 0) (storesOf (recoverWork c)) 0
-  pub after-is : d ≡ afterOn card (r .made) (recoverWork c) c
+  pub refusal-is : r .refusal ≡ makeRefusal c
+  pub count-is : r .count ≡ cond (eqb (makeRefusal c) 0) (storesOf (recoverWork c (mapOf c))) 0
+  pub after-is : d ≡ afterOn card (r .made) (recoverWork c (mapOf c)) c
   pub within : r .made ≤ a
   pub listed : r .made ≤ r .count
   pub whole : r .failed ≡ false → r .made ≡ min a (r .count)
