@@ -17,7 +17,7 @@ use Rattle.protocol.specs.Entry.{entryAt, allowedFlags, isUnused, goodEntry}
 use Rattle.protocol.specs.Ring.{headOf, tailOf, windowOf, usedAt}
 use Rattle.protocol.specs.Check.{refuse, _orElse_, headerFits, cardFits, windowNumberFits, ringFits, goodEntryAt, entriesFit}
 use Rattle.protocol.specs.Check.{alike, apart, apartBefore, entriesApart, fitRefusal, damageRefusal}
-use Rattle.protocol.specs.Recover.{recoverRefusal}
+use Rattle.protocol.specs.Map.{makeRefusal}
 use Rattle.protocol.proofs.Below.{absurd-bool, either, below-or-above, same-or-other, and-right, all-at, all-of}
 use Rattle.protocol.proofs.Below.{first-none, first-found, first-missed}
 use Rattle.protocol.proofs.Checks.{orElse-first, orElse-next}
@@ -196,6 +196,6 @@ module _ (g : Geometry) (c : List ℕ) where
       (refusal-next (entryFault g c) (pairFault g c) _ _ entry-refusal pair-refusal)
 
 -- the fault that is named has the number of the card's refusal
-pub fault-refusal : (c : List ℕ) → refusalOf (faultOf c) ≡ recoverRefusal c
-unfolding faultOf recoverRefusal
+pub fault-refusal : (c : List ℕ) → refusalOf (faultOf c) ≡ makeRefusal c
+unfolding faultOf makeRefusal
 fault-refusal c = refusal-next (fitFault c) (damageFault (geometryOf c) c) _ _ (fit-refusal c) (damage-refusal (geometryOf c) c)
