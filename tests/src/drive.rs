@@ -922,6 +922,18 @@ pub fn some_card(random: &mut Random, geometry: Geometry) -> Snapshot {
     Snapshot { card, disk }
 }
 
+/// A card that caches the first blocks of its disk, as many as asked.
+fn loaded(geometry: Geometry, count: u64) -> Snapshot {
+    let model = Model::default();
+    let (mut card, disk) = (vec![0; geometry.card_length()], first_disk(count, geometry));
+    model.format(geometry.k, geometry.slots, geometry.data_blocks, geometry.disk_blocks, &mut card);
+    let mut map = map_of(&card);
+    for block in 0..count {
+        assert!(matches!(model.load(&mut card, &disk, &mut map, block, u64::MAX), Answer::Done(_)));
+    }
+    Snapshot { card, disk }
+}
+
 pub fn put(bytes: &mut [u8], at: usize, value: &[u8]) {
     bytes[at..at + value.len()].copy_from_slice(value);
 }
@@ -1143,6 +1155,22 @@ pub fn arguments<'a>(one: &'a dyn Calls, other: &'a dyn Calls, seed: u64) -> Res
                 pair.load(1, u64::MAX)?;
                 pair.evict(1, u64::MAX)?;
             }
+        }
+        tally.add(&pair.tally);
+    }
+    // a card whose map has no bit set and one whose map has every bit set, each call with every kind of wrong map
+    for (data_blocks, cached) in [(128, 0), (4, 4)] {
+        let geometry = Geometry { k: 9, slots: 8, data_blocks, disk_blocks: 6 };
+        let from = loaded(geometry, cached);
+        let mut pair = Pair::new(one, other, &from.card, &from.disk, 4);
+        for _ in 0..2 * WRONG_MAPS.len() {
+            pair.commit(&[5], &data_of(5, 1, geometry.block()), u64::MAX)?;
+            pair.set(&from);
+            pair.load(5, u64::MAX)?;
+            pair.set(&from);
+            pair.evict(0, u64::MAX)?;
+            pair.set(&from);
+            pair.recover(u64::MAX)?;
         }
         tally.add(&pair.tally);
     }

@@ -398,6 +398,9 @@ pub enum Slip {
     AnyMapTaken,
     /// A map of three words is taken by its first two.
     LongMapTaken,
+    /// A map of another length is taken for one of zeros, or of ones.
+    OddMapAsZeros,
+    OddMapAsOnes,
     /// Recover asks 15 before 6.
     MapBeforeEqual,
     /// The other calls ask 15 before 7.
@@ -413,7 +416,7 @@ pub enum Slip {
     OldBlocksStayTaken,
 }
 
-pub const SLIPS: [Slip; 35] = [
+pub const SLIPS: [Slip; 37] = [
     Slip::CleanUndo,
     Slip::FreshAtSwitch,
     Slip::FreshAtUndo,
@@ -441,6 +444,8 @@ pub const SLIPS: [Slip; 35] = [
     Slip::CountsLowWord,
     Slip::AnyMapTaken,
     Slip::LongMapTaken,
+    Slip::OddMapAsZeros,
+    Slip::OddMapAsOnes,
     Slip::MapBeforeEqual,
     Slip::MapBeforeSettled,
     Slip::MapAskedLast,
@@ -487,7 +492,13 @@ impl Model {
 
     /// Check 15.
     fn check_map(&self, card: &Card, map: &[u64]) -> Result<(), u32> {
-        let looked_at = if self.slips(Slip::LongMapTaken) { &map[..map.len().min(2)] } else { map };
+        let looked_at = match map.len() {
+            2 => map,
+            _ if self.slips(Slip::LongMapTaken) => &map[..map.len().min(2)],
+            _ if self.slips(Slip::OddMapAsZeros) => &[0; 2],
+            _ if self.slips(Slip::OddMapAsOnes) => &[u64::MAX; 2],
+            _ => map,
+        };
         if looked_at == self.given(card) || (self.slips(Slip::AnyMapTaken) && map.len() == 2) {
             Ok(())
         } else {
@@ -692,7 +703,7 @@ impl Model {
         if !cut || self.slips(Slip::NewMapAfterCut) {
             // of a wrong model's card there may be no map
             if let Ok(after) = Card::open(card, None) {
-                map[..2].copy_from_slice(&self.given(&after));
+                map.iter_mut().zip(self.given(&after)).for_each(|(word, new)| *word = new);
             }
         }
         if cut {
