@@ -219,6 +219,10 @@ fn set_bit(map: &mut [u64; 2], bit: usize) {
     map[bit / 64] |= 1 << (bit % 64);
 }
 
+fn clear_bit(map: &mut [u64; 2], bit: usize) {
+    map[bit / 64] &= !(1 << (bit % 64));
+}
+
 /// The map that a card gives. A card that is refused gives none: then no bit is set, and no call looks at it.
 pub fn map_of(card: &[u8]) -> [u64; 2] {
     Card::open(card, None).map_or([0; 2], |card| card.map())
@@ -414,9 +418,11 @@ pub enum Slip {
     OldMapAfterRecover,
     /// A commit marks its new blocks and frees none.
     OldBlocksStayTaken,
+    /// Recover clears and sets bits entry by entry: a block that one entry gets back and a later one gives up is lost.
+    BitsMovedInTurn,
 }
 
-pub const SLIPS: [Slip; 37] = [
+pub const SLIPS: [Slip; 38] = [
     Slip::CleanUndo,
     Slip::FreshAtSwitch,
     Slip::FreshAtUndo,
@@ -454,6 +460,7 @@ pub const SLIPS: [Slip; 37] = [
     Slip::OldMapAfterEvict,
     Slip::OldMapAfterRecover,
     Slip::OldBlocksStayTaken,
+    Slip::BitsMovedInTurn,
 ];
 
 /// The model; with a slip, a deliberately wrong one.
@@ -778,10 +785,18 @@ impl Calls for Model {
 
     fn recover(&self, card: &mut [u8], map: &mut [u64], allowance: u64) -> Answer {
         let list = self.check_unsettled(card, map).and_then(|_| self.recover_list(card));
-        let before = map.to_vec();
+        let (before, opened) = (map.to_vec(), Card::open(card, None));
         let answer = self.make(list, allowance, card, &mut [], map);
         if self.slips(Slip::OldMapAfterRecover) {
             map.copy_from_slice(&before);
+        }
+        if let (true, Ok(was), Answer::Done(_)) = (self.slips(Slip::BitsMovedInTurn), opened, answer) {
+            let mut moved = was.map();
+            for entry in was.in_use().filter(|entry| was.undoable(entry)) {
+                clear_bit(&mut moved, entry.current as usize);
+                entry.previous.iter().for_each(|block| set_bit(&mut moved, *block as usize));
+            }
+            map.copy_from_slice(&moved);
         }
         answer
     }
