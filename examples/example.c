@@ -10,6 +10,7 @@ enum { K = 9, SLOTS = 8, DATA_BLOCKS = 4, DISK_BLOCKS = 16, BLOCK_BYTES = TINCA_
 
 static uint8_t card[TINCA_CARD_LENGTH(K, SLOTS, DATA_BLOCKS)];
 static uint8_t disk[TINCA_DISK_LENGTH(K, DISK_BLOCKS)];
+static uint64_t map[2];
 
 static void told(const char *call, tinca_answer answer)
 {
@@ -42,6 +43,16 @@ static void state(void)
         printf("refused with %" PRIu32 ": %s\n", state.refusal, tinca_refusal_text(state.refusal));
 }
 
+/* At start and after a cut. Done calls then keep the map in step with the card, and refused ones leave it. */
+static void make_map(void)
+{
+    tinca_map made = tinca_make_map(card, sizeof card);
+    if (made.kind == TINCA_REFUSED)
+        printf("make map: refused with %" PRIu32 ": %s\n", made.refusal, tinca_refusal_text(made.refusal));
+    map[0] = made.low;
+    map[1] = made.high;
+}
+
 /* Evicts all that is cached, so that the disk alone has every block. */
 static void drain(void)
 {
@@ -50,7 +61,7 @@ static void drain(void)
         tinca_entry entry = tinca_cached(card, sizeof card, place);
         if (entry.kind == TINCA_IN_USE) {
             printf("place %" PRIu64 " caches block %" PRIu64 ", %s\n", place, entry.block, entry.modified ? "modified" : "clean");
-            told("evict it", tinca_evict(card, sizeof card, disk, sizeof disk, entry.block, UINT64_MAX));
+            told("evict it", tinca_evict(card, sizeof card, disk, sizeof disk, map, 2, entry.block, UINT64_MAX));
         }
     }
 }
@@ -62,28 +73,33 @@ int main(void)
     uint8_t data[2 * BLOCK_BYTES];
 
     told("format", tinca_format(K, SLOTS, DATA_BLOCKS, DISK_BLOCKS, card, sizeof card));
+    make_map();
     memset(data, 7, sizeof data);
-    told("first save of 3 and 5", tinca_commit(card, sizeof card, numbers, 2, data, sizeof data, UINT64_MAX));
-    told("evict 5", tinca_evict(card, sizeof card, disk, sizeof disk, 5, UINT64_MAX));
+    told("first save of 3 and 5", tinca_commit(card, sizeof card, map, 2, numbers, 2, data, sizeof data, UINT64_MAX));
+    printf("free data blocks: %" PRIu64 "\n", tinca_free_count(map[0], map[1]));
+    told("evict 5", tinca_evict(card, sizeof card, disk, sizeof disk, map, 2, 5, UINT64_MAX));
     show(3);
     show(5);
 
     memset(data, 8, sizeof data);
-    told("a save of 3 twice", tinca_commit(card, sizeof card, twice, 2, data, sizeof data, UINT64_MAX));
-    told("second save, power lost before its last store", tinca_commit(card, sizeof card, numbers, 2, data, sizeof data, 136));
+    told("a save of 3 twice", tinca_commit(card, sizeof card, map, 2, twice, 2, data, sizeof data, UINT64_MAX));
+    told("second save, power lost before its last store",
+         tinca_commit(card, sizeof card, map, 2, numbers, 2, data, sizeof data, 136));
     state();
     show(3);
-    told("recover, power lost again", tinca_recover(card, sizeof card, 1));
-    told("recover", tinca_recover(card, sizeof card, UINT64_MAX));
+    make_map();
+    told("recover, power lost again", tinca_recover(card, sizeof card, map, 2, 1));
+    make_map();
+    told("recover", tinca_recover(card, sizeof card, map, 2, UINT64_MAX));
     state();
     show(3);
     show(5);
 
-    told("second save again", tinca_commit(card, sizeof card, numbers, 2, data, sizeof data, UINT64_MAX));
+    told("second save again", tinca_commit(card, sizeof card, map, 2, numbers, 2, data, sizeof data, UINT64_MAX));
     show(3);
     show(5);
 
-    told("load 9", tinca_load(card, sizeof card, disk, sizeof disk, 9, UINT64_MAX));
+    told("load 9", tinca_load(card, sizeof card, disk, sizeof disk, map, 2, 9, UINT64_MAX));
     drain();
     state();
     show(3);

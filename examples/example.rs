@@ -43,11 +43,11 @@ fn state(card: &[u8]) {
 }
 
 /// Evicts all that is cached, so that the disk alone has every block.
-fn drain(card: &mut [u8], disk: &mut [u8], data_blocks: u64) {
+fn drain(card: &mut [u8], disk: &mut [u8], map: &mut [u64], data_blocks: u64) {
     for place in 0..data_blocks {
         if let Cached::Block { number, modified } = Library.cached(card, place) {
             println!("place {place} caches block {number}, {}", if modified { "modified" } else { "clean" });
-            told("evict it", Library.evict(card, disk, number, u64::MAX));
+            told("evict it", Library.evict(card, disk, map, number, u64::MAX));
         }
     }
 }
@@ -56,27 +56,34 @@ fn main() {
     let mut card = vec![0; 2304];
     let mut disk = vec![0; 16 * BLOCK_BYTES];
     told("format", Library.format(9, 8, 4, 16, &mut card));
-    told("first save of 3 and 5", Library.commit(&mut card, &[3, 5], &[7; 2 * BLOCK_BYTES], u64::MAX));
-    told("evict 5", Library.evict(&mut card, &mut disk, 5, u64::MAX));
+    // at start; done calls then keep it in step with the card, and refused ones leave it
+    let mut map = Library.fresh_map(&card);
+    told("first save of 3 and 5", Library.commit(&mut card, &mut map, &[3, 5], &[7; 2 * BLOCK_BYTES], u64::MAX));
+    println!("free data blocks: {}", Library.free_count(map[0], map[1]));
+    told("evict 5", Library.evict(&mut card, &mut disk, &mut map, 5, u64::MAX));
     show(&card, &disk, 3);
     show(&card, &disk, 5);
 
-    told("a save of 3 twice", Library.commit(&mut card, &[3, 3], &[8; 2 * BLOCK_BYTES], u64::MAX));
-    told("second save, power lost before its last store", Library.commit(&mut card, &[3, 5], &[8; 2 * BLOCK_BYTES], 136));
+    told("a save of 3 twice", Library.commit(&mut card, &mut map, &[3, 3], &[8; 2 * BLOCK_BYTES], u64::MAX));
+    let second = [8; 2 * BLOCK_BYTES];
+    told("second save, power lost before its last store", Library.commit(&mut card, &mut map, &[3, 5], &second, 136));
     state(&card);
     show(&card, &disk, 3);
-    told("recover, power lost again", Library.recover(&mut card, 1));
-    told("recover", Library.recover(&mut card, u64::MAX));
+    // after a cut it is made again
+    map = Library.fresh_map(&card);
+    told("recover, power lost again", Library.recover(&mut card, &mut map, 1));
+    map = Library.fresh_map(&card);
+    told("recover", Library.recover(&mut card, &mut map, u64::MAX));
     state(&card);
     show(&card, &disk, 3);
     show(&card, &disk, 5);
 
-    told("second save again", Library.commit(&mut card, &[3, 5], &[8; 2 * BLOCK_BYTES], u64::MAX));
+    told("second save again", Library.commit(&mut card, &mut map, &[3, 5], &second, u64::MAX));
     show(&card, &disk, 3);
     show(&card, &disk, 5);
 
-    told("load 9", Library.load(&mut card, &disk, 9, u64::MAX));
-    drain(&mut card, &mut disk, 4);
+    told("load 9", Library.load(&mut card, &disk, &mut map, 9, u64::MAX));
+    drain(&mut card, &mut disk, &mut map, 4);
     state(&card);
     show(&card, &disk, 3);
     show(&card, &disk, 5);

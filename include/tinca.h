@@ -26,14 +26,25 @@
  * all. A smaller one says where the power fails, in tests and drills, and gives the stores one by one to a station that
  * hands them to its card itself (docs/ORDER.md).
  *
- * Slices. A pointer and a length in bytes, but for `numbers`, whose length is a count. A pointer may be null where its length
- * is 0; a null with another length is used as an address wherever its bytes are looked at, and nothing is promised.
- * `numbers` is aligned as a uint64_t is. All others may lie at any address; a card that units must reach whole lies at a
- * multiple of 16 (docs/ORDER.md). Slices that a call only reads may overlap. One that it writes (card, disk, out, where they
- * are not const) may overlap no other: the proofs then say nothing of the bytes that it leaves.
+ * The map. Two 64-bit words in the station's own memory that tell the free data blocks: bit d mod 64, from the lowest, of word
+ * d / 64 is set unless d is below N and data block d is free (no entry in use has it as its current block). The bits from N on
+ * are set. The storing calls search it for free blocks and hand it on:
  *
- * Threads. Nothing here locks or keeps anything between calls: one thread a card at a time, with its disk. Different cards
- * are independent.
+ *     at start     tinca_make_map gives it, tinca_recover takes it, and the station goes on with what the recovery left in it
+ *     done         the call has written the map of the card that it leaves
+ *     refused      the map is as it was, and still the card's; but after 15 it must be made again
+ *     cut          the map is as it was; the card may have changed, so it must be made again
+ *
+ * Each storing call compares the map with the card and refuses a wrong one, with 15, before any store.
+ *
+ * Slices. A pointer and a length in bytes, but for `map` and `numbers`, whose lengths count words of 64 bits. A pointer may be
+ * null where its length is 0; a null with another length is used as an address wherever its bytes are looked at, and nothing
+ * is promised. `map` and `numbers` are aligned as a uint64_t is. All others may lie at any address; a card that units must
+ * reach whole lies at a multiple of 16 (docs/ORDER.md). Slices that a call only reads may overlap. One that it writes (card,
+ * disk, map, out, where they are not const) may overlap no other: the proofs then say nothing of the bytes that it leaves.
+ *
+ * Threads. Nothing here locks or keeps anything between calls: one thread a card at a time, with its disk and its map.
+ * Different cards are independent.
  *
  * docs/CARD.md has the bytes of the card, each call's stores in order, and the rule on cuts. An install has these pages in
  * share/doc/tinca.
@@ -45,7 +56,7 @@
 #include <stdint.h>
 
 /* Of this header and the library beside it. The middle number grows where a call changes. */
-#define TINCA_VERSION "0.1.0"
+#define TINCA_VERSION "0.2.0"
 
 /* Lengths in bytes, as constants where their arguments are: of a block, of a card, of a disk. */
 #define TINCA_BLOCK_LENGTH(k) ((size_t)1 << (k))
@@ -67,10 +78,12 @@ enum {
     TINCA_UNSETTLED = 1,
     TINCA_IN_USE = 0, /* tinca_entry */
     TINCA_UNUSED = 1,
+    TINCA_MADE = 0, /* tinca_map */
     TINCA_REFUSED = 2
 };
 
-/* The field `refusal` of a refused answer. The lowest number whose condition holds is given. */
+/* The field `refusal` of a refused answer. The lowest number whose condition holds is given, with 15 in the place between 7
+ * and 8. */
 enum {
     TINCA_BAD_HEADER = 1,
     TINCA_BAD_CARD_LENGTH = 2,
@@ -85,7 +98,8 @@ enum {
     TINCA_NUMBER_TWICE = 11,
     TINCA_ALREADY_CACHED = 12,
     TINCA_NOT_CACHED = 13,
-    TINCA_NO_ROOM = 14
+    TINCA_NO_ROOM = 14,
+    TINCA_WRONG_MAP = 15
 };
 
 /* What a refusal's number means, in words. */
@@ -122,6 +136,8 @@ static inline const char *tinca_refusal_text(uint32_t number)
         return "the block to evict is not cached";
     case TINCA_NO_ROOM:
         return "there are too few free data blocks";
+    case TINCA_WRONG_MAP:
+        return "the map is not the one that the card gives, or not of two words";
     default:
         return "no such refusal";
     }
@@ -168,28 +184,43 @@ typedef struct {
     uint64_t modified;
 } tinca_entry;
 
+/* TINCA_MADE: low is the map's first word, of data blocks 0 to 63, high its second. */
+typedef struct {
+    uint32_t kind;
+    uint32_t refusal;
+    uint64_t low, high;
+} tinca_map;
+
 /* Makes a fresh card: nothing cached, settled. It leaves the bytes of the data blocks, and what the old card had cached and
  * not yet written to the disk is lost. The card's length is TINCA_CARD_LENGTH. Done, or refused with 1 (a limit of k, S, N or
  * D) or 2 (a card of another length, a short one too). */
 tinca_answer tinca_format(uint64_t k, uint64_t slots, uint64_t data_blocks, uint64_t disk_blocks, uint8_t *card, size_t card_len);
 
+/* Tells the map that the card gives, settled or not. Made, or refused with 1, 2 or 4 to 6. */
+tinca_map tinca_make_map(const uint8_t *card, size_t card_len);
+
+/* Tells how many data blocks are free by a map: 128 less the bits that are set in its two words. */
+uint64_t tinca_free_count(uint64_t low, uint64_t high);
+
 /* Saves `count` blocks of `data`, in turn, under their numbers as one transaction: all of them or, after a cut and a recovery,
  * none. It needs as many free data blocks as it has blocks, those that are cached already too. m = count * (B/8 + 4) + 1.
- * Done, cut, or refused with 1, 2, 4 to 11 or 14. */
-tinca_answer tinca_commit(uint8_t *card, size_t card_len, const uint64_t *numbers, size_t count, const uint8_t *data, size_t data_len,
-                          uint64_t allowance);
+ * Done, cut, or refused with 1, 2, 4 to 7, 15, 8 to 11 or 14. */
+tinca_answer tinca_commit(uint8_t *card, size_t card_len, uint64_t *map, size_t map_words, const uint64_t *numbers, size_t count,
+                          const uint8_t *data, size_t data_len, uint64_t allowance);
 
-/* Caches a disk block. m = B/8 + 1. Done, cut, or refused with 1 to 7, 10, 12 or 14. */
-tinca_answer tinca_load(uint8_t *card, size_t card_len, const uint8_t *disk, size_t disk_len, uint64_t block, uint64_t allowance);
+/* Caches a disk block. m = B/8 + 1. Done, cut, or refused with 1 to 7, 15, 10, 12 or 14. */
+tinca_answer tinca_load(uint8_t *card, size_t card_len, const uint8_t *disk, size_t disk_len, uint64_t *map, size_t map_words, uint64_t block,
+                        uint64_t allowance);
 
 /* Writes a cached block to the disk if it is modified, and then drops it from the card. m = B/512 + 1 if modified, else 1.
- * Done, cut, or refused with 1 to 7, 10 or 13. */
-tinca_answer tinca_evict(uint8_t *card, size_t card_len, uint8_t *disk, size_t disk_len, uint64_t block, uint64_t allowance);
+ * Done, cut, or refused with 1 to 7, 15, 10 or 13. */
+tinca_answer tinca_evict(uint8_t *card, size_t card_len, uint8_t *disk, size_t disk_len, uint64_t *map, size_t map_words, uint64_t block,
+                         uint64_t allowance);
 
-/* Undoes what a cut commit left; on a settled card it makes no store. To be called at start-up, before all else: a station
- * cannot know whether its power failed in a commit. After a cut one the next goes on where it stopped. Done, cut, or refused
- * with 1, 2 or 4 to 6. */
-tinca_answer tinca_recover(uint8_t *card, size_t card_len, uint64_t allowance);
+/* Undoes what a cut commit left; on a settled card it makes no store. To be called at start-up, with the map just made, before
+ * all else: a station cannot know whether its power failed in a commit. After a cut one the next, with the map made again, goes
+ * on where it stopped. Done, cut, or refused with 1, 2, 4 to 6 or 15. */
+tinca_answer tinca_recover(uint8_t *card, size_t card_len, uint64_t *map, size_t map_words, uint64_t allowance);
 
 /* Copies a block to `out`, B bytes, and tells where it lies. Refused with 1 to 7, 9 or 10; `out` is then untouched. */
 tinca_place tinca_read(const uint8_t *card, size_t card_len, const uint8_t *disk, size_t disk_len, uint64_t block, uint8_t *out, size_t out_len);

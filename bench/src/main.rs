@@ -43,20 +43,48 @@ struct RawEntry {
     modified: u64,
 }
 
+#[repr(C)]
+struct RawMap {
+    kind: u32,
+    refusal: u32,
+    low: u64,
+    high: u64,
+}
+
 extern "C" {
     fn tinca_format(k: u64, slots: u64, data_blocks: u64, disk_blocks: u64, card: *mut u8, length: usize) -> RawAnswer;
     fn tinca_commit(
         card: *mut u8,
         length: usize,
+        map: *mut u64,
+        map_words: usize,
         numbers: *const u64,
         count: usize,
         data: *const u8,
         data_length: usize,
         allowance: u64,
     ) -> RawAnswer;
-    fn tinca_load(card: *mut u8, length: usize, disk: *const u8, disk_length: usize, block: u64, allowance: u64) -> RawAnswer;
-    fn tinca_evict(card: *mut u8, length: usize, disk: *mut u8, disk_length: usize, block: u64, allowance: u64) -> RawAnswer;
-    fn tinca_recover(card: *mut u8, length: usize, allowance: u64) -> RawAnswer;
+    fn tinca_load(
+        card: *mut u8,
+        length: usize,
+        disk: *const u8,
+        disk_length: usize,
+        map: *mut u64,
+        map_words: usize,
+        block: u64,
+        allowance: u64,
+    ) -> RawAnswer;
+    fn tinca_evict(
+        card: *mut u8,
+        length: usize,
+        disk: *mut u8,
+        disk_length: usize,
+        map: *mut u64,
+        map_words: usize,
+        block: u64,
+        allowance: u64,
+    ) -> RawAnswer;
+    fn tinca_recover(card: *mut u8, length: usize, map: *mut u64, map_words: usize, allowance: u64) -> RawAnswer;
     fn tinca_read(
         card: *const u8,
         length: usize,
@@ -68,13 +96,15 @@ extern "C" {
     ) -> RawPlace;
     fn tinca_state_of(card: *const u8, length: usize) -> RawState;
     fn tinca_cached(card: *const u8, length: usize, place: u64) -> RawEntry;
+    fn tinca_make_map(card: *const u8, length: usize) -> RawMap;
 }
 
 const ALL: u64 = u64::MAX;
 
-fn commit(card: &mut [u8], numbers: &[u64], data: &[u8], allowance: u64) -> Answer {
+fn commit(card: &mut [u8], map: &mut [u64], numbers: &[u64], data: &[u8], allowance: u64) -> Answer {
+    let (card, length, map, words) = (card.as_mut_ptr(), card.len(), map.as_mut_ptr(), map.len());
     let raw = unsafe {
-        tinca_commit(card.as_mut_ptr(), card.len(), numbers.as_ptr(), numbers.len(), data.as_ptr(), data.len(), allowance)
+        tinca_commit(card, length, map, words, numbers.as_ptr(), numbers.len(), data.as_ptr(), data.len(), allowance)
     };
     match raw.kind {
         0 => Answer::Done(raw.stores),
@@ -85,6 +115,13 @@ fn commit(card: &mut [u8], numbers: &[u64], data: &[u8], allowance: u64) -> Answ
 
 fn done(raw: RawAnswer) {
     assert_eq!((raw.kind, raw.refusal), (0, 0));
+}
+
+/// The map that the card gives; `None` where it is refused.
+fn map_of(card: &[u8]) -> Option<[u64; 2]> {
+    let raw = unsafe { tinca_make_map(card.as_ptr(), card.len()) };
+    assert_eq!(raw.kind == 2, raw.refusal != 0);
+    (raw.kind == 0).then_some([raw.low, raw.high])
 }
 
 fn formatted(k: u64, slots: u64, data_blocks: u64, disk_blocks: u64) -> Vec<u8> {
@@ -100,12 +137,14 @@ fn next(state: &mut u64) -> u64 {
     z ^ (z >> 31)
 }
 
-/// The unproved commit answers and stores as the library does, on cards whole, cut and damaged.
+/// The unproved commit answers, stores and hands on its map as the library does, on cards whole, cut and damaged, with right maps and
+/// wrong ones.
 fn same_contract() -> u64 {
     let mut state = 3;
     let mut calls = 0;
     for (slots, data_blocks, disk_blocks) in [(8, 4, 6), (16, 12, 20), (256, 128, 65_536)] {
         let mut card = formatted(9, slots, data_blocks, disk_blocks);
+        let mut map = map_of(&card).unwrap();
         for turn in 0..20_000u64 {
             let n = match next(&mut state) % 16 {
                 0 => 0,
@@ -128,16 +167,28 @@ fn same_contract() -> u64 {
             }
             let mut other = one.clone();
             let damaged = one != card;
-            let (a, b) = (commit(&mut one, &numbers, &data, allowance), unproved::commit(&mut other, &numbers, &data, allowance));
-            assert!(a == b && one == other, "the unproved commit differs: {a:?} and {b:?} for {numbers:?}, allowance {allowance}");
+            let mut given = if damaged { map_of(&one).unwrap_or(map) } else { map };
+            if next(&mut state) % 16 == 0 {
+                given[next(&mut state) as usize % 2] ^= 1 << (next(&mut state) % 64);
+            }
+            let (mut one_map, mut other_map) = (given, given);
+            let a = commit(&mut one, &mut one_map, &numbers, &data, allowance);
+            let b = unproved::commit(&mut other, &mut other_map, &numbers, &data, allowance);
+            assert!(a == b, "the unproved commit differs: {a:?} and {b:?} for {numbers:?}, allowance {allowance}");
+            assert!(one == other && one_map == other_map, "the unproved commit leaves others: {a:?} for {numbers:?}, allowance {allowance}");
             calls += 1;
             if !damaged {
                 card = one;
+                if given == map {
+                    map = one_map;
+                }
                 if a == Answer::Cut {
-                    done(unsafe { tinca_recover(card.as_mut_ptr(), card.len(), ALL) });
+                    map = map_of(&card).unwrap();
+                    done(unsafe { tinca_recover(card.as_mut_ptr(), card.len(), map.as_mut_ptr(), 2, ALL) });
                 }
                 if a == Answer::Refused(14) || turn % 64 == 63 {
                     card = formatted(9, slots, data_blocks, disk_blocks);
+                    map = map_of(&card).unwrap();
                 }
             }
         }
@@ -172,13 +223,14 @@ fn spread(count: usize) -> Vec<u64> {
     (0..count as u64).map(|i| (i * 40_503 + 7) % 65_536).collect()
 }
 
-/// A card with the given numbers in use, saved `most` at a time.
-fn filled(k: u64, slots: u64, data_blocks: u64, numbers: &[u64]) -> Vec<u8> {
+/// A card with the given numbers in use, saved `most` at a time, and its map.
+fn filled(k: u64, slots: u64, data_blocks: u64, numbers: &[u64]) -> (Vec<u8>, [u64; 2]) {
     let mut card = formatted(k, slots, data_blocks, 65_536);
+    let mut map = map_of(&card).unwrap();
     for part in numbers.chunks((data_blocks as usize / 2).max(1)) {
-        assert!(matches!(commit(&mut card, part, &vec![1; part.len() << k], ALL), Answer::Done(_)));
+        assert!(matches!(commit(&mut card, &mut map, part, &vec![1; part.len() << k], ALL), Answer::Done(_)));
     }
-    card
+    (card, map)
 }
 
 /// Floor, library, unproved commit and the stores of the given kinds.
@@ -186,8 +238,8 @@ fn measured(k: u64, data_blocks: u64, n: usize, rounds: usize, kinds: &'static [
     let (slots, in_use) = (256, data_blocks as usize / 2);
     let numbers = spread(in_use);
     let mut stores: Vec<Store> = kinds.iter().map(|kind| Store::filled(kind, 1 << k, &numbers)).collect();
-    let mut proved_card = filled(k, slots, data_blocks, &numbers);
-    let mut unproved_card = proved_card.clone();
+    let (mut proved_card, mut proved_map) = filled(k, slots, data_blocks, &numbers);
+    let (mut unproved_card, mut unproved_map) = (proved_card.clone(), proved_map);
     let mut area = proved_card.clone();
     let data: Vec<u8> = (0..n << k).map(|i| i as u8).collect();
     let saved = &numbers[..n];
@@ -201,11 +253,13 @@ fn measured(k: u64, data_blocks: u64, n: usize, rounds: usize, kinds: &'static [
         at = if at + 2 * n > data_blocks as usize { 0 } else { at + n };
     };
     let mut proved = |_: usize| {
-        let answer = commit(black_box(&mut proved_card), black_box(saved), black_box(&data), black_box(ALL));
+        let (card, map) = (black_box(&mut proved_card), black_box(&mut proved_map));
+        let answer = commit(card, map, black_box(saved), black_box(&data), black_box(ALL));
         assert!(matches!(answer, Answer::Done(_)));
     };
     let mut plain = |_: usize| {
-        let answer = unproved::commit(black_box(&mut unproved_card), black_box(saved), black_box(&data), black_box(ALL));
+        let (card, map) = (black_box(&mut unproved_card), black_box(&mut unproved_map));
+        let answer = unproved::commit(card, map, black_box(saved), black_box(&data), black_box(ALL));
         assert!(matches!(answer, Answer::Done(_)));
     };
     let bytes = &data;
@@ -238,7 +292,8 @@ fn others(k: u64, rounds: usize) -> Vec<(&'static str, f64)> {
     let block = 1usize << k;
     let numbers = spread(96);
     let (cached, rest) = numbers.split_at(64);
-    let mut card = filled(k, 256, 128, cached);
+    // the map is made once and then handed from call to call, as a station does
+    let (mut card, mut words) = filled(k, 256, 128, cached);
     let length = card.len();
     let mut disk = vec![0u8; block * 65_536];
     let disk_length = disk.len();
@@ -246,8 +301,8 @@ fn others(k: u64, rounds: usize) -> Vec<(&'static str, f64)> {
         disk[*number as usize * block..][..block].fill(9);
     }
     let mut out = vec![0u8; block];
-    let (card, disk) = (card.as_mut_ptr(), disk.as_mut_ptr());
-    let mut times = vec![Vec::new(); 9];
+    let (card, disk, map) = (card.as_mut_ptr(), disk.as_mut_ptr(), words.as_mut_ptr());
+    let mut times = vec![Vec::new(); 10];
     let mut time = |index: usize, run: &mut dyn FnMut(usize)| {
         let start = Instant::now();
         for turn in 0..32 {
@@ -258,10 +313,10 @@ fn others(k: u64, rounds: usize) -> Vec<(&'static str, f64)> {
     let data = vec![3u8; 32 * block];
     let before = unsafe { std::slice::from_raw_parts(card, length) }.to_vec();
     for _ in 0..rounds {
-        time(0, &mut |turn| done(unsafe { tinca_load(card, length, disk, disk_length, rest[turn], ALL) }));
-        time(1, &mut |turn| done(unsafe { tinca_evict(card, length, disk, disk_length, rest[turn], ALL) }));
-        assert_eq!(unsafe { tinca_commit(card, length, rest.as_ptr(), 32, data.as_ptr(), data.len(), ALL) }.kind, 0);
-        time(2, &mut |turn| done(unsafe { tinca_evict(card, length, disk, disk_length, rest[turn], ALL) }));
+        time(0, &mut |turn| done(unsafe { tinca_load(card, length, disk, disk_length, map, 2, rest[turn], ALL) }));
+        time(1, &mut |turn| done(unsafe { tinca_evict(card, length, disk, disk_length, map, 2, rest[turn], ALL) }));
+        done(unsafe { tinca_commit(card, length, map, 2, rest.as_ptr(), 32, data.as_ptr(), data.len(), ALL) });
+        time(2, &mut |turn| done(unsafe { tinca_evict(card, length, disk, disk_length, map, 2, rest[turn], ALL) }));
         time(3, &mut |turn| {
             let place = unsafe { tinca_read(card, length, disk, disk_length, cached[turn], out.as_mut_ptr(), block) };
             assert_eq!((place.kind, place.refusal, place.length), (0, 0, block as u64));
@@ -271,7 +326,7 @@ fn others(k: u64, rounds: usize) -> Vec<(&'static str, f64)> {
             let place = unsafe { tinca_read(card, length, disk, disk_length, rest[turn], out.as_mut_ptr(), block) };
             assert_eq!(place.kind, 1);
         });
-        time(5, &mut |_| done(unsafe { tinca_recover(card, length, ALL) }));
+        time(5, &mut |_| done(unsafe { tinca_recover(card, length, map, 2, ALL) }));
         time(7, &mut |_| {
             let state = unsafe { tinca_state_of(card, length) };
             assert_eq!((state.kind, state.refusal, state.counts[0]), (0, 0, 64));
@@ -282,17 +337,25 @@ fn others(k: u64, rounds: usize) -> Vec<(&'static str, f64)> {
             assert_eq!(entry.refusal, 0);
             black_box((entry.kind, entry.block, entry.modified));
         });
+        time(9, &mut |_| {
+            let made = unsafe { tinca_make_map(card, length) };
+            assert_eq!((made.kind, made.refusal), (0, 0));
+            black_box((made.low, made.high));
+        });
     }
     // recovery of a commit of 16 that was cut before its last store
     let mut cut = before.clone();
-    let answer = commit(&mut cut, &cached[..16], &data[..16 * block], 16 * (block as u64 / 8 + 4));
+    let mut map = map_of(&cut).unwrap();
+    let answer = commit(&mut cut, &mut map, &cached[..16], &data[..16 * block], 16 * (block as u64 / 8 + 4));
     assert_eq!(answer, Answer::Cut);
+    let cut_map = map_of(&cut).unwrap();
     let fields = 128 + 8 * 256 + 16 * 128;
     let mut card = cut.clone();
     for _ in 0..32 * rounds {
         card[..fields].copy_from_slice(&cut[..fields]);
+        map = cut_map;
         let start = Instant::now();
-        done(unsafe { tinca_recover(card.as_mut_ptr(), length, ALL) });
+        done(unsafe { tinca_recover(card.as_mut_ptr(), length, map.as_mut_ptr(), 2, ALL) });
         times[6].push(start.elapsed().as_nanos() as f64);
     }
     let names = [
@@ -305,6 +368,7 @@ fn others(k: u64, rounds: usize) -> Vec<(&'static str, f64)> {
         "recover, 16 to undo",
         "state",
         "cached",
+        "make map",
     ];
     names.into_iter().zip(times.into_iter().map(median)).collect()
 }

@@ -1,4 +1,4 @@
-//! Commit as one would write it without proofs: the same checks, answers and stores, in one pass with marks.
+//! Commit as one would write it without proofs: the same checks, answers, stores and map, in one pass with marks.
 
 #[derive(Clone, Copy, Debug, PartialEq, Eq)]
 pub enum Answer {
@@ -87,7 +87,7 @@ impl Round {
     }
 }
 
-pub fn commit(card: &mut [u8], numbers: &[u64], data: &[u8], allowance: u64) -> Answer {
+pub fn commit(card: &mut [u8], map: &mut [u64], numbers: &[u64], data: &[u8], allowance: u64) -> Answer {
     use Answer::*;
     if card.len() < 128 || card[0..5] != [0, 0, 0, 64, 1] || card[16..64] != [0; 48] {
         return Refused(1);
@@ -148,6 +148,11 @@ pub fn commit(card: &mut [u8], numbers: &[u64], data: &[u8], allowance: u64) -> 
     if equal {
         return Refused(6);
     }
+    let mask = if count == 128 { u128::MAX } else { (1 << count) - 1 };
+    let mut bits = taken | !mask;
+    if *map != [bits as u64, (bits >> 64) as u64] {
+        return Refused(15);
+    }
     let n = numbers.len();
     if n == 0 || n > slots - 1 {
         return Refused(8);
@@ -158,11 +163,10 @@ pub fn commit(card: &mut [u8], numbers: &[u64], data: &[u8], allowance: u64) -> 
     if numbers.iter().any(|number| *number >= disk_blocks as u64) {
         return Refused(10);
     }
-    let mask = if count == 128 { u128::MAX } else { (1 << count) - 1 };
     let mut claimed: u128 = 0;
     let mut targets = [(0u8, false); 256];
     let mut unused = Round::new(!used & mask, head % count);
-    let free = !taken & mask;
+    let free = !bits;
     let enough = n <= free.count_ones() as usize;
     for (i, number) in numbers.iter().enumerate() {
         let place = marks.place(*number as u32);
@@ -197,6 +201,10 @@ pub fn commit(card: &mut [u8], numbers: &[u64], data: &[u8], allowance: u64) -> 
         left -= words;
         let entry = entries + 16 * targets[i].0 as usize;
         let previous = if targets[i].1 { word(card, entry + 8) as u32 } else { FRESH };
+        bits |= 1 << current;
+        if previous != FRESH {
+            bits &= !(1 << previous);
+        }
         let next = if at_head + 1 == slots { 0 } else { at_head + 1 };
         if left < 3 {
             if left > 0 {
@@ -224,6 +232,7 @@ pub fn commit(card: &mut [u8], numbers: &[u64], data: &[u8], allowance: u64) -> 
         return Cut;
     }
     card[72..80].copy_from_slice(&(at_head as u64).to_be_bytes());
+    map.copy_from_slice(&[bits as u64, (bits >> 64) as u64]);
     Done(m)
 }
 

@@ -40,6 +40,8 @@ static void prepare(subject *s)
 {
     const uint64_t numbers[2] = {3, 5};
     uint8_t data[2 * BLOCK];
+    tinca_map made;
+    uint64_t map[2];
     s->length = TINCA_CARD_LENGTH(K, s->slots, s->data_blocks);
     s->front = s->length - s->data_blocks * BLOCK;
     s->card = mmap(NULL, s->length, PROT_READ | PROT_WRITE, MAP_SHARED | MAP_ANONYMOUS, -1, 0);
@@ -48,8 +50,12 @@ static void prepare(subject *s)
     if (s->card == MAP_FAILED || !s->old || !s->made)
         fail("memory");
     memset(data, 7, sizeof data);
-    if (tinca_format(K, s->slots, s->data_blocks, DISK_BLOCKS, s->card, s->length).kind != TINCA_DONE ||
-        tinca_commit(s->card, s->length, numbers, 2, data, sizeof data, UINT64_MAX).kind != TINCA_DONE)
+    if (tinca_format(K, s->slots, s->data_blocks, DISK_BLOCKS, s->card, s->length).kind != TINCA_DONE)
+        exit(2);
+    made = tinca_make_map(s->card, s->length);
+    map[0] = made.low;
+    map[1] = made.high;
+    if (tinca_commit(s->card, s->length, map, 2, numbers, 2, data, sizeof data, UINT64_MAX).kind != TINCA_DONE)
         exit(2);
     memcpy(s->old, s->card, s->length);
     memcpy(s->made, s->card, s->length);

@@ -22,10 +22,12 @@ SAME(sizeof(tinca_answer), 16);
 SAME(sizeof(tinca_place), 24);
 SAME(sizeof(tinca_state), 56);
 SAME(sizeof(tinca_entry), 24);
+SAME(sizeof(tinca_map), 24);
 SAME(offsetof(tinca_answer, refusal), 4);
 SAME(offsetof(tinca_place, refusal), 4);
 SAME(offsetof(tinca_state, refusal), 4);
 SAME(offsetof(tinca_entry, refusal), 4);
+SAME(offsetof(tinca_map, refusal), 4);
 SAME(offsetof(tinca_state, k), 8);
 SAME(offsetof(tinca_state, slots), 16);
 SAME(offsetof(tinca_state, data_blocks), 24);
@@ -39,14 +41,16 @@ SAME(offsetof(tinca_state, modified), 48);
 SAME(offsetof(tinca_state, window), 48);
 SAME(offsetof(tinca_entry, block), 8);
 SAME(offsetof(tinca_entry, modified), 16);
+SAME(offsetof(tinca_map, low), 8);
+SAME(offsetof(tinca_map, high), 16);
 
 int main(void)
 {
-    const char *none = tinca_refusal_text(TINCA_NO_ROOM + 1);
+    const char *none = tinca_refusal_text(TINCA_WRONG_MAP + 1);
     uint32_t number;
     if (strcmp(tinca_refusal_text(0), none) == 0 || strcmp(tinca_refusal_text(UINT32_MAX), none) != 0)
         return 1;
-    for (number = TINCA_BAD_HEADER; number <= TINCA_NO_ROOM; number++) {
+    for (number = TINCA_BAD_HEADER; number <= TINCA_WRONG_MAP; number++) {
         if (strcmp(tinca_refusal_text(number), none) == 0)
             return 1;
         printf("| %u | %s |\n", (unsigned)number, tinca_refusal_text(number));

@@ -1,31 +1,115 @@
-//! Two implementations side by side: each call is made on both, then the answers and every byte of card, disk and output are compared.
+//! Two implementations side by side: each call is made on both, then the answers and every byte of card, disk, output and map are
+//! compared. The map is handed on as a station does, and storing calls are also tried with wrong ones.
 
-use crate::model::Model;
+use crate::model::{map_of, Card, Model, MAP_BITS};
 use crate::random::{mix, Random};
-use crate::{Answer, Cached, Calls, Geometry, Place, State};
+use crate::{Answer, Cached, Calls, FreeMap, Geometry, Place, State};
 use std::collections::HashMap;
 
-pub const CALLS: [&str; 9] = ["format", "commit", "load", "evict", "recover", "read", "look", "state", "cached"];
+pub const CALLS: [&str; 11] =
+    ["format", "commit", "load", "evict", "recover", "read", "look", "state", "cached", "make map", "free count"];
 
-/// The refusals that each call may give, in the order of `CALLS`.
-pub const REFUSALS: [&[usize]; 9] = [
+/// The refusals that each call may give, in the order of `CALLS`; those of a call in the order in which it asks.
+pub const REFUSALS: [&[usize]; 11] = [
     &[1, 2],
-    &[1, 2, 4, 5, 6, 7, 8, 9, 10, 11, 14],
-    &[1, 2, 3, 4, 5, 6, 7, 10, 12, 14],
-    &[1, 2, 3, 4, 5, 6, 7, 10, 13],
-    &[1, 2, 4, 5, 6],
+    &[1, 2, 4, 5, 6, 7, 15, 8, 9, 10, 11, 14],
+    &[1, 2, 3, 4, 5, 6, 7, 15, 10, 12, 14],
+    &[1, 2, 3, 4, 5, 6, 7, 15, 10, 13],
+    &[1, 2, 4, 5, 6, 15],
     &[1, 2, 3, 4, 5, 6, 7, 9, 10],
     &[1, 2, 3, 4, 5, 6, 7, 10],
     &[1, 2, 4, 5, 6],
     &[1, 2, 4, 5, 6, 7],
+    &[1, 2, 4, 5, 6],
+    &[],
 ];
 
-/// Per call: done (card, settled, in use), cut (disk, unsettled, unused), then the refusals by number.
+/// Commit, load, evict and recover: the calls that take a map.
+const TAKE_A_MAP: std::ops::RangeInclusive<usize> = 1..=4;
+
+/// Format, make map and free count have one kind of answer besides a refusal.
+fn has_second_kind(call: usize) -> bool {
+    (1..=8).contains(&call)
+}
+
+/// How a map is made wrong. Some of these are the card's own map at times; then they are not tried.
+#[derive(Clone, Copy, Debug, PartialEq, Eq)]
+pub enum Wrong {
+    /// One bit differs.
+    Bit,
+    /// A bit from N on is clear.
+    RestBit,
+    /// All bits from N on are clear.
+    Rest,
+    Swapped,
+    Zeros,
+    Ones,
+    /// The map of before the last call.
+    Stale,
+    NoWord,
+    OneWord,
+    ThreeWords,
+}
+
+const WRONG_MAPS: [Wrong; 10] = [
+    Wrong::Bit,
+    Wrong::RestBit,
+    Wrong::Rest,
+    Wrong::Swapped,
+    Wrong::Zeros,
+    Wrong::Ones,
+    Wrong::Stale,
+    Wrong::NoWord,
+    Wrong::OneWord,
+    Wrong::ThreeWords,
+];
+
+impl Wrong {
+    /// Every second turn a bit differs, another one each time; between them the other ways.
+    fn at(turn: usize) -> Wrong {
+        if turn % 2 == 0 {
+            Wrong::Bit
+        } else {
+            WRONG_MAPS[1 + turn / 2 % (WRONG_MAPS.len() - 1)]
+        }
+    }
+
+    /// The bit of that turn.
+    fn bit(turn: usize) -> usize {
+        turn / 2 % MAP_BITS
+    }
+
+    /// The wrong map, by the right one, the one of before the last call, and N.
+    fn map(self, turn: usize, right: [u64; 2], stale: &[u64], data_blocks: usize) -> Vec<u64> {
+        let other = |bit: usize| if bit < 64 { [right[0] ^ 1 << bit, right[1]] } else { [right[0], right[1] ^ 1 << (bit - 64)] };
+        match self {
+            Wrong::Bit => other(Wrong::bit(turn)).to_vec(),
+            Wrong::RestBit | Wrong::Rest if data_blocks == MAP_BITS => right.to_vec(),
+            Wrong::RestBit => other(data_blocks + turn / 2 % (MAP_BITS - data_blocks)).to_vec(),
+            Wrong::Rest => {
+                let below = (1u128 << data_blocks) - 1;
+                vec![right[0] & below as u64, right[1] & (below >> 64) as u64]
+            }
+            Wrong::Swapped => vec![right[1], right[0]],
+            Wrong::Zeros => vec![0; 2],
+            Wrong::Ones => vec![u64::MAX; 2],
+            Wrong::Stale => stale.to_vec(),
+            Wrong::NoWord => vec![],
+            Wrong::OneWord => vec![right[0]],
+            Wrong::ThreeWords => vec![right[0], right[1], right[1]],
+        }
+    }
+}
+
+/// Per call: done (card, settled, in use, made, told), cut (disk, unsettled, unused), then the refusals by number.
 #[derive(Clone, Default, Debug)]
 pub struct Tally {
-    pub first: [u64; 9],
-    pub second: [u64; 9],
-    pub refused: [[u64; 15]; 9],
+    pub first: [u64; 11],
+    pub second: [u64; 11],
+    pub refused: [[u64; 16]; 11],
+    /// Of the wrong maps that a call refused with 15: how many of each kind, and the bits that differed, one at a time.
+    pub wrongs: [[u64; WRONG_MAPS.len()]; 11],
+    pub bits: [u128; 11],
 }
 
 impl Tally {
@@ -35,19 +119,23 @@ impl Tally {
     }
 
     pub fn add(&mut self, other: &Tally) {
-        for call in 0..9 {
+        for call in 0..CALLS.len() {
             self.first[call] += other.first[call];
             self.second[call] += other.second[call];
-            for number in 0..15 {
+            for number in 0..16 {
                 self.refused[call][number] += other.refused[call][number];
             }
+            for wrong in 0..WRONG_MAPS.len() {
+                self.wrongs[call][wrong] += other.wrongs[call][wrong];
+            }
+            self.bits[call] |= other.bits[call];
         }
     }
 
-    /// One line: calls, dones, cuts, where blocks were found, conditions, entries told, refusals by number.
+    /// One line: calls, dones, cuts, where blocks were found, conditions, entries told, maps made, refusals by number.
     pub fn line(&self) -> String {
         let mut line = format!(
-            "{} calls: {} done, {} cut, {} on card, {} on disk, {} settled, {} unsettled, {} in use, {} unused; refused",
+            "{} calls: {} done, {} cut, {} on card, {} on disk, {} settled, {} unsettled, {} in use, {} unused, {} maps; refused",
             self.calls(),
             self.first[..5].iter().sum::<u64>(),
             self.second[..5].iter().sum::<u64>(),
@@ -56,29 +144,38 @@ impl Tally {
             self.first[7],
             self.second[7],
             self.first[8],
-            self.second[8]
+            self.second[8],
+            self.first[9]
         );
-        for number in 1..15 {
-            let count: u64 = (0..9).map(|call| self.refused[call][number]).sum();
+        for number in 1..16 {
+            let count: u64 = (0..CALLS.len()).map(|call| self.refused[call][number]).sum();
             line += &format!(" {number}:{count}");
         }
         line
     }
 
-    /// Every answer that a call may give has occurred, and no other.
+    /// Every answer that a call may give has occurred, and no other; each storing call has refused every kind of wrong map with 15.
     pub fn complete(&self) -> Result<(), String> {
-        for call in 0..9 {
+        for call in 0..CALLS.len() {
             let name = CALLS[call];
             if self.first[call] == 0 {
                 return Err(format!("{name}: its first kind of answer never occurred"));
             }
-            if (self.second[call] == 0) != (call == 0) {
+            if (self.second[call] > 0) != has_second_kind(call) {
                 return Err(format!("{name}: its second kind of answer occurred {} times", self.second[call]));
             }
-            for number in 0..15 {
+            for number in 0..16 {
                 if (self.refused[call][number] > 0) != REFUSALS[call].contains(&number) {
                     return Err(format!("{name}: refusal {number} occurred {} times", self.refused[call][number]));
                 }
+            }
+        }
+        for call in TAKE_A_MAP {
+            if let Some(wrong) = WRONG_MAPS.iter().find(|wrong| self.wrongs[call][**wrong as usize] == 0) {
+                return Err(format!("{}: no wrong map of the kind {wrong:?}", CALLS[call]));
+            }
+            if let Some(bit) = (0..MAP_BITS).find(|bit| self.bits[call] >> bit & 1 == 0) {
+                return Err(format!("{}: no map that differs in bit {bit} alone", CALLS[call]));
             }
         }
         Ok(())
@@ -121,6 +218,47 @@ impl Buffer {
     }
 }
 
+const GUARD_WORDS: usize = 4;
+
+/// A map with guards around it, aligned as a word is.
+struct Words {
+    words: Vec<u64>,
+    from: usize,
+}
+
+impl Words {
+    fn new(contents: &[u64], shift: usize) -> Words {
+        let from = GUARD_WORDS + shift % 2;
+        let mut words = vec![0xA5A5_A5A5_A5A5_A5A5; from];
+        words.extend_from_slice(contents);
+        words.extend([0xA5A5_A5A5_A5A5_A5A5; GUARD_WORDS]);
+        Words { words, from }
+    }
+
+    fn set(&mut self, contents: &[u64]) {
+        *self = Words::new(contents, self.from - GUARD_WORDS);
+    }
+
+    fn get(&self) -> &[u64] {
+        &self.words[self.from..self.words.len() - GUARD_WORDS]
+    }
+
+    fn get_mut(&mut self) -> &mut [u64] {
+        let to = self.words.len() - GUARD_WORDS;
+        &mut self.words[self.from..to]
+    }
+}
+
+fn same_words(a: &Words, b: &Words) -> Result<(), String> {
+    match (0..a.words.len()).find(|at| a.words[*at] != b.words[*at]) {
+        Some(at) => {
+            let place = at as i64 - a.from as i64;
+            Err(format!("map differs at word {place}: {:016X} and {:016X}", a.words[at], b.words[at]))
+        }
+        None => Ok(()),
+    }
+}
+
 fn same_bytes(what: &str, a: &Buffer, b: &Buffer) -> Result<(), String> {
     if a.bytes == b.bytes {
         return Ok(());
@@ -133,12 +271,23 @@ fn same_bytes(what: &str, a: &Buffer, b: &Buffer) -> Result<(), String> {
 /// Disks up to this length are compared whole after every call; longer ones at every block an evict may write, and whole at times.
 const WHOLE_DISK: usize = 1 << 20;
 
+/// A storing call on one side: the implementation, card, disk and map.
+type Run<'r> = dyn Fn(&dyn Calls, &mut [u8], &mut [u8], &mut [u64]) -> Answer + 'r;
+
 pub struct Pair<'a> {
     one: &'a dyn Calls,
     other: &'a dyn Calls,
     card: [Buffer; 2],
     disk: [Buffer; 2],
     out: [Buffer; 2],
+    /// The station's map.
+    map: [Words; 2],
+    /// The map is of another card than the one that is there, or of one before a cut.
+    out_of_step: bool,
+    /// The map as it was before the last storing call.
+    stale: Vec<u64>,
+    /// How many wrong maps each call was tried with.
+    turns: [usize; 11],
     pub tally: Tally,
 }
 
@@ -156,6 +305,10 @@ impl<'a> Pair<'a> {
             card: [Buffer::new(card, shift), Buffer::new(card, shift)],
             disk: [Buffer::new(disk, shift), Buffer::new(disk, shift)],
             out: [Buffer::new(&[], shift), Buffer::new(&[], shift)],
+            map: [Words::new(&[0; 2], shift), Words::new(&[0; 2], shift)],
+            out_of_step: true,
+            stale: vec![0; 2],
+            turns: [shift; 11],
             tally: Tally::default(),
         }
     }
@@ -172,6 +325,11 @@ impl<'a> Pair<'a> {
         self.out[1].get()
     }
 
+    fn set_map(&mut self, map: &[u64]) {
+        self.map[0].set(map);
+        self.map[1].set(map);
+    }
+
     pub fn snapshot(&self) -> Snapshot {
         Snapshot { card: self.card().to_vec(), disk: self.disk().to_vec() }
     }
@@ -181,11 +339,13 @@ impl<'a> Pair<'a> {
             self.card[side].set(&to.card);
             self.disk[side].set(&to.disk);
         }
+        self.out_of_step = true;
     }
 
     pub fn set_card(&mut self, card: &[u8]) {
         self.card[0].set(card);
         self.card[1].set(card);
+        self.out_of_step = true;
     }
 
     pub fn set_disk(&mut self, disk: &[u8]) {
@@ -201,6 +361,7 @@ impl<'a> Pair<'a> {
         same_bytes("card", &self.card[0], &self.card[1])
             .and_then(|_| if self.disk[0].length <= WHOLE_DISK { self.whole() } else { Ok(()) })
             .and_then(|_| same_bytes("output", &self.out[0], &self.out[1]))
+            .and_then(|_| same_words(&self.map[0], &self.map[1]))
             .map_err(|difference| format!("{}: {difference}", what()))
     }
 
@@ -222,24 +383,117 @@ impl<'a> Pair<'a> {
         let a = self.one.format(k, slots, data_blocks, disk_blocks, self.card[0].get_mut());
         let b = self.other.format(k, slots, data_blocks, disk_blocks, self.card[1].get_mut());
         let length = self.card[1].length;
+        self.out_of_step = true;
         self.answered(0, a, b, || format!("format({k}, {slots}, {data_blocks}, {disk_blocks}, card of {length})"))
     }
 
+    pub fn make_map(&mut self) -> Result<FreeMap, String> {
+        let a = self.one.make_map(self.card[0].get());
+        let b = self.other.make_map(self.card[1].get());
+        if a != b {
+            return Err(format!("make map: answers {a:X?} and {b:X?}"));
+        }
+        self.compared(|| "make map".to_string())?;
+        match b {
+            FreeMap::Made([low, high]) => {
+                self.tally.first[9] += 1;
+                self.free_count(low, high)?;
+            }
+            FreeMap::Refused(number) => self.tally.refused[9][number as usize] += 1,
+            FreeMap::Malformed(..) => return Err(format!("malformed answer {b:?}")),
+        }
+        Ok(b)
+    }
+
+    pub fn free_count(&mut self, low: u64, high: u64) -> Result<(), String> {
+        let (a, b) = (self.one.free_count(low, high), self.other.free_count(low, high));
+        if a != b {
+            return Err(format!("free count({low:X}, {high:X}): answers {a} and {b}"));
+        }
+        self.tally.first[10] += 1;
+        Ok(())
+    }
+
+    /// What a station does when it starts and after a cut. The map of a card that is refused stays what it was, so that calls
+    /// which are refused sooner than with 15 get wrong ones.
+    fn make_again(&mut self) -> Result<(), String> {
+        if let FreeMap::Made(map) = self.make_map()? {
+            self.set_map(&map);
+        }
+        self.out_of_step = false;
+        Ok(())
+    }
+
+    /// A storing call with a wrong map: refused, and nothing changed.
+    fn try_wrong(&mut self, call: usize, run: &Run, what: &dyn Fn() -> String) -> Result<(), String> {
+        let turn = self.turns[call];
+        self.turns[call] += 1;
+        let (wrong, map) = (Wrong::at(turn), self.map[1].get().to_vec());
+        let card = Card::open(self.card(), None).ok();
+        let (right, data_blocks) = match &card {
+            Some(card) => (card.map(), card.geometry.data_blocks as usize),
+            None => ([map[0], map[1]], 4),
+        };
+        let tried = wrong.map(turn, right, &self.stale, data_blocks);
+        if tried == right && card.is_some() {
+            return Ok(());
+        }
+        self.set_map(&tried);
+        match self.both(call, run, &|| format!("{} with a wrong map {tried:X?}", what()))? {
+            Answer::Refused(15) => {
+                self.tally.wrongs[call][wrong as usize] += 1;
+                if wrong == Wrong::Bit {
+                    self.tally.bits[call] |= 1 << Wrong::bit(turn);
+                }
+            }
+            Answer::Refused(_) => {}
+            answer => return Err(format!("{}: {answer:?} with a wrong map {tried:X?}", what())),
+        }
+        self.set_map(&map);
+        Ok(())
+    }
+
+    fn both(&mut self, call: usize, run: &Run, what: &dyn Fn() -> String) -> Result<Answer, String> {
+        let a = run(self.one, self.card[0].get_mut(), self.disk[0].get_mut(), self.map[0].get_mut());
+        let b = run(self.other, self.card[1].get_mut(), self.disk[1].get_mut(), self.map[1].get_mut());
+        self.answered(call, a, b, what)
+    }
+
+    /// A storing call, with a wrong map first and then with the station's. After a done call the map must be the one that the card
+    /// gives; after a cut it is made again; a refused call keeps it.
+    fn storing(&mut self, call: usize, run: &Run, what: &dyn Fn() -> String) -> Result<Answer, String> {
+        if self.out_of_step {
+            self.make_again()?;
+        }
+        self.try_wrong(call, run, what)?;
+        let before = self.map[1].get().to_vec();
+        let answer = self.both(call, run, what)?;
+        match answer {
+            Answer::Done(_) => {
+                if self.make_map()? != FreeMap::Made([self.map[1].get()[0], self.map[1].get()[1]]) {
+                    return Err(format!("{}: the map handed on is not the card's", what()));
+                }
+            }
+            Answer::Cut => self.make_again()?,
+            _ => return Ok(answer),
+        }
+        self.stale = before;
+        Ok(answer)
+    }
+
     pub fn commit(&mut self, numbers: &[u64], data: &[u8], allowance: u64) -> Result<Answer, String> {
-        let a = self.one.commit(self.card[0].get_mut(), numbers, data, allowance);
-        let b = self.other.commit(self.card[1].get_mut(), numbers, data, allowance);
-        self.answered(1, a, b, || format!("commit({numbers:?}, data of {}, allowance {allowance})", data.len()))
+        let what = || format!("commit({numbers:?}, data of {}, allowance {allowance})", data.len());
+        self.storing(1, &|calls, card, _, map| calls.commit(card, map, numbers, data, allowance), &what)
     }
 
     pub fn load(&mut self, block: u64, allowance: u64) -> Result<Answer, String> {
-        let a = self.one.load(self.card[0].get_mut(), self.disk[0].get(), block, allowance);
-        let b = self.other.load(self.card[1].get_mut(), self.disk[1].get(), block, allowance);
-        self.answered(2, a, b, || format!("load({block}, allowance {allowance})"))
+        let what = || format!("load({block}, allowance {allowance})");
+        self.storing(2, &|calls, card, disk, map| calls.load(card, disk, map, block, allowance), &what)
     }
 
     pub fn evict(&mut self, block: u64, allowance: u64) -> Result<Answer, String> {
-        let a = self.one.evict(self.card[0].get_mut(), self.disk[0].get_mut(), block, allowance);
-        let b = self.other.evict(self.card[1].get_mut(), self.disk[1].get_mut(), block, allowance);
+        let what = || format!("evict({block}, allowance {allowance})");
+        let answer = self.storing(3, &|calls, card, disk, map| calls.evict(card, disk, map, block, allowance), &what)?;
         if self.disk[1].length > WHOLE_DISK {
             // the block itself and a block's length to each side
             let size = 1 << self.card[1].get()[5].min(12);
@@ -247,17 +501,16 @@ impl<'a> Pair<'a> {
             for (from, to) in [(0, 2 * size), (middle.saturating_sub(size), middle + 2 * size)] {
                 let to = to.min(self.disk[1].length);
                 if self.disk[0].get()[from..to] != self.disk[1].get()[from..to] {
-                    return Err(format!("evict({block}, allowance {allowance}): disk differs from {from} to {to}"));
+                    return Err(format!("{}: disk differs from {from} to {to}", what()));
                 }
             }
         }
-        self.answered(3, a, b, || format!("evict({block}, allowance {allowance})"))
+        Ok(answer)
     }
 
     pub fn recover(&mut self, allowance: u64) -> Result<Answer, String> {
-        let a = self.one.recover(self.card[0].get_mut(), allowance);
-        let b = self.other.recover(self.card[1].get_mut(), allowance);
-        self.answered(4, a, b, || format!("recover(allowance {allowance})"))
+        let what = || format!("recover(allowance {allowance})");
+        self.storing(4, &|calls, card, _, map| calls.recover(card, map, allowance), &what)
     }
 
     fn placed(&mut self, call: usize, a: Place, b: Place, what: impl Fn() -> String) -> Result<Place, String> {
@@ -649,22 +902,34 @@ pub fn some_card(random: &mut Random, geometry: Geometry) -> Snapshot {
     let mut disk = first_disk(random.next(), geometry);
     model.format(geometry.k, geometry.slots, geometry.data_blocks, geometry.disk_blocks, &mut card);
     for _ in 0..random.below(12) {
-        let number = random.below(geometry.disk_blocks);
+        let (number, mut map) = (random.below(geometry.disk_blocks), map_of(&card));
         match random.below(4) {
             0 => {
-                model.load(&mut card, &disk, number, u64::MAX);
+                model.load(&mut card, &disk, &mut map, number, u64::MAX);
             }
             1 => {
-                model.evict(&mut card, &mut disk, number, u64::MAX);
+                model.evict(&mut card, &mut disk, &mut map, number, u64::MAX);
             }
             _ => {
                 let n = 1 + random.below(geometry.disk_blocks.min(3)) as usize;
                 let numbers: Vec<u64> = (0..n as u64).map(|i| (number + i) % geometry.disk_blocks).collect();
                 let m = (n * (geometry.block() / 8 + 4) + 1) as u64;
                 let allowance = if random.once_in(3) { m - random.below(2 * n as u64 + 4) } else { m };
-                model.commit(&mut card, &numbers, &data_of(random.next(), n, geometry.block()), allowance);
+                model.commit(&mut card, &mut map, &numbers, &data_of(random.next(), n, geometry.block()), allowance);
             }
         }
+    }
+    Snapshot { card, disk }
+}
+
+/// A card that caches the first blocks of its disk, as many as asked.
+fn loaded(geometry: Geometry, count: u64) -> Snapshot {
+    let model = Model::default();
+    let (mut card, disk) = (vec![0; geometry.card_length()], first_disk(count, geometry));
+    model.format(geometry.k, geometry.slots, geometry.data_blocks, geometry.disk_blocks, &mut card);
+    let mut map = map_of(&card);
+    for block in 0..count {
+        assert!(matches!(model.load(&mut card, &disk, &mut map, block, u64::MAX), Answer::Done(_)));
     }
     Snapshot { card, disk }
 }
@@ -777,6 +1042,7 @@ fn every_call(pair: &mut Pair, random: &mut Random, geometry: Geometry, from: &S
     let block = geometry.block();
     pair.set(from);
     pair.state()?;
+    pair.make_map()?;
     pair.listed(geometry.data_blocks)?;
     let (number, length) = (some(random), if random.once_in(8) { block - 1 } else { block });
     pair.read(number, length)?;
@@ -892,6 +1158,36 @@ pub fn arguments<'a>(one: &'a dyn Calls, other: &'a dyn Calls, seed: u64) -> Res
         }
         tally.add(&pair.tally);
     }
+    // a card whose map has no bit set and one whose map has every bit set, each call with every kind of wrong map
+    for (data_blocks, cached) in [(128, 0), (4, 4)] {
+        let geometry = Geometry { k: 9, slots: 8, data_blocks, disk_blocks: 6 };
+        let from = loaded(geometry, cached);
+        let mut pair = Pair::new(one, other, &from.card, &from.disk, 4);
+        for _ in 0..2 * WRONG_MAPS.len() {
+            pair.commit(&[5], &data_of(5, 1, geometry.block()), u64::MAX)?;
+            pair.set(&from);
+            pair.load(5, u64::MAX)?;
+            pair.set(&from);
+            pair.evict(0, u64::MAX)?;
+            pair.set(&from);
+            pair.recover(u64::MAX)?;
+        }
+        tally.add(&pair.tally);
+    }
+    // the free count of any two words
+    let mut pair = Pair::new(one, other, &[], &[], 0);
+    for _ in 0..1000 {
+        let (low, high) = (random.next(), random.next());
+        for [low, high] in [[low, high], [low & random.next(), high | random.next()], [0, high], [u64::MAX, low]] {
+            pair.free_count(low, high)?;
+        }
+    }
+    for bit in 0..64 {
+        for [low, high] in [[1 << bit, 0], [0, 1 << bit], [!(1 << bit), u64::MAX], [u64::MAX, !(1 << bit)]] {
+            pair.free_count(low, high)?;
+        }
+    }
+    tally.add(&pair.tally);
     // format
     let ks = [0, 8, 9, 10, 11, 12, 13, 64, 256 + 9, 1 << 32, u64::MAX];
     let slots = [0, 4, 7, 8, 12, 16, 248, 256, 260, 264, 65_536 + 8, 1 << 63, u64::MAX];
@@ -915,6 +1211,7 @@ pub fn arguments<'a>(one: &'a dyn Calls, other: &'a dyn Calls, seed: u64) -> Res
                         pair.format(k, s, n, d)?;
                         pair.state()?;
                         pair.cached(n)?;
+                        pair.make_map()?;
                     }
                 }
             }
@@ -930,12 +1227,17 @@ pub fn drill(calls: &dyn Calls) -> String {
     for allowance in 64..=69 {
         let (mut card, mut disk, mut out) = (vec![0; 2304], vec![0; 16 * 512], vec![0; 512]);
         calls.format(9, 8, 4, 16, &mut card);
-        let commit = match calls.commit(&mut card, &[3], &[7; 512], allowance) {
+        let FreeMap::Made(mut map) = calls.make_map(&card) else { return "no map of a fresh card".to_string() };
+        let commit = match calls.commit(&mut card, &mut map, &[3], &[7; 512], allowance) {
             Answer::Done(_) => "done",
-            Answer::Cut => "cut",
+            Answer::Cut => {
+                let FreeMap::Made(again) = calls.make_map(&card) else { return "no map of a cut card".to_string() };
+                map = again;
+                "cut"
+            }
             _ => "refused",
         };
-        let Answer::Done(stores) = calls.recover(&mut card, u64::MAX) else { return "recovery not done".to_string() };
+        let Answer::Done(stores) = calls.recover(&mut card, &mut map, u64::MAX) else { return "recovery not done".to_string() };
         calls.read(&card, &mut disk, 3, &mut out);
         printed += &format!("{allowance},{commit},{stores},{}\n", out[0]);
     }
@@ -957,15 +1259,19 @@ mod tests {
         assert_eq!(drill(&Model::default()), DRILL);
     }
 
-    /// The rows of docs/CARD.md that say which call gives which refusal, as numbers.
-    fn told_refusals(page: &str) -> Vec<(&str, Vec<usize>)> {
-        let rows = page.lines().skip_while(|line| !line.starts_with("| call | 1 |")).skip(2).take_while(|line| line.starts_with('|'));
-        rows.map(|row| {
-            let cells: Vec<&str> = row.split('|').map(str::trim).collect();
-            let numbers = (1..=14).filter(|number| cells[number + 1] == "x").collect();
-            (cells[1], numbers)
-        })
-        .collect()
+    /// The rows of docs/CARD.md that say which call gives which refusal, as numbers in the order of the columns.
+    fn told_refusals(page: &'static str) -> Vec<(&'static str, Vec<usize>)> {
+        let cells = |row: &'static str| -> Vec<&str> { row.trim_matches('|').split('|').map(str::trim).collect() };
+        let mut rows = page.lines().skip_while(|line| !line.starts_with("| call | 1 |")).take_while(|line| line.starts_with('|'));
+        let numbers: Vec<usize> = cells(rows.next().unwrap())[1..].iter().map(|cell| cell.parse().unwrap()).collect();
+        rows.skip(1)
+            .map(|row| {
+                let cells = cells(row);
+                assert_eq!(cells.len(), 1 + numbers.len(), "{row}");
+                assert!(cells[1..].iter().all(|cell| matches!(*cell, "x" | "")), "{row}");
+                (cells[0], numbers.iter().zip(&cells[1..]).filter(|(_, cell)| **cell == "x").map(|(number, _)| *number).collect())
+            })
+            .collect()
     }
 
     #[test]
@@ -979,7 +1285,8 @@ mod tests {
     fn saved_and_damaged(at: usize, byte: u8) -> (Vec<u8>, Vec<u8>) {
         let (mut card, disk) = (vec![0; SMALL.card_length()], vec![0; SMALL.disk_length()]);
         assert_eq!(Library.format(SMALL.k, SMALL.slots, SMALL.data_blocks, SMALL.disk_blocks, &mut card), Answer::Done(0));
-        assert_eq!(Library.commit(&mut card, &[3], &[7; 512], u64::MAX), Answer::Done(69));
+        let mut map = Library.fresh_map(&card);
+        assert_eq!(Library.commit(&mut card, &mut map, &[3], &[7; 512], u64::MAX), Answer::Done(69));
         assert_ne!(card[at], byte);
         card[at] = byte;
         (card, disk)
@@ -995,11 +1302,13 @@ mod tests {
     #[test]
     fn some_damage_reads_as_another_lawful_card() {
         let (mut card, disk) = saved_and_damaged(79, 2);
-        assert_eq!(Library.recover(&mut card, u64::MAX), Answer::Done(2));
+        let mut map = Library.fresh_map(&card);
+        assert_eq!(Library.recover(&mut card, &mut map, u64::MAX), Answer::Done(2));
         assert_eq!(first_byte(&card, &disk), 0);
         let (mut card, mut disk) = saved_and_damaged(SMALL.entry_at(0), 0x80);
         assert_eq!(first_byte(&card, &disk), 7);
-        assert_eq!(Library.evict(&mut card, &mut disk, 3, u64::MAX), Answer::Done(1));
+        let mut map = Library.fresh_map(&card);
+        assert_eq!(Library.evict(&mut card, &mut disk, &mut map, 3, u64::MAX), Answer::Done(1));
         assert_eq!(first_byte(&card, &disk), 0);
     }
 
@@ -1011,6 +1320,31 @@ mod tests {
         tally.add(&damaged(&model, &model, SMALL, 3000, 2).unwrap());
         tally.add(&arguments(&model, &model, 3).unwrap());
         tally.complete().unwrap();
+        incomplete_is_reported(&tally);
+    }
+
+    /// A tally that lacks one thing is not complete; nor is one with an answer that a call does not give.
+    fn incomplete_is_reported(whole: &Tally) {
+        let reported = |change: &dyn Fn(&mut Tally)| {
+            let mut tally = whole.clone();
+            change(&mut tally);
+            assert!(tally.complete().is_err());
+        };
+        for call in 0..CALLS.len() {
+            reported(&|tally| tally.first[call] = 0);
+            reported(&|tally| tally.second[call] = u64::from(!has_second_kind(call)));
+            for number in 1..16 {
+                reported(&|tally| tally.refused[call][number] = u64::from(!REFUSALS[call].contains(&number)));
+            }
+        }
+        for call in TAKE_A_MAP {
+            for wrong in WRONG_MAPS {
+                reported(&|tally| tally.wrongs[call][wrong as usize] = 0);
+            }
+            for bit in 0..MAP_BITS {
+                reported(&|tally| tally.bits[call] &= !(1 << bit));
+            }
+        }
     }
 
     /// Every slip is reported by a part of the comparison.
@@ -1047,11 +1381,6 @@ mod tests {
         }
     }
 
-    #[test]
-    fn an_incomplete_tally_is_reported() {
-        let model = Model::default();
-        assert!(every_cut(&model, &model, SMALL, 6, 16).unwrap().complete().is_err());
-    }
 
     fn hex(text: &str) -> [u8; 16] {
         let digits: Vec<u8> = text.bytes().filter(|digit| *digit != b' ').collect();
@@ -1093,22 +1422,120 @@ mod tests {
         // 10: S 8, n 7 passes check 8, n 8 is refused
         let mut card = vec![0; Geometry { k: 9, slots: 8, data_blocks: 8, disk_blocks: 16 }.card_length()];
         model.format(9, 8, 8, 16, &mut card);
-        let numbers: Vec<u64> = (0..8).collect();
-        assert_eq!(model.commit(&mut card.clone(), &numbers[..7], &[1; 7 * 512], u64::MAX), Answer::Done(7 * 68 + 1));
-        assert_eq!(model.commit(&mut card.clone(), &numbers, &[1; 8 * 512], u64::MAX), Answer::Refused(8));
+        let (numbers, mut map): (Vec<u64>, [u64; 2]) = ((0..8).collect(), map_of(&card));
+        assert_eq!(model.commit(&mut card.clone(), &mut map.clone(), &numbers[..7], &[1; 7 * 512], u64::MAX), Answer::Done(7 * 68 + 1));
+        assert_eq!(model.commit(&mut card.clone(), &mut map.clone(), &numbers, &[1; 8 * 512], u64::MAX), Answer::Refused(8));
         // a list has as many stores as its formula says
         assert_eq!(model.commit_list(&card, &numbers[..2], &[1; 1024]).unwrap().len(), 137);
         // evict at k 12: 9 stores modified, 1 clean; load at k 9: 65
         let disk = vec![0; 16 * 512];
-        assert_eq!(model.load(&mut card, &disk, 3, u64::MAX), Answer::Done(65));
+        assert_eq!(model.load(&mut card, &disk, &mut map, 3, u64::MAX), Answer::Done(65));
         let mut card = vec![0; Geometry { k: 12, slots: 8, data_blocks: 4, disk_blocks: 2 }.card_length()];
         model.format(12, 8, 4, 2, &mut card);
-        let mut disk = vec![0; 2 * 4096];
-        model.load(&mut card, &disk, 0, u64::MAX);
-        model.commit(&mut card, &[1], &[5; 4096], u64::MAX);
-        assert_eq!(model.evict(&mut card, &mut disk, 0, u64::MAX), Answer::Done(1));
-        assert_eq!(model.evict(&mut card, &mut disk, 1, u64::MAX), Answer::Done(9));
+        let (mut disk, mut map) = (vec![0; 2 * 4096], map_of(&card));
+        model.load(&mut card, &disk, &mut map, 0, u64::MAX);
+        model.commit(&mut card, &mut map, &[1], &[5; 4096], u64::MAX);
+        assert_eq!(model.evict(&mut card, &mut disk, &mut map, 0, u64::MAX), Answer::Done(1));
+        assert_eq!(model.evict(&mut card, &mut disk, &mut map, 1, u64::MAX), Answer::Done(9));
         assert_eq!(disk[4096..], [5; 4096]);
+    }
+
+    /// Counted by hand from document 02: N below 64, at 64, between and at 128, with nothing cached.
+    #[test]
+    fn the_map_of_a_fresh_card() {
+        const ALL: u64 = u64::MAX;
+        for (data_blocks, map) in [(4, [ALL - 15, ALL]), (60, [0xF << 60, ALL]), (64, [0, ALL]), (68, [0, ALL - 15]), (128, [0, 0])] {
+            let geometry = Geometry { k: 9, slots: 8, data_blocks, disk_blocks: 16 };
+            let mut card = vec![0; geometry.card_length()];
+            let model = Model::default();
+            model.format(9, 8, data_blocks, 16, &mut card);
+            assert_eq!(model.make_map(&card), FreeMap::Made(map));
+            assert_eq!(model.free_count(map[0], map[1]), data_blocks);
+        }
+    }
+
+    /// The map after each call of a short life, by hand: N 4, so bits 4 to 127 are set. A save of block 3 goes to data block 0; the
+    /// next one of it, at Head 1, to data block 1, and 0 is free again.
+    #[test]
+    fn the_map_is_handed_on() {
+        let model = Model::default();
+        let (mut card, mut disk) = (vec![0; SMALL.card_length()], vec![0; SMALL.disk_length()]);
+        model.format(SMALL.k, SMALL.slots, SMALL.data_blocks, SMALL.disk_blocks, &mut card);
+        let taken = |blocks: u64| [u64::MAX << 4 | blocks, u64::MAX];
+        let mut map = model.fresh_map(&card);
+        assert_eq!(map, taken(0b0000));
+        assert_eq!(model.commit(&mut card, &mut map, &[3], &[7; 512], u64::MAX), Answer::Done(69));
+        assert_eq!(map, taken(0b0001));
+        assert_eq!(model.commit(&mut card, &mut map, &[3], &[8; 512], u64::MAX), Answer::Done(69));
+        assert_eq!(map, taken(0b0010));
+        // at Head 2
+        assert_eq!(model.load(&mut card, &disk, &mut map, 5, u64::MAX), Answer::Done(65));
+        assert_eq!(map, taken(0b0110));
+        // refused: kept; cut behind the entry of data block 3: kept too, though the card gives another from then on
+        assert_eq!(model.load(&mut card, &disk, &mut map, 5, u64::MAX), Answer::Refused(12));
+        assert_eq!(map, taken(0b0110));
+        assert_eq!(model.commit(&mut card, &mut map, &[3], &[9; 512], 65), Answer::Cut);
+        assert_eq!(map, taken(0b0110));
+        assert_eq!(model.fresh_map(&card), taken(0b1100));
+        // recover asks for the card's map; done, it gives data block 1 back to block 3
+        assert_eq!(model.recover(&mut card, &mut map, u64::MAX), Answer::Refused(15));
+        map = model.fresh_map(&card);
+        assert_eq!(model.recover(&mut card, &mut map, u64::MAX), Answer::Done(1));
+        assert_eq!(map, taken(0b0110));
+        assert_eq!(model.evict(&mut card, &mut disk, &mut map, 3, u64::MAX), Answer::Done(2));
+        assert_eq!(map, taken(0b0100));
+        assert_eq!(model.free_count(map[0], map[1]), 3);
+    }
+
+    /// Check 15 comes after 6 or 7 and before a call's own checks, whatever the numbers.
+    #[test]
+    fn where_a_wrong_map_is_refused() {
+        let model = Model::default();
+        let (mut card, mut disk) = (vec![0; SMALL.card_length()], vec![0; SMALL.disk_length()]);
+        model.format(SMALL.k, SMALL.slots, SMALL.data_blocks, SMALL.disk_blocks, &mut card);
+        let mut wrong = [0; 2];
+        assert_eq!(model.commit(&mut card, &mut wrong, &[], &[], 0), Answer::Refused(15));
+        assert_eq!(model.load(&mut card, &disk, &mut wrong, 99, 0), Answer::Refused(15));
+        assert_eq!(model.load(&mut card, &[], &mut wrong, 99, 0), Answer::Refused(3));
+        assert_eq!(model.evict(&mut card, &mut disk, &mut wrong, 99, 0), Answer::Refused(15));
+        assert_eq!(model.recover(&mut card, &mut wrong, 0), Answer::Refused(15));
+        let mut map = model.fresh_map(&card);
+        assert_eq!(model.commit(&mut card, &mut map, &[3], &[7; 512], 65), Answer::Cut);
+        assert_eq!(model.commit(&mut card, &mut wrong, &[], &[], 0), Answer::Refused(7));
+        assert_eq!(model.recover(&mut card, &mut wrong, 0), Answer::Refused(15));
+        // two entries alike
+        let entry: Vec<u8> = card[SMALL.entry_at(0)..SMALL.entry_at(1)].to_vec();
+        put(&mut card, SMALL.entry_at(1), &entry);
+        assert_eq!(model.recover(&mut card, &mut wrong, 0), Answer::Refused(6));
+        assert_eq!(model.make_map(&card), FreeMap::Refused(6));
+        assert_eq!(wrong, [0; 2]);
+    }
+
+    /// The free count is of as many data blocks as the search finds, on cards settled and not.
+    #[test]
+    fn the_free_count_is_of_the_free_blocks() {
+        let (model, mut random) = (Model::default(), Random(11));
+        for geometry in [SMALL, Geometry { k: 9, slots: 8, data_blocks: 68, disk_blocks: 100 }] {
+            for _ in 0..200 {
+                let from = some_card(&mut random, geometry);
+                let [low, high] = model.fresh_map(&from.card);
+                let card = Card::open(&from.card, None).unwrap();
+                assert_eq!(model.free_count(low, high), card.free_blocks().len() as u64);
+            }
+        }
+    }
+
+    /// Every kind of wrong map is one, on a card where it can be.
+    #[test]
+    fn wrong_maps_are_wrong() {
+        for (right, data_blocks) in [([u64::MAX << 4 | 6, u64::MAX], 4), ([5, u64::MAX << 4 | 1], 68)] {
+            for turn in 0..2 * MAP_BITS * WRONG_MAPS.len() {
+                assert_ne!(Wrong::at(turn).map(turn, right, &[1, 2], data_blocks), right, "{:?}", Wrong::at(turn));
+            }
+        }
+        let tried = |wrong: Wrong| (0..2 * WRONG_MAPS.len()).any(|turn| Wrong::at(turn) == wrong);
+        assert!(WRONG_MAPS.iter().all(|wrong| tried(*wrong)));
+        assert!(WRONG_MAPS.iter().enumerate().all(|(index, wrong)| *wrong as usize == index));
     }
 
     #[test]

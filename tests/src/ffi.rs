@@ -1,6 +1,6 @@
 //! The functions of include/tinca.h.
 
-use crate::{Answer, Cached, Calls, Geometry, Place, State};
+use crate::{Answer, Cached, Calls, FreeMap, Geometry, Place, State};
 
 #[repr(C)]
 #[derive(Clone, Copy, Debug, PartialEq, Eq)]
@@ -41,20 +41,49 @@ pub struct RawEntry {
     pub modified: u64,
 }
 
+#[repr(C)]
+#[derive(Clone, Copy, Debug, PartialEq, Eq)]
+pub struct RawMap {
+    pub kind: u32,
+    pub refusal: u32,
+    pub low: u64,
+    pub high: u64,
+}
+
 extern "C" {
     fn tinca_format(k: u64, slots: u64, data_blocks: u64, disk_blocks: u64, card: *mut u8, card_len: usize) -> RawAnswer;
     fn tinca_commit(
         card: *mut u8,
         card_len: usize,
+        map: *mut u64,
+        map_words: usize,
         numbers: *const u64,
         count: usize,
         data: *const u8,
         data_len: usize,
         allowance: u64,
     ) -> RawAnswer;
-    fn tinca_load(card: *mut u8, card_len: usize, disk: *const u8, disk_len: usize, block: u64, allowance: u64) -> RawAnswer;
-    fn tinca_evict(card: *mut u8, card_len: usize, disk: *mut u8, disk_len: usize, block: u64, allowance: u64) -> RawAnswer;
-    fn tinca_recover(card: *mut u8, card_len: usize, allowance: u64) -> RawAnswer;
+    fn tinca_load(
+        card: *mut u8,
+        card_len: usize,
+        disk: *const u8,
+        disk_len: usize,
+        map: *mut u64,
+        map_words: usize,
+        block: u64,
+        allowance: u64,
+    ) -> RawAnswer;
+    fn tinca_evict(
+        card: *mut u8,
+        card_len: usize,
+        disk: *mut u8,
+        disk_len: usize,
+        map: *mut u64,
+        map_words: usize,
+        block: u64,
+        allowance: u64,
+    ) -> RawAnswer;
+    fn tinca_recover(card: *mut u8, card_len: usize, map: *mut u64, map_words: usize, allowance: u64) -> RawAnswer;
     fn tinca_read(
         card: *const u8,
         card_len: usize,
@@ -67,9 +96,11 @@ extern "C" {
     fn tinca_look(card: *const u8, card_len: usize, disk: *const u8, disk_len: usize, block: u64) -> RawPlace;
     fn tinca_state_of(card: *const u8, card_len: usize) -> RawState;
     fn tinca_cached(card: *const u8, card_len: usize, place: u64) -> RawEntry;
+    fn tinca_make_map(card: *const u8, card_len: usize) -> RawMap;
+    fn tinca_free_count(low: u64, high: u64) -> u64;
 }
 
-/// The library. A slice of no bytes is handed over as a null pointer.
+/// The library. An empty slice is handed over as a null pointer.
 pub struct Library;
 
 fn lent<T>(slice: &[T]) -> *const T {
@@ -126,31 +157,40 @@ pub fn cached(raw: RawEntry) -> Cached {
     }
 }
 
+pub fn free_map(raw: RawMap) -> FreeMap {
+    match raw {
+        RawMap { kind: 0, refusal: 0, low, high } => FreeMap::Made([low, high]),
+        RawMap { kind: 2, refusal, low: 0, high: 0 } => FreeMap::Refused(refusal),
+        _ => FreeMap::Malformed(raw.kind, raw.refusal, raw.low, raw.high),
+    }
+}
+
 impl Calls for Library {
     fn format(&self, k: u64, slots: u64, data_blocks: u64, disk_blocks: u64, card: &mut [u8]) -> Answer {
         answer(unsafe { tinca_format(k, slots, data_blocks, disk_blocks, lent_mut(card), card.len()) })
     }
 
-    fn commit(&self, card: &mut [u8], numbers: &[u64], data: &[u8], allowance: u64) -> Answer {
-        let card_len = card.len();
+    fn commit(&self, card: &mut [u8], map: &mut [u64], numbers: &[u64], data: &[u8], allowance: u64) -> Answer {
+        let (card_len, words) = (card.len(), map.len());
+        let (count, data_len) = (numbers.len(), data.len());
         answer(unsafe {
-            tinca_commit(lent_mut(card), card_len, lent(numbers), numbers.len(), lent(data), data.len(), allowance)
+            tinca_commit(lent_mut(card), card_len, lent_mut(map), words, lent(numbers), count, lent(data), data_len, allowance)
         })
     }
 
-    fn load(&self, card: &mut [u8], disk: &[u8], block: u64, allowance: u64) -> Answer {
-        let card_len = card.len();
-        answer(unsafe { tinca_load(lent_mut(card), card_len, lent(disk), disk.len(), block, allowance) })
+    fn load(&self, card: &mut [u8], disk: &[u8], map: &mut [u64], block: u64, allowance: u64) -> Answer {
+        let (card_len, words) = (card.len(), map.len());
+        answer(unsafe { tinca_load(lent_mut(card), card_len, lent(disk), disk.len(), lent_mut(map), words, block, allowance) })
     }
 
-    fn evict(&self, card: &mut [u8], disk: &mut [u8], block: u64, allowance: u64) -> Answer {
-        let (card_len, disk_len) = (card.len(), disk.len());
-        answer(unsafe { tinca_evict(lent_mut(card), card_len, lent_mut(disk), disk_len, block, allowance) })
+    fn evict(&self, card: &mut [u8], disk: &mut [u8], map: &mut [u64], block: u64, allowance: u64) -> Answer {
+        let (card_len, disk_len, words) = (card.len(), disk.len(), map.len());
+        answer(unsafe { tinca_evict(lent_mut(card), card_len, lent_mut(disk), disk_len, lent_mut(map), words, block, allowance) })
     }
 
-    fn recover(&self, card: &mut [u8], allowance: u64) -> Answer {
-        let card_len = card.len();
-        answer(unsafe { tinca_recover(lent_mut(card), card_len, allowance) })
+    fn recover(&self, card: &mut [u8], map: &mut [u64], allowance: u64) -> Answer {
+        let (card_len, words) = (card.len(), map.len());
+        answer(unsafe { tinca_recover(lent_mut(card), card_len, lent_mut(map), words, allowance) })
     }
 
     fn read(&self, card: &[u8], disk: &[u8], block: u64, out: &mut [u8]) -> Place {
@@ -165,7 +205,16 @@ impl Calls for Library {
     fn state(&self, card: &[u8]) -> State {
         state(unsafe { tinca_state_of(lent(card), card.len()) })
     }
+
     fn cached(&self, card: &[u8], place: u64) -> Cached {
         cached(unsafe { tinca_cached(lent(card), card.len(), place) })
+    }
+
+    fn make_map(&self, card: &[u8]) -> FreeMap {
+        free_map(unsafe { tinca_make_map(lent(card), card.len()) })
+    }
+
+    fn free_count(&self, low: u64, high: u64) -> u64 {
+        unsafe { tinca_free_count(low, high) }
     }
 }

@@ -3,7 +3,7 @@
 //! themselves.
 
 use crate::drive::{data_of, first_disk, Snapshot};
-use crate::model::{commit_stores, Card, Model};
+use crate::model::{commit_stores, map_of, Card, Model};
 use crate::random::Random;
 use crate::{Answer, Calls, Geometry};
 
@@ -53,25 +53,29 @@ fn save(random: &mut Random, geometry: Geometry, at: &mut Snapshot, most: u64, c
     }
     let allowance = if cut { cut_place(random, geometry, n) } else { commit_stores(n, geometry.block() as u64) };
     let data = data_of(random.next(), n as usize, geometry.block());
-    Model::default().commit(&mut at.card, &numbers, &data, allowance);
+    let mut map = map_of(&at.card);
+    Model::default().commit(&mut at.card, &mut map, &numbers, &data, allowance);
 }
 
 /// Recovers in full, or is cut again a few times before.
 fn recover(random: &mut Random, card: &mut [u8]) {
     let model = Model::default();
+    let mut map = map_of(card);
     while random.once_in(3) {
-        model.recover(card, random.below(4));
+        model.recover(card, &mut map, random.below(4));
+        map = map_of(card);
     }
-    assert!(matches!(model.recover(card, u64::MAX), Answer::Done(_)));
+    assert!(matches!(model.recover(card, &mut map, u64::MAX), Answer::Done(_)));
 }
 
 fn step(random: &mut Random, geometry: Geometry, at: &mut Snapshot, most: u64) {
     let (model, number) = (Model::default(), random.below(geometry.disk_blocks));
+    let mut map = map_of(&at.card);
     match random.below(6) {
-        0 => drop(model.load(&mut at.card, &at.disk, number, u64::MAX)),
+        0 => drop(model.load(&mut at.card, &at.disk, &mut map, number, u64::MAX)),
         1 | 2 => {
             let number = cached(random, geometry, &at.card);
-            model.evict(&mut at.card, &mut at.disk, number, u64::MAX);
+            model.evict(&mut at.card, &mut at.disk, &mut map, number, u64::MAX);
         }
         _ => {
             let cut = random.once_in(3);
@@ -95,7 +99,8 @@ pub fn history(random: &mut Random, geometry: Geometry, most: u64) -> Snapshot {
     if !random.once_in(6) {
         save(random, geometry, &mut at, most, true);
         if random.once_in(4) {
-            Model::default().recover(&mut at.card, random.below(3));
+            let mut map = map_of(&at.card);
+            Model::default().recover(&mut at.card, &mut map, random.below(3));
         }
     }
     at

@@ -1,4 +1,4 @@
-//! What holds the library to document 01 by running it: a separate model, the calls of the C interface, and a driver that makes
+//! What holds the library to documents 01 and 02 by running it: a separate model, the calls of the C interface, and a driver that makes
 //! each call on both and compares all that they leave.
 
 pub mod drive;
@@ -12,17 +12,27 @@ pub mod shown;
 pub mod stages;
 pub mod stores_log;
 
-pub use model::{Answer, Cached, Geometry, Place, State};
+pub use model::{Answer, Cached, FreeMap, Geometry, Place, State};
 
 /// The calls of the interface. The library is one implementation, the model another.
 pub trait Calls {
     fn format(&self, k: u64, slots: u64, data_blocks: u64, disk_blocks: u64, card: &mut [u8]) -> Answer;
-    fn commit(&self, card: &mut [u8], numbers: &[u64], data: &[u8], allowance: u64) -> Answer;
-    fn load(&self, card: &mut [u8], disk: &[u8], block: u64, allowance: u64) -> Answer;
-    fn evict(&self, card: &mut [u8], disk: &mut [u8], block: u64, allowance: u64) -> Answer;
-    fn recover(&self, card: &mut [u8], allowance: u64) -> Answer;
+    fn commit(&self, card: &mut [u8], map: &mut [u64], numbers: &[u64], data: &[u8], allowance: u64) -> Answer;
+    fn load(&self, card: &mut [u8], disk: &[u8], map: &mut [u64], block: u64, allowance: u64) -> Answer;
+    fn evict(&self, card: &mut [u8], disk: &mut [u8], map: &mut [u64], block: u64, allowance: u64) -> Answer;
+    fn recover(&self, card: &mut [u8], map: &mut [u64], allowance: u64) -> Answer;
     fn read(&self, card: &[u8], disk: &[u8], block: u64, out: &mut [u8]) -> Place;
     fn look(&self, card: &[u8], disk: &[u8], block: u64) -> Place;
     fn state(&self, card: &[u8]) -> State;
     fn cached(&self, card: &[u8], place: u64) -> Cached;
+    fn make_map(&self, card: &[u8]) -> FreeMap;
+    fn free_count(&self, low: u64, high: u64) -> u64;
+
+    /// The map of a card that is not refused, as a station makes it when it starts and after a cut.
+    fn fresh_map(&self, card: &[u8]) -> [u64; 2] {
+        match self.make_map(card) {
+            FreeMap::Made(map) => map,
+            other => panic!("no map is made: {other:?}"),
+        }
+    }
 }

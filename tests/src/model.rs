@@ -1,5 +1,5 @@
-//! The model: document 01 in Rust, plain rather than fast. A card is decoded into structures; each storing call gives the list of its
-//! stores; an allowance takes the first of them.
+//! The model: document 01, and what is built of document 02, in Rust, plain rather than fast. A card is decoded into structures; each
+//! storing call gives the list of its stores; an allowance takes the first of them.
 
 use crate::Calls;
 
@@ -34,6 +34,14 @@ pub enum State {
 pub enum Cached {
     Block { number: u64, modified: bool },
     Nothing,
+    Refused(u32),
+    Malformed(u32, u32, u64, u64),
+}
+
+/// The free block map as it is made from a card.
+#[derive(Clone, Copy, Debug, PartialEq, Eq)]
+pub enum FreeMap {
+    Made([u64; 2]),
     Refused(u32),
     Malformed(u32, u32, u64, u64),
 }
@@ -205,6 +213,21 @@ pub fn walk(count: u64, head: u64, wanted: impl Fn(usize) -> bool) -> Vec<usize>
     (0..count).map(|step| ((head % count + step) % count) as usize).filter(|place| wanted(*place)).collect()
 }
 
+pub const MAP_BITS: usize = 128;
+
+fn set_bit(map: &mut [u64; 2], bit: usize) {
+    map[bit / 64] |= 1 << (bit % 64);
+}
+
+fn clear_bit(map: &mut [u64; 2], bit: usize) {
+    map[bit / 64] &= !(1 << (bit % 64));
+}
+
+/// The map that a card gives. A card that is refused gives none: then no bit is set, and no call looks at it.
+pub fn map_of(card: &[u8]) -> [u64; 2] {
+    Card::open(card, None).map_or([0; 2], |card| card.map())
+}
+
 /// A card that passed checks 1, 2 and 4 to 6, without its data blocks.
 #[derive(Clone, Debug, PartialEq, Eq)]
 pub struct Card {
@@ -221,8 +244,8 @@ fn word(bytes: &[u8], at: usize) -> u64 {
 }
 
 impl Card {
-    /// Checks 1 to 6; check 3 where a disk's length is given.
-    pub fn open(bytes: &[u8], disk_length: Option<usize>) -> Result<Card, u32> {
+    /// Checks 1 to 5; check 3 where a disk's length is given.
+    fn decoded(bytes: &[u8], disk_length: Option<usize>) -> Result<Card, u32> {
         let geometry = Geometry::from_header(bytes)?;
         if bytes.len() != geometry.card_length() {
             return Err(2);
@@ -245,7 +268,12 @@ impl Card {
             let bytes: &[u8; 16] = bytes[at..at + 16].try_into().unwrap();
             entries.push(read_entry(bytes, geometry.data_blocks, geometry.disk_blocks)?);
         }
-        let card = Card { geometry, head, tail, window, entries };
+        Ok(Card { geometry, head, tail, window, entries })
+    }
+
+    /// Checks 1 to 6; check 3 where a disk's length is given.
+    pub fn open(bytes: &[u8], disk_length: Option<usize>) -> Result<Card, u32> {
+        let card = Card::decoded(bytes, disk_length)?;
         let mut taken: Vec<(&Entry, Option<u32>)> = Vec::new();
         for entry in card.in_use() {
             let settled = card.settled_block(entry);
@@ -294,9 +322,25 @@ impl Card {
         self.entries.iter().position(|entry| entry.is_some_and(|entry| entry.number == number))
     }
 
+    /// Of a data block: it is no in-use entry's current block.
+    pub fn is_free(&self, block: usize) -> bool {
+        !self.in_use().any(|entry| entry.current as usize == block)
+    }
+
     /// The free data blocks in the order of the search.
     pub fn free_blocks(&self) -> Vec<usize> {
-        walk(self.geometry.data_blocks, self.head, |block| !self.in_use().any(|entry| entry.current as usize == block))
+        walk(self.geometry.data_blocks, self.head, |block| self.is_free(block))
+    }
+
+    /// The free block map: bit d mod 64, from the lowest, of word d / 64 is set unless d is below N and data block d is free.
+    pub fn map(&self) -> [u64; 2] {
+        let mut words = [0; 2];
+        for block in 0..MAP_BITS {
+            if block as u64 >= self.geometry.data_blocks || !self.is_free(block) {
+                set_bit(&mut words, block);
+            }
+        }
+        words
     }
 
     /// The unused entries in the order of the search.
@@ -347,9 +391,38 @@ pub enum Slip {
     CountsEveryEntry,
     CachedUnsettled,
     CachedCounted,
+    /// The map's bits from N on are not set.
+    MapWithoutRest,
+    MapSwapped,
+    /// An undoable entry's previous block is not free.
+    MapTakesPrevious,
+    /// No map is made of an unsettled card.
+    MapOfSettledAlone,
+    CountsLowWord,
+    AnyMapTaken,
+    /// A map of three words is taken by its first two.
+    LongMapTaken,
+    /// A map of another length is taken for one of zeros, or of ones.
+    OddMapAsZeros,
+    OddMapAsOnes,
+    /// Recover asks 15 before 6.
+    MapBeforeEqual,
+    /// The other calls ask 15 before 7.
+    MapBeforeSettled,
+    /// 15 comes after a call's own checks, as its number would have it.
+    MapAskedLast,
+    /// A wrong map is refused, and the right one written in its place.
+    MapMended,
+    NewMapAfterCut,
+    OldMapAfterEvict,
+    OldMapAfterRecover,
+    /// A commit marks its new blocks and frees none.
+    OldBlocksStayTaken,
+    /// Recover clears and sets bits entry by entry: a block that one entry gets back and a later one gives up is lost.
+    BitsMovedInTurn,
 }
 
-pub const SLIPS: [Slip; 20] = [
+pub const SLIPS: [Slip; 38] = [
     Slip::CleanUndo,
     Slip::FreshAtSwitch,
     Slip::FreshAtUndo,
@@ -370,6 +443,24 @@ pub const SLIPS: [Slip; 20] = [
     Slip::CountsEveryEntry,
     Slip::CachedUnsettled,
     Slip::CachedCounted,
+    Slip::MapWithoutRest,
+    Slip::MapSwapped,
+    Slip::MapTakesPrevious,
+    Slip::MapOfSettledAlone,
+    Slip::CountsLowWord,
+    Slip::AnyMapTaken,
+    Slip::LongMapTaken,
+    Slip::OddMapAsZeros,
+    Slip::OddMapAsOnes,
+    Slip::MapBeforeEqual,
+    Slip::MapBeforeSettled,
+    Slip::MapAskedLast,
+    Slip::MapMended,
+    Slip::NewMapAfterCut,
+    Slip::OldMapAfterEvict,
+    Slip::OldMapAfterRecover,
+    Slip::OldBlocksStayTaken,
+    Slip::BitsMovedInTurn,
 ];
 
 /// The model; with a slip, a deliberately wrong one.
@@ -389,6 +480,60 @@ impl Model {
         self.slip == Some(slip)
     }
 
+    /// The map that the card gives.
+    fn given(&self, card: &Card) -> [u64; 2] {
+        let mut words = card.map();
+        if self.slips(Slip::MapWithoutRest) {
+            let rest = u128::MAX.checked_shl(card.geometry.data_blocks as u32).unwrap_or(0);
+            words = [words[0] & !rest as u64, words[1] & !(rest >> 64) as u64];
+        }
+        if self.slips(Slip::MapTakesPrevious) {
+            let previous = card.in_use().filter(|entry| card.undoable(entry)).filter_map(|entry| entry.previous);
+            previous.for_each(|block| set_bit(&mut words, block as usize));
+        }
+        if self.slips(Slip::MapSwapped) {
+            words.swap(0, 1);
+        }
+        words
+    }
+
+    /// Check 15.
+    fn check_map(&self, card: &Card, map: &[u64]) -> Result<(), u32> {
+        let looked_at = match map.len() {
+            2 => map,
+            _ if self.slips(Slip::LongMapTaken) => &map[..map.len().min(2)],
+            _ if self.slips(Slip::OddMapAsZeros) => &[0; 2],
+            _ if self.slips(Slip::OddMapAsOnes) => &[u64::MAX; 2],
+            _ => map,
+        };
+        if looked_at == self.given(card) || (self.slips(Slip::AnyMapTaken) && map.len() == 2) {
+            Ok(())
+        } else {
+            Err(15)
+        }
+    }
+
+    /// Checks 1 to 7 and 15.
+    fn check_settled(&self, bytes: &[u8], disk_length: Option<usize>, map: &[u64]) -> Result<(), u32> {
+        if self.slips(Slip::MapBeforeSettled) {
+            self.check_map(&Card::open(bytes, disk_length)?, map)?;
+        }
+        let card = Card::open_settled(bytes, disk_length)?;
+        if self.slips(Slip::MapAskedLast) {
+            return Ok(());
+        }
+        self.check_map(&card, map)
+    }
+
+    /// Checks 1, 2, 4 to 6 and 15.
+    fn check_unsettled(&self, bytes: &[u8], map: &[u64]) -> Result<(), u32> {
+        if self.slips(Slip::MapBeforeEqual) {
+            self.check_map(&Card::decoded(bytes, None)?, map)?;
+        }
+        self.check_map(&Card::open(bytes, None)?, map)
+    }
+
+    /// The stores of a commit that is given the card's map. So too the lists below.
     pub fn commit_list(&self, bytes: &[u8], numbers: &[u64], data: &[u8]) -> Result<Vec<Store>, u32> {
         let card = Card::open_settled(bytes, None)?;
         let geometry = card.geometry;
@@ -539,11 +684,21 @@ impl Model {
         Ok(stores)
     }
 
-    /// Makes the first stores of the list, as many as the allowance, and answers.
-    fn make(&self, list: Result<Vec<Store>, u32>, allowance: u64, card: &mut [u8], disk: &mut [u8]) -> Answer {
+    /// Makes the first stores of the list, as many as the allowance, and answers. A call that is done writes the map of the card that
+    /// it leaves; a cut or refused one writes none.
+    fn make(&self, list: Result<Vec<Store>, u32>, allowance: u64, card: &mut [u8], disk: &mut [u8], map: &mut [u64]) -> Answer {
+        let list = match list {
+            Ok(_) if self.slips(Slip::MapAskedLast) && map != map_of(card) => Err(15),
+            list => list,
+        };
         let stores = match list {
             Ok(stores) => stores,
-            Err(number) => return Answer::Refused(number),
+            Err(number) => {
+                if number == 15 && map.len() == 2 && self.slips(Slip::MapMended) {
+                    map.copy_from_slice(&map_of(card));
+                }
+                return Answer::Refused(number);
+            }
         };
         let count = stores.len() as u64;
         for store in stores.iter().take(usize::try_from(allowance).unwrap_or(usize::MAX)) {
@@ -551,7 +706,14 @@ impl Model {
             let to = if on_disk { &mut *disk } else { &mut *card };
             to[at..at + bytes.len()].copy_from_slice(bytes);
         }
-        if allowance < count || (allowance == count && self.slips(Slip::CutAtCount)) {
+        let cut = allowance < count || (allowance == count && self.slips(Slip::CutAtCount));
+        if !cut || self.slips(Slip::NewMapAfterCut) {
+            // of a wrong model's card there may be no map
+            if let Ok(after) = Card::open(card, None) {
+                map.iter_mut().zip(self.given(&after)).for_each(|(word, new)| *word = new);
+            }
+        }
+        if cut {
             Answer::Cut
         } else if self.slips(Slip::CountOneMore) {
             Answer::Done(count + 1)
@@ -596,24 +758,47 @@ impl Calls for Model {
         Answer::Done(0)
     }
 
-    fn commit(&self, card: &mut [u8], numbers: &[u64], data: &[u8], allowance: u64) -> Answer {
-        let list = self.commit_list(card, numbers, data);
-        self.make(list, allowance, card, &mut [])
+    fn commit(&self, card: &mut [u8], map: &mut [u64], numbers: &[u64], data: &[u8], allowance: u64) -> Answer {
+        let list = self.check_settled(card, None, map).and_then(|_| self.commit_list(card, numbers, data));
+        let before = map.to_vec();
+        let answer = self.make(list, allowance, card, &mut [], map);
+        if self.slips(Slip::OldBlocksStayTaken) {
+            map.iter_mut().zip(before).for_each(|(word, old)| *word |= old);
+        }
+        answer
     }
 
-    fn load(&self, card: &mut [u8], disk: &[u8], block: u64, allowance: u64) -> Answer {
-        let list = self.load_list(card, disk, block);
-        self.make(list, allowance, card, &mut [])
+    fn load(&self, card: &mut [u8], disk: &[u8], map: &mut [u64], block: u64, allowance: u64) -> Answer {
+        let list = self.check_settled(card, Some(disk.len()), map).and_then(|_| self.load_list(card, disk, block));
+        self.make(list, allowance, card, &mut [], map)
     }
 
-    fn evict(&self, card: &mut [u8], disk: &mut [u8], block: u64, allowance: u64) -> Answer {
-        let list = self.evict_list(card, disk.len(), block);
-        self.make(list, allowance, card, disk)
+    fn evict(&self, card: &mut [u8], disk: &mut [u8], map: &mut [u64], block: u64, allowance: u64) -> Answer {
+        let list = self.check_settled(card, Some(disk.len()), map).and_then(|_| self.evict_list(card, disk.len(), block));
+        let before = map.to_vec();
+        let answer = self.make(list, allowance, card, disk, map);
+        if self.slips(Slip::OldMapAfterEvict) {
+            map.copy_from_slice(&before);
+        }
+        answer
     }
 
-    fn recover(&self, card: &mut [u8], allowance: u64) -> Answer {
-        let list = self.recover_list(card);
-        self.make(list, allowance, card, &mut [])
+    fn recover(&self, card: &mut [u8], map: &mut [u64], allowance: u64) -> Answer {
+        let list = self.check_unsettled(card, map).and_then(|_| self.recover_list(card));
+        let (before, opened) = (map.to_vec(), Card::open(card, None));
+        let answer = self.make(list, allowance, card, &mut [], map);
+        if self.slips(Slip::OldMapAfterRecover) {
+            map.copy_from_slice(&before);
+        }
+        if let (true, Ok(was), Answer::Done(_)) = (self.slips(Slip::BitsMovedInTurn), opened, answer) {
+            let mut moved = was.map();
+            for entry in was.in_use().filter(|entry| was.undoable(entry)) {
+                clear_bit(&mut moved, entry.current as usize);
+                entry.previous.iter().for_each(|block| set_bit(&mut moved, *block as usize));
+            }
+            map.copy_from_slice(&moved);
+        }
+        answer
     }
 
     fn read(&self, card: &[u8], disk: &[u8], block: u64, out: &mut [u8]) -> Place {
@@ -680,5 +865,18 @@ impl Calls for Model {
             Some(entry) => Cached::Block { number: entry.number, modified: entry.modified },
             None => Cached::Nothing,
         }
+    }
+
+    fn make_map(&self, card: &[u8]) -> FreeMap {
+        let opened = if self.slips(Slip::MapOfSettledAlone) { Card::open_settled(card, None) } else { Card::open(card, None) };
+        match opened {
+            Ok(card) => FreeMap::Made(self.given(&card)),
+            Err(number) => FreeMap::Refused(number),
+        }
+    }
+
+    fn free_count(&self, low: u64, high: u64) -> u64 {
+        let clear = |word: u64| (0..64).filter(|bit| word >> bit & 1 == 0).count() as u64;
+        clear(low) + if self.slips(Slip::CountsLowWord) { 0 } else { clear(high) }
     }
 }

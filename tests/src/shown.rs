@@ -404,8 +404,9 @@ mod tests {
         let model = Model::default();
         let mut card = vec![0; 2304];
         model.format(9, 8, 4, 16, &mut card);
-        model.commit(&mut card, &[3], &[7; 512], u64::MAX);
-        model.commit(&mut card, &[5, 3], &[9; 1024], 67 + 65);
+        let mut map = model.fresh_map(&card);
+        model.commit(&mut card, &mut map, &[3], &[7; 512], u64::MAX);
+        model.commit(&mut card, &mut map, &[5, 3], &[9; 1024], 67 + 65);
         card
     }
 

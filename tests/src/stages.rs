@@ -116,9 +116,11 @@ fn new_data() -> Vec<u8> {
 fn start(model: &Model) -> Vec<u8> {
     let mut card = vec![0; SMALL.card_length()];
     assert_eq!(model.format(SMALL.k, SMALL.slots, SMALL.data_blocks, SMALL.disk_blocks, &mut card), Answer::Done(0));
+    let mut map = model.fresh_map(&card);
     for number in EARLIER {
         let count = commit_stores(1, BLOCK as u64);
-        assert_eq!(model.commit(&mut card, &[number], &version(Version::Earlier, number), u64::MAX), Answer::Done(count));
+        let data = version(Version::Earlier, number);
+        assert_eq!(model.commit(&mut card, &mut map, &[number], &data, u64::MAX), Answer::Done(count));
     }
     assert!(Card::open(&card, None).unwrap().settled());
     card
@@ -127,9 +129,10 @@ fn start(model: &Model) -> Vec<u8> {
 /// The card with the save cut after so many stores.
 fn cut(model: &Model, allowance: u64) -> Vec<u8> {
     let mut card = start(model);
+    let mut map = model.fresh_map(&card);
     let count = commit_stores(SAVED.len() as u64, BLOCK as u64);
     let answer = if allowance < count { Answer::Cut } else { Answer::Done(count) };
-    assert_eq!(model.commit(&mut card, &SAVED, &new_data(), allowance), answer);
+    assert_eq!(model.commit(&mut card, &mut map, &SAVED, &new_data(), allowance), answer);
     card
 }
 
@@ -137,7 +140,8 @@ fn cut(model: &Model, allowance: u64) -> Vec<u8> {
 fn recovered(model: &Model, card: &[u8]) -> (Vec<Store>, Vec<Reading>) {
     let stores = model.recover_list(card).unwrap();
     let mut card = card.to_vec();
-    assert_eq!(model.recover(&mut card, u64::MAX), Answer::Done(stores.len() as u64));
+    let mut map = model.fresh_map(&card);
+    assert_eq!(model.recover(&mut card, &mut map, u64::MAX), Answer::Done(stores.len() as u64));
     let read = |number| {
         let mut out = vec![0; BLOCK];
         let on_card = match model.read(&card, &disk(), number, &mut out) {

@@ -5,7 +5,7 @@
 
 use std::path::Path;
 use tinca_tests::drive::put;
-use tinca_tests::model::{commit_stores, Model};
+use tinca_tests::model::{commit_stores, map_of, Model};
 use tinca_tests::{Answer, Calls, Geometry};
 
 const SMALL: Geometry = Geometry { k: 9, slots: 8, data_blocks: 4, disk_blocks: 16 };
@@ -41,16 +41,18 @@ fn save(card: &mut [u8], name: &str, numbers: &[u64], allowance: u64) {
     let data: Vec<u8> = numbers.iter().flat_map(|number| pattern(name, *number)).collect();
     let count = commit_stores(numbers.len() as u64, BLOCK as u64);
     let answer = if allowance < count { Answer::Cut } else { Answer::Done(count) };
-    assert_eq!(Model::default().commit(card, numbers, &data, allowance), answer);
+    let mut map = map_of(card);
+    assert_eq!(Model::default().commit(card, &mut map, numbers, &data, allowance), answer);
 }
 
 fn load(card: &mut [u8], number: u64) {
-    assert_eq!(Model::default().load(card, &disk(), number, u64::MAX), Answer::Done(65));
+    let mut map = map_of(card);
+    assert_eq!(Model::default().load(card, &disk(), &mut map, number, u64::MAX), Answer::Done(65));
 }
 
 fn recover(card: &[u8], allowance: u64, answer: Answer) -> Vec<u8> {
-    let mut card = card.to_vec();
-    assert_eq!(Model::default().recover(&mut card, allowance), answer);
+    let (mut card, mut map) = (card.to_vec(), map_of(card));
+    assert_eq!(Model::default().recover(&mut card, &mut map, allowance), answer);
     card
 }
 
@@ -68,7 +70,8 @@ fn saved() -> Vec<u8> {
 /// first. The cut falls behind the entry of 7: it has R, and its number does not stand in the window.
 fn cut() -> Vec<u8> {
     let mut card = saved();
-    assert_eq!(Model::default().evict(&mut card, &mut disk(), 12, u64::MAX), Answer::Done(1));
+    let mut map = map_of(&card);
+    assert_eq!(Model::default().evict(&mut card, &mut disk(), &mut map, 12, u64::MAX), Answer::Done(1));
     save(&mut card, "save d", &[1, 7], 67 + 65);
     card
 }

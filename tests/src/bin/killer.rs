@@ -173,7 +173,9 @@ fn run(kills: u64, seed: u64) -> Result<String, String> {
             }
             other => return Err(format!("kill {kill}: {other:?}")),
         }
-        match library.recover(card.bytes_mut(), u64::MAX) {
+        // the station's map went with it
+        let mut map = library.fresh_map(card.bytes());
+        match library.recover(card.bytes_mut(), &mut map, u64::MAX) {
             Answer::Done(stores) => undone_stores += stores,
             other => return Err(format!("kill {kill}: recover {other:?}")),
         }

@@ -16,6 +16,8 @@ use tinca_tests::{Answer, Calls, State};
 struct Station {
     card: Mapped,
     disk: Mapped,
+    /// Made when the station starts, then as each call leaves it.
+    map: [u64; 2],
     notes: Mapped,
     before: Mapped,
     units: bool,
@@ -42,7 +44,7 @@ fn put_unit(_: &mut [u8], _: usize, _: &[u8]) {
 }
 
 impl Station {
-    fn noted(&mut self, call: u64, argument: u64, run: impl Fn(&mut [u8], &mut [u8], u64) -> Answer) -> Answer {
+    fn noted(&mut self, call: u64, argument: u64, run: impl Fn(&mut [u8], &mut [u8], &mut [u64], u64) -> Answer) -> Answer {
         self.before.bytes_mut()[..CARD].copy_from_slice(self.card.bytes());
         self.before.bytes_mut()[CARD..].copy_from_slice(self.disk.bytes());
         self.notes.set_number(ARGUMENT, argument);
@@ -50,21 +52,22 @@ impl Station {
         let answer = if self.units {
             self.by_units(run)
         } else {
-            run(self.card.bytes_mut(), self.disk.bytes_mut(), u64::MAX)
+            run(self.card.bytes_mut(), self.disk.bytes_mut(), &mut self.map, u64::MAX)
         };
         self.notes.set_number(CALL, 0);
         answer
     }
 
-    fn by_units(&mut self, run: impl Fn(&mut [u8], &mut [u8], u64) -> Answer) -> Answer {
-        let (card, disk) = (self.card.bytes().to_vec(), self.disk.bytes().to_vec());
-        let answer = run(&mut card.clone(), &mut disk.clone(), u64::MAX);
+    /// Each call of smaller allowance is cut, and gets the map that the card gave before; the station goes on with the done one's.
+    fn by_units(&mut self, run: impl Fn(&mut [u8], &mut [u8], &mut [u64], u64) -> Answer) -> Answer {
+        let (card, disk, map) = (self.card.bytes().to_vec(), self.disk.bytes().to_vec(), self.map);
+        let answer = run(&mut card.clone(), &mut disk.clone(), &mut self.map, u64::MAX);
         let Answer::Done(count) = answer else { return answer };
         let entries = 128 + 8 * SLOTS as usize;
         let blocks = entries + 16 * DATA_BLOCKS as usize;
         for allowance in 1..=count {
             let (mut card, mut disk) = (card.clone(), disk.clone());
-            run(&mut card, &mut disk, allowance);
+            run(&mut card, &mut disk, &mut map.clone(), allowance);
             if let Some(place) = (0..CARD).find(|place| card[*place] != self.card.bytes()[*place]) {
                 let size = if (entries..blocks).contains(&place) { 16 } else { 8 };
                 let at = place / size * size;
@@ -79,12 +82,12 @@ impl Station {
     }
 
     fn evict(&mut self, block: u64) {
-        let answer = self.noted(EVICT, block, |card, disk, allowance| Library.evict(card, disk, block, allowance));
+        let answer = self.noted(EVICT, block, |card, disk, map, allowance| Library.evict(card, disk, map, block, allowance));
         assert!(matches!(answer, Answer::Done(_) | Answer::Refused(13)), "evict {answer:?}");
     }
 
     fn load(&mut self, block: u64) {
-        let answer = self.noted(LOAD, block, |card, disk, allowance| Library.load(card, disk, block, allowance));
+        let answer = self.noted(LOAD, block, |card, disk, map, allowance| Library.load(card, disk, map, block, allowance));
         assert!(matches!(answer, Answer::Done(_) | Answer::Refused(12 | 14)), "load {answer:?}");
     }
 }
@@ -101,6 +104,7 @@ fn main() {
     let mut station = Station {
         card: open("card", CARD),
         disk: open("disk", DISK),
+        map: [0; 2],
         notes: open("notes", NOTES),
         before: open("before", CARD + DISK),
         units: says("units"),
@@ -109,7 +113,8 @@ fn main() {
         assert_eq!(Library.format(K, SLOTS, DATA_BLOCKS, DISK_BLOCKS, station.card.bytes_mut()), Answer::Done(0));
     }
     // a card that was left unsettled is recovered here
-    assert!(matches!(Library.recover(station.card.bytes_mut(), u64::MAX), Answer::Done(_)));
+    station.map = Library.fresh_map(station.card.bytes());
+    assert!(matches!(Library.recover(station.card.bytes_mut(), &mut station.map, u64::MAX), Answer::Done(_)));
     assert!(matches!(Library.state(station.card.bytes()), State::Settled { .. }));
     let mut sequence = station.notes.number(ACKNOWLEDGED).max(station.notes.number(BEGUN));
     loop {
@@ -118,7 +123,7 @@ fn main() {
         let (numbers, data) = (numbers(group), saved(sequence, group));
         station.notes.set_number(BEGUN, sequence);
         loop {
-            match station.noted(COMMIT, group, |card, _, allowance| Library.commit(card, &numbers, &data, allowance)) {
+            match station.noted(COMMIT, group, |card, _, map, allowance| Library.commit(card, map, &numbers, &data, allowance)) {
                 Answer::Done(_) => break,
                 Answer::Refused(14) => station.evict(random.below(DISK_BLOCKS)),
                 other => panic!("commit {other:?}"),
