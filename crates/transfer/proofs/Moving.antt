@@ -1,10 +1,10 @@
 -- Load's and evict's stores on both media: what is put on the one leaves the other, and an allowance is spent on both alike. Then the calls'
--- answers, refused or made. Assumes nothing.
+-- answers and the maps that they hand on, refused or made. Assumes nothing.
 use Prim.Native.Nat.{ℕ, zero, suc, _+_, _/_, _<_}
 use mathlib.Core.List.{List, [], _∷_, _++_}
 use mathlib.Core.Bool.{Bool, true, false, cond, not}
 use mathlib.Core.Path.{_≡_, refl, sym, ap, subst, _∙_}
-use lib.ListN.{length, getD, take, length-append}
+use lib.ListN.{length, take, length-append}
 use lib.Dec.{ltb}
 use borrow.Author.Tests.{not-true, not-false}
 use Rattle.numbers.specs.Bytes.{part}
@@ -12,19 +12,26 @@ use Rattle.protocol.specs.declared.Answer.{Answer}
 use Rattle.protocol.specs.declared.Answer.the-variants.{Done, Cut, Refused}
 use Rattle.protocol.specs.declared.Entry.{Entry}
 use Rattle.protocol.specs.declared.Geometry.{Geometry}
+use Rattle.protocol.specs.declared.Map.{Map}
+use Rattle.protocol.specs.declared.Stored.{Stored}
 use Rattle.protocol.specs.Layout.{goodGeometry, geometryOf, blockSize, blockPlace, diskPlace, blockAt, diskBlock}
 use Rattle.protocol.specs.Entry.{FRESH, unused, entryOf, entryAt, isModified}
 use Rattle.protocol.specs.Ring.{findEntry, currentOf}
-use Rattle.protocol.specs.Search.{unusedEntries}
-use Rattle.protocol.specs.Store.{Medium, card, disk, Store, Run, Work, madeOn, flat, words, sectors, entryStore, single, storesOf, answerOf, afterOn}
-use Rattle.protocol.specs.Commit.{newBlock}
-use Rattle.protocol.specs.Load.{cleanEntry, loadRuns, loadRefusal, loadWork, writeBack, evictRuns, evictRefusal, evictWork}
+use Rattle.protocol.specs.Store.{Medium, card, disk, Store, Run, Work, madeOn, flat, words, sectors, entryStore, single, storesOf}
+use Rattle.protocol.specs.Map.{mapOf, handedOn}
+use Rattle.protocol.specs.Load.{cleanEntry, loadRuns, loadWork, writeBack, evictRuns, evictWork}
 use Rattle.protocol.proofs.Checks.{limits}
+use Rattle.protocol.proofs.Left.{load-map}
 use Rattle.protocol.proofs.Made.{words-elsewhere, sectors-elsewhere, entry-elsewhere}
 use Rattle.protocol.proofs.Stores.{length-units}
+use Rattle.freemap.specs.Bits.{withoutBit}
 use Rattle.stores.specs.Did.{Did}
-use Rattle.stores.proofs.Laws.{did-then, did-same, refused-answer, refused-after, made-answer, made-after}
-use Rattle.transfer.specs.Moved.{loadedRuns, Moved}
+use Rattle.stores.proofs.Laws.{did-then, did-same, refused-answer, refused-after, refused-map, made-answer, made-after, made-map}
+use Rattle.transfer.specs.declared.Room.{Room}
+use Rattle.transfer.specs.declared.Place.{Place}
+use Rattle.transfer.specs.Examined.{Roomed, Located}
+use Rattle.transfer.specs.Moved.{loadedRuns, Moved, Finished}
+use Rattle.transfer.proofs.Found.{evict-freed}
 
 -- ---- both media
 
@@ -116,45 +123,60 @@ module _ (g : Geometry) (c d : List ℕ) (b at a : ℕ) (e : Entry) (t : Bool) (
 
 -- ---- the calls
 
--- what a call's contract says of its work w: the answer, the card and the disk
-abbrev Finished : Work → ℕ → (c c′ d d′ : List ℕ) → Answer → Type 0
-Finished w a c c′ d d′ r = (r ≡ answerOf a w) × ((c′ ≡ afterOn card a w c) × (d′ ≡ afterOn disk a w d))
+module _ (w : Work) (a : ℕ) (m : Map) (c d : List ℕ) (s : ℕ) (e : s ≡ w .refusal) where
+  refused : (s ≡ 0 → ⊥) → Finished w a m c c d d (record { answer = Refused s; map = m })
+  refused h =
+      record {
+        answer = refused-answer w a s e h;
+        map = refused-map w a s c m e h;
+        card = refused-after w a card s c e h;
+        disk = refused-after w a disk s d e h;
+      }
 
-module _ (w : Work) (a : ℕ) (c d : List ℕ) (s : ℕ) (e : s ≡ w .refusal) where
-  refused : (s ≡ 0 → ⊥) → Finished w a c c d d (Refused s)
-  refused h = (refused-answer w a s e h, (refused-after w a card s c e h, refused-after w a disk s d e h))
-
-  finished : (z : s ≡ 0) (c′ d′ : List ℕ) (r : Answer) → Moved (flat (w .runs)) a c c′ d d′ r → Finished w a c c′ d d′ r
+  -- the map that the stores leave is handed on in step with the answer
+  finished : (z : s ≡ 0) (c′ d′ : List ℕ) (r : Answer) (new : Map) (u : Stored) → Moved (flat (w .runs)) a c c′ d d′ r
+      → new ≡ mapOf (madeOn card (flat (w .runs)) c) → (u .answer ≡ r) × (u .map ≡ handedOn r m new) → Finished w a m c c′ d d′ u
   unfolding storesOf
-  finished z c′ d′ r x = (
-    made-answer w a s e z (storesOf w) r refl (x .answered),
-    (
-      made-after w a s e z (record { made = x .card; left = refl }),
-      made-after w a s e z (record { made = x .disk; left = refl }),
-    ),
-  )
+  finished z c′ d′ r new u x n y =
+      let answered = made-answer w a s e z (storesOf w) r refl (x .answered) in
+      record {
+        answer = y .0 ∙ answered;
+        map = y .1 ∙ made-map w a s e z r c m new answered n;
+        card = made-after w a s e z (record { made = x .card; left = refl });
+        disk = made-after w a s e z (record { made = x .disk; left = refl });
+      }
 
-module _ (c d : List ℕ) (b a s : ℕ) where
-  pub load-refused : s ≡ loadRefusal c d b → (s ≡ 0 → ⊥) → Finished (loadWork c d b) a c c d d (Refused s)
-  unfolding loadWork
-  load-refused e h = refused (loadWork c d b) a c d s e h
+module _ (c d : List ℕ) (m : Map) (b a : ℕ) where
+  module _ (r : Room) (x : Roomed c d m b r) where
+    pub load-refused : (r .refusal ≡ 0 → ⊥) → Finished (loadWork c d m b) a m c c d d (record { answer = Refused (r .refusal); map = m })
+    unfolding loadWork
+    load-refused h = refused (loadWork c d m b) a m c d (r .refusal) (x .refusal-is) h
 
-  pub load-finished : s ≡ loadRefusal c d b → s ≡ 0 → (g : Geometry) (p i : ℕ) → g ≡ geometryOf c → p ≡ newBlock (geometryOf c) c 0
-      → i ≡ getD (unusedEntries (geometryOf c) c) 0 0 → (c′ : List ℕ) (r : Answer)
-      → Moved (flat (loadedRuns g d b p i)) a c c′ d d r
-      → Finished (loadWork c d b) a c c′ d d r
-  unfolding loadWork loadRuns cleanEntry
-  load-finished e z g p i qg qp qi c′ r x =
-      finished (loadWork c d b) a c d s e z c′ d r
-      (subst (λ (rs : List Run). Moved (flat rs) a c c′ d d r)
-      (λ t. loadedRuns (qg t) d b (qp t) (qi t)) x)
+    pub load-finished : r .refusal ≡ 0 → (g : Geometry) → g ≡ geometryOf c → (c′ : List ℕ) (y : Answer) (u : Stored)
+        → Moved (flat (loadedRuns g d b (r .block) (r .entry))) a c c′ d d y
+        → (u .answer ≡ y) × (u .map ≡ handedOn y m (r .map))
+        → Finished (loadWork c d m b) a m c c′ d d u
+    unfolding loadWork loadRuns cleanEntry
+    load-finished z g q c′ y u k h =
+        let f = x .free z in
+        finished (loadWork c d m b) a m c d (r .refusal) (x .refusal-is) z c′ d y (r .map) u
+        (subst (λ (rs : List Run). Moved (flat rs) a c c′ d d y) (λ t. loadedRuns (q t) d b (f .block t) (f .entry t)) k)
+        (f .map-is ∙ sym (load-map c d m b (sym (x .refusal-is) ∙ z)))
+        h
 
-  pub evict-refused : s ≡ evictRefusal c d b → (s ≡ 0 → ⊥) → Finished (evictWork c d b) a c c d d (Refused s)
-  unfolding evictWork
-  evict-refused e h = refused (evictWork c d b) a c d s e h
+  module _ (r : Place) (x : Located c d m b r) where
+    pub evict-refused : (r .refusal ≡ 0 → ⊥) → Finished (evictWork c d m b) a m c c d d (record { answer = Refused (r .refusal); map = m })
+    unfolding evictWork
+    evict-refused h = refused (evictWork c d m b) a m c d (r .refusal) (x .refusal-is) h
 
-  pub evict-finished : s ≡ evictRefusal c d b → s ≡ 0 → (g : Geometry) → g ≡ geometryOf c → (c′ d′ : List ℕ) (r : Answer)
-      → Moved (flat (evictRuns g c b)) a c c′ d d′ r → Finished (evictWork c d b) a c c′ d d′ r
-  unfolding evictWork
-  evict-finished e z g q c′ d′ r x =
-      finished (evictWork c d b) a c d s e z c′ d′ r (subst (λ (y : Geometry). Moved (flat (evictRuns y c b)) a c c′ d d′ r) q x)
+    pub evict-finished : r .refusal ≡ 0 → (g : Geometry) → g ≡ geometryOf c → (e : Entry) → e ≡ entryAt g c (r .at) → (new : Map)
+        → new ≡ withoutBit m (e .current) → (c′ d′ : List ℕ) (y : Answer) (u : Stored)
+        → Moved (flat (evictRuns g c b)) a c c′ d d′ y
+        → (u .answer ≡ y) × (u .map ≡ handedOn y m new)
+        → Finished (evictWork c d m b) a m c c′ d d′ u
+    unfolding evictWork
+    evict-finished z g q e i new w c′ d′ y u k h =
+        finished (evictWork c d m b) a m c d (r .refusal) (x .refusal-is) z c′ d′ y new u
+        (subst (λ (j : Geometry). Moved (flat (evictRuns j c b)) a c c′ d d′ y) q k)
+        (w ∙ evict-freed c d m b r x z g q e i)
+        h

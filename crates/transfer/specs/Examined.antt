@@ -1,42 +1,57 @@
 -- What load and evict find before they store anything.
 use Prim.Native.Nat.{ℕ}
 use mathlib.Core.List.{List}
-use mathlib.Core.Bool.{not}
+use mathlib.Core.Bool.{true, not, _||_}
 use mathlib.Core.Path.{_≡_}
 use lib.ListN.{getD}
+use lib.Dec.{eqb}
 use Rattle.protocol.specs.declared.Geometry.{Geometry}
+use Rattle.protocol.specs.declared.Map.{Map}
 use Rattle.protocol.specs.Layout.{geometryOf}
 use Rattle.protocol.specs.Ring.{findEntry, cached}
-use Rattle.protocol.specs.Check.{refuse, _orElse_}
+use Rattle.protocol.specs.Check.{refuse, _orElse_, entriesFit}
 use Rattle.protocol.specs.Search.{unusedEntries}
+use Rattle.protocol.specs.Map.{mapBy, isMarked, mapRefusal}
 use Rattle.protocol.specs.Commit.{newBlock, roomFor}
 use Rattle.protocol.specs.Load.{pairRefusal, blockRefusal, loadRefusal, evictRefusal}
-use Rattle.plan.specs.Planned.{Keyed}
+use Rattle.ring.specs.Fitted.{Fitted}
+use Rattle.checks.specs.Keys.{numberKey, Lists}
 use Rattle.transfer.specs.declared.Room.{Room}
 use Rattle.transfer.specs.declared.Place.{Place}
 
--- the refusals that load and evict share: 1 to 7, and 10
-unfoldable pub sharedRefusal : List ℕ → List ℕ → ℕ → ℕ
-sharedRefusal c d b = pairRefusal c d orElse blockRefusal (geometryOf c) b
+-- the refusals that load and evict share: 1 to 7, 15 and 10
+unfoldable pub sharedRefusal : List ℕ → List ℕ → Map → ℕ → ℕ
+sharedRefusal c d m b = pairRefusal c d orElse mapRefusal c m orElse blockRefusal (geometryOf c) b
 
--- what they found, and where none is given the keys of the card's entries
-pub record Examined (c d : List ℕ) (b : ℕ) (ids currents : List ℕ) (r : ℕ) : Type 0 where
-  pub refusal-is : r ≡ sharedRefusal c d b
-  pub keyed : r ≡ 0 → Keyed (geometryOf c) c ids currents
+-- a card that passed checks 1, 2 and 5, its map, and the keys of its entries' numbers
+pub record Listed (g : Geometry) (c : List ℕ) (m : Map) (ids : List ℕ) : Type 0 where
+  pub fitted : Fitted g c
+  pub fits : entriesFit g c ≡ true
+  pub map-is : m ≡ mapBy (isMarked g c)
+  pub numbers : Lists (numberKey g c) ids (g .blocks)
 
--- load's own refusals, and where none is given the first free data block and the first unused entry
+-- what they found, and where none is given the keys
+pub record Examined (c d : List ℕ) (m : Map) (b : ℕ) (ids : List ℕ) (r : ℕ) : Type 0 where
+  pub refusal-is : r ≡ sharedRefusal c d m b
+  pub listed : r ≡ 0 → Listed (geometryOf c) c m ids
+
+-- the first free data block with the map in which it is marked, and the first unused entry
+pub record Free (g : Geometry) (c : List ℕ) (r : Room) : Type 0 where
+  pub block : r .block ≡ newBlock g c 0
+  pub entry : r .entry ≡ getD (unusedEntries g c) 0 0
+  pub map-is : r .map ≡ mapBy (λ x. isMarked g c x || eqb (newBlock g c 0) x)
+
+-- load's own refusals, and where none is given its room
 pub record Chosen (g : Geometry) (c : List ℕ) (b : ℕ) (r : Room) : Type 0 where
   pub refusal-is : r .refusal ≡ refuse 12 (not (cached g c b)) orElse refuse 14 (roomFor g c 1)
-  pub block : r .refusal ≡ 0 → r .block ≡ newBlock g c 0
-  pub entry : r .refusal ≡ 0 → r .entry ≡ getD (unusedEntries g c) 0 0
+  pub free : r .refusal ≡ 0 → Free g c r
 
--- all of load's refusals, and where none is given the block and the entry
-pub record Roomed (c d : List ℕ) (b : ℕ) (r : Room) : Type 0 where
-  pub refusal-is : r .refusal ≡ loadRefusal c d b
-  pub block : r .refusal ≡ 0 → r .block ≡ newBlock (geometryOf c) c 0
-  pub entry : r .refusal ≡ 0 → r .entry ≡ getD (unusedEntries (geometryOf c) c) 0 0
+-- all of load's refusals, and where none is given its room
+pub record Roomed (c d : List ℕ) (m : Map) (b : ℕ) (r : Room) : Type 0 where
+  pub refusal-is : r .refusal ≡ loadRefusal c d m b
+  pub free : r .refusal ≡ 0 → Free (geometryOf c) c r
 
 -- all of evict's refusals, and where none is given the place of the entry for b
-pub record Located (c d : List ℕ) (b : ℕ) (r : Place) : Type 0 where
-  pub refusal-is : r .refusal ≡ evictRefusal c d b
+pub record Located (c d : List ℕ) (m : Map) (b : ℕ) (r : Place) : Type 0 where
+  pub refusal-is : r .refusal ≡ evictRefusal c d m b
   pub at : r .refusal ≡ 0 → r .at ≡ findEntry (geometryOf c) c b

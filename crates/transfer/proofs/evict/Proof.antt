@@ -1,6 +1,6 @@
--- `evict` answers its definition and leaves the card and the disk as defined, refused or not.
+-- `evict` answers its definition, hands its map on and leaves the card and the disk as defined, refused or not.
 use borrow.Author.Needs.{needs}
-use Rattle.transfer.proofs.Found.{evict-long, evict-goes}
+use Rattle.transfer.proofs.Found.{evict-long, evict-place, evict-few, evict-goes}
 use Rattle.transfer.proofs.Moving.{evict-refused, evict-finished}
 use Rattle.transfer.proofs.evict.Statement.{statement}
 use Rattle.transfer.proofs.evict.Tie as tie
@@ -15,16 +15,32 @@ same-length-2 : tie.Need-same-length-2
 same-length-2 c = search needs
 
 returns : tie.Need-returns
-returns c = let f = c .before .before in evict-refused _ _ _ _ _ (f .find-cached .ensures .refusal-is) (c .if1 .taken)
+returns c = search (evict-refused, needs)
 
 geometry-of-requires : tie.Need-geometry-of-requires
 geometry-of-requires c κs = search (evict-long, needs)
 
+entry-of-requires : tie.Need-entry-of-requires
+entry-of-requires c κs =
+    let g = c .before in
+    let e = g .before .before in
+    evict-place _ _ _ _ _ (e .before .before .find-cached .ensures) (e .if1 .left) _ (g .geometry-of .ensures)
+
+cast-without : tie.Need-cast-without
+cast-without c = search needs
+
+without-requires : tie.Need-without-requires
+without-requires c κs = search (evict-few, needs)
+
 make-evict-requires : tie.Need-make-evict-requires
 make-evict-requires c κs =
-    let g = c .before .before in
+    let i = c .before .before .before .before in
+    let g = i .before .before in
     let e = g .before .before in
-    evict-goes _ _ _ _ (e .before .before .find-cached .ensures) (e .if1 .left) _ (g .geometry-of .ensures)
+    evict-goes _ _ _ _ _ (e .before .before .find-cached .ensures) (e .if1 .left) _ (g .geometry-of .ensures) _ (i .entry-of .ensures)
+
+hand-on-requires : tie.Need-hand-on-requires
+hand-on-requires c κs = search needs
 
 same-length-3 : tie.Need-same-length-3
 same-length-3 c = search needs
@@ -34,10 +50,13 @@ same-length-4 c = search needs
 
 returns-2 : tie.Need-returns-2
 returns-2 c =
-    let m = c .before .before .before .before in
-    let g = m .before .before .before in
+    let m = c .before .before .before .before .before in
+    let w = m .before .before .before in
+    let i = w .before .before in
+    let g = i .before .before in
     let e = g .before .before in
-    evict-finished _ _ _ _ _ (e .before .before .find-cached .ensures .refusal-is) (e .if1 .left) _ (g .geometry-of .ensures) _ _ _ (m .make-evict .ensures)
+    evict-finished _ _ _ _ _ _ (e .before .before .find-cached .ensures) (e .if1 .left) _ (g .geometry-of .ensures) _ (i .entry-of .ensures) _
+    (w .without .ensures) _ _ _ _ (m .make-evict .ensures) (c .hand-on .ensures)
 
 pub evict-spec : {M : Type 1} → statement M
 evict-spec =
@@ -48,7 +67,11 @@ evict-spec =
     same-length-2
     returns
     geometry-of-requires
+    entry-of-requires
+    cast-without
+    without-requires
     make-evict-requires
+    hand-on-requires
     same-length-3
     same-length-4
     returns-2)

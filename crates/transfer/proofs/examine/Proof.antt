@@ -1,7 +1,7 @@
 -- `examine` answers the refusals that load and evict share, or lists the keys: one law for each answer.
 use borrow.Author.Needs.{needs}
 use Rattle.ring.proofs.Laws.{fit-long, fit-fitted}
-use Rattle.transfer.proofs.Shared.{fit-good, examined-misfit, examined-disk, examined-damaged, examined-unsettled, examined-passed, examined-outside}
+use Rattle.transfer.proofs.Shared.{fit-good, examined-misfit, examined-disk, examined-damaged, examined-unsettled, examined-other, examined-passed, examined-outside}
 use Rattle.transfer.proofs.examine.Statement.{statement}
 use Rattle.transfer.proofs.examine.Tie as tie
 
@@ -29,11 +29,17 @@ returns-3 c = search (examined-damaged, needs)
 returns-4 : tie.Need-returns-4
 returns-4 c = search (examined-unsettled, needs)
 
+same-requires : tie.Need-same-requires
+same-requires c κs = search needs
+
 returns-5 : tie.Need-returns-5
-returns-5 c = search (examined-passed, needs)
+returns-5 c = search (examined-other, needs)
 
 returns-6 : tie.Need-returns-6
-returns-6 c = search (examined-outside, needs)
+returns-6 c = search (examined-passed, needs)
+
+returns-7 : tie.Need-returns-7
+returns-7 c = search (examined-outside, needs)
 
 pub examine-spec : {M : Type 1} → statement M
 examine-spec =
@@ -47,5 +53,7 @@ examine-spec =
     inspect-requires
     returns-3
     returns-4
+    same-requires
     returns-5
-    returns-6)
+    returns-6
+    returns-7)

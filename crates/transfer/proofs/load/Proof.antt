@@ -1,4 +1,4 @@
--- `load` answers its definition and leaves the card as defined, refused or not; the disk stays.
+-- `load` answers its definition, hands its map on and leaves the card as defined, refused or not; the disk stays.
 use borrow.Author.Needs.{needs}
 use Rattle.transfer.proofs.Found.{load-long, load-goes}
 use Rattle.transfer.proofs.Moving.{load-refused, load-finished}
@@ -12,27 +12,25 @@ same-length : tie.Need-same-length
 same-length c = search needs
 
 returns : tie.Need-returns
-returns c = let f = c .before .before in load-refused _ _ _ _ _ (f .find-room .ensures .refusal-is) (c .if1 .taken)
+returns c = search (load-refused, needs)
 
 geometry-of-requires : tie.Need-geometry-of-requires
 geometry-of-requires c κs = search (load-long, needs)
 
 make-load-requires : tie.Need-make-load-requires
 make-load-requires c κs =
-    let e = c .before .before .before in
-    load-goes _ _ _ _ (e .before .before .find-room .ensures) (e .if1 .left) _ (c .before .geometry-of .ensures)
+    let g = c .before in
+    let e = g .before .before in
+    load-goes _ _ _ _ _ (e .before .before .find-room .ensures) (e .if1 .left) _ (g .geometry-of .ensures)
+
+hand-on-requires : tie.Need-hand-on-requires
+hand-on-requires c κs = search needs
 
 same-length-2 : tie.Need-same-length-2
 same-length-2 c = search needs
 
 returns-2 : tie.Need-returns-2
-returns-2 c =
-    let m = c .before .before in
-    let g = m .before .before in
-    let e = g .before .before in
-    let x = e .before .before .find-room .ensures in
-    let z = e .if1 .left in
-    load-finished _ _ _ _ _ (x .refusal-is) z _ _ _ (g .geometry-of .ensures) (x .block z) (x .entry z) _ _ (m .make-load .ensures)
+returns-2 c = search (load-finished, needs)
 
 pub load-spec : {M : Type 1} → statement M
 load-spec =
@@ -43,5 +41,6 @@ load-spec =
     returns
     geometry-of-requires
     make-load-requires
+    hand-on-requires
     same-length-2
     returns-2)

@@ -1,12 +1,9 @@
 -- `make_evict` makes evict's list of stores, of a clean block the one, of a modified block its sectors on the disk before it.
 use borrow.Author.Needs.{needs}
-use Rattle.transfer.proofs.Found.{current-below, card-holds}
+use Rattle.transfer.proofs.Found.{card-holds}
 use Rattle.transfer.proofs.Moving.{evicted-clean, evicted-modified}
 use Rattle.transfer.proofs.make_evict.Statement.{statement}
 use Rattle.transfer.proofs.make_evict.Tie as tie
-
-entry-of-requires : tie.Need-entry-of-requires
-entry-of-requires c κs = search needs
 
 is-modified-requires : tie.Need-is-modified-requires
 is-modified-requires c κs = search needs
@@ -27,10 +24,10 @@ cast-block-place : tie.Need-cast-block-place
 cast-block-place c = search needs
 
 block-place-requires : tie.Need-block-place-requires
-block-place-requires c κs = search (current-below, needs)
+block-place-requires c κs = search needs
 
 make-sectors-requires : tie.Need-make-sectors-requires
-make-sectors-requires c κs = search (card-holds, current-below, needs)
+make-sectors-requires c κs = search (card-holds, needs)
 
 make-entry-at-requires-2 : tie.Need-make-entry-at-requires-2
 make-entry-at-requires-2 c κs = search needs
@@ -57,7 +54,6 @@ pub make-evict-spec : {M : Type 1} → statement M
 make-evict-spec =
     tie.close
     (tie.spec
-    entry-of-requires
     is-modified-requires
     make-entry-at-requires
     answer-requires
