@@ -91,7 +91,11 @@ module _ (g : Geometry) (c : List ℕ) (i : ℕ) (f : Fitted g c) (good : goodEn
           (cond b
           (record { gone = withBit (m .gone) (entryAt g c i .current); come = cond q (m .come) (withBit (m .come) (entryAt g c i .previous)) })
           m)
-      go false e q k = record { gone = block-same (changedAt g c) (current g c) i (m .gone) (x .gone) (λ t. absurd-bool t e); come = block-same (changedAt g c) (previous g c) i (m .come) (x .come) (λ t. absurd-bool t e) }
+      go false e q k =
+          record {
+            gone = block-same (changedAt g c) (current g c) i (m .gone) (x .gone) (λ t. absurd-bool t e);
+            come = block-same (changedAt g c) (previous g c) i (m .come) (x .come) (λ t. absurd-bool t e);
+          }
       go true e true k =
           record {
             gone = block-more (changedAt g c) (current g c) i (m .gone) (x .gone) e current-small;
