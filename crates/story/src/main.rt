@@ -99,50 +99,66 @@ fn first_part(card: &mut [u8], disk: &[u8]) -> Map {
     let m2 = save_two(card, m1, 2, 3, 8, 68);
     print::state(lookup::state(card));
     read(card, disk, 2);
-    let m3 = load(card, disk, m2, 9, AMPLE);
-    let m4 = recover(card, m1, AMPLE);
-    let m5 = recover(card, m3, AMPLE);
+    load(card, disk, m2, 9, AMPLE)
+}
+
+// A recovery with a map of zeros, and one with the card's.
+fn taken_back(card: &mut [u8], disk: &[u8], map: Map) -> Map {
+    recover(card, Map { low: 0, high: 0 }, AMPLE);
+    let m = recover(card, map, AMPLE);
     read(card, disk, 2);
     read(card, disk, 3);
-    m5
+    m
 }
 
 // A save cut at its last role switch, and a recovery cut after its first store.
-fn second_part(card: &mut [u8], disk: &[u8], map: Map) -> Map {
+fn second_part(card: &mut [u8], map: Map) -> Map {
     let m1 = save_two(card, map, 2, 3, 9, 136);
     print::state(lookup::state(card));
     let m2 = recover(card, m1, 1);
     print::state(lookup::state(card));
-    let m3 = recover(card, m2, AMPLE);
-    let m4 = recover(card, m3, AMPLE);
+    m2
+}
+
+fn taken_back_again(card: &mut [u8], disk: &[u8], map: Map) -> Map {
+    let m1 = recover(card, map, AMPLE);
+    let m2 = recover(card, m1, AMPLE);
     read(card, disk, 2);
-    let m5 = save_two(card, m4, 3, 2, 10, AMPLE);
+    let m3 = save_two(card, m2, 3, 2, 10, AMPLE);
     read(card, disk, 2);
     print::state(lookup::state(card));
-    m5
+    m3
 }
 
-// The card fills up; an evict makes room.
-fn third_part(card: &mut [u8], disk: &mut [u8], map: Map) -> Map {
+// The card fills up.
+fn third_part(card: &mut [u8], map: Map) -> Map {
     let m1 = save_one(card, map, 5, 11, AMPLE);
     free(m1);
-    let m2 = save_two(card, m1, 6, 7, 12, AMPLE);
-    let m3 = evict(card, disk, m2, 2, 1);
-    read(card, disk, 2);
-    let m4 = evict(card, disk, m3, 2, AMPLE);
-    free(m4);
-    read(card, disk, 2);
-    m4
+    save_two(card, m1, 6, 7, 12, AMPLE)
 }
 
-// A load cut before its entry, and one that finishes.
-fn fourth_part(card: &mut [u8], disk: &mut [u8], map: Map) -> Map {
+// An evict makes room.
+fn room(card: &mut [u8], disk: &mut [u8], map: Map) -> Map {
+    let m1 = evict(card, disk, map, 2, 1);
+    read(card, disk, 2);
+    let m2 = evict(card, disk, m1, 2, AMPLE);
+    free(m2);
+    read(card, disk, 2);
+    m2
+}
+
+// A load cut before its entry, one that finishes, one of a cached block, and one with the map of before.
+fn fourth_part(card: &mut [u8], disk: &[u8], map: Map) -> Map {
     let m1 = load(card, disk, map, 2, 64);
     let m2 = load(card, disk, m1, 2, AMPLE);
     let m3 = load(card, disk, m2, 2, AMPLE);
-    let m4 = load(card, disk, m1, 2, AMPLE);
-    let m5 = evict(card, disk, m3, 9, AMPLE);
-    evict(card, disk, m5, 2, AMPLE)
+    load(card, disk, m1, 2, AMPLE);
+    m3
+}
+
+fn drained(card: &mut [u8], disk: &mut [u8], map: Map) -> Map {
+    let m = evict(card, disk, map, 9, AMPLE);
+    evict(card, disk, m, 2, AMPLE)
 }
 
 fn refusals(card: &mut [u8], map: Map) -> Map {
@@ -163,15 +179,31 @@ fn last_part(card: &mut [u8], disk: &[u8], map: Map) {
     print::state(lookup::state(card));
 }
 
+fn first_half(card: &mut [u8], disk: &[u8]) -> Map {
+    let m1 = first_part(card, disk);
+    let m2 = taken_back(card, disk, m1);
+    let m3 = second_part(card, m2);
+    taken_back_again(card, disk, m3)
+}
+
+fn second_half(card: &mut [u8], disk: &mut [u8], map: Map) -> Map {
+    let m1 = third_part(card, map);
+    let m2 = room(card, disk, m1);
+    let m3 = fourth_part(card, disk, m2);
+    drained(card, disk, m3)
+}
+
+fn ending(card: &mut [u8], disk: &[u8], map: Map) {
+    let m = refusals(card, map);
+    last_part(card, disk, m);
+}
+
 fn main() {
     let mut card = [0u8; 2304];
     let mut disk = [1u8; 8192];
     print::text(b"format");
     print::outcome(format::format(9, 8, 4, 16, &mut card));
-    let m1 = first_part(&mut card, &disk);
-    let m2 = second_part(&mut card, &disk, m1);
-    let m3 = third_part(&mut card, &mut disk, m2);
-    let m4 = fourth_part(&mut card, &mut disk, m3);
-    let m5 = refusals(&mut card, m4);
-    last_part(&mut card, &disk, m5);
+    let m1 = first_half(&mut card, &disk);
+    let m2 = second_half(&mut card, &mut disk, m1);
+    ending(&mut card, &disk, m2);
 }
