@@ -167,10 +167,6 @@ module _ (g : Geometry) (c : List ℕ) where
         let rest = and-right (distinct (numberKey g c) NONE (g .blocks)) _ h in
         apart-of-keys dn (and-left (distinct (currentKey g c) 128 (g .blocks)) _ rest) (and-right (distinct (currentKey g c) 128 (g .blocks)) _ rest))
 
-    pub currents-distinct : entriesApart g c ≡ true → distinct (currentKey g c) 128 (g .blocks) ≡ true
-    currents-distinct a =
-        and-left (distinct (currentKey g c) 128 (g .blocks)) _ (and-right (distinct (numberKey g c) NONE (g .blocks)) _ (sym apart-keys ∙ a))
-
   -- ---- a settled card
 
   pub settled-keys : isSettled g c ≡ true → (i : ℕ) → i < g .blocks → currentKey g c i ≡ settledKey g c i

@@ -20,7 +20,6 @@ use Rattle.checks.specs.declared.Seen.{Seen}
 use Rattle.checks.specs.declared.Verdict.{Verdict}
 use Rattle.checks.specs.Keys.{currentKey, keyAt}
 use Rattle.checks.specs.Passed.{Decoded, MarkedBy, Comparable, Inspected}
-use Rattle.checks.proofs.Keys.{currents-distinct}
 use Rattle.checks.proofs.Marking.{map-given}
 use Rattle.checks.proofs.Settled.{listed-distinct}
 
@@ -101,15 +100,8 @@ module _ (g : Geometry) (c ns cs : List ℕ) (r : Bool) (ring : r ≡ ringFits g
             settled-is = λ w. settled-test h t eh et;
             numbers = λ w. d .numbers on;
             currents = λ w. d .currents on;
-            map-is = λ w. z _ (x .map-is marks-apart) ∙ map-given g c cs (f .good) (d .currents on);
+            map-is = λ w. z _ (x .map-is) ∙ map-given g c cs (f .good) (d .currents on);
           }
-        where
-          -- check 6 has passed, and with it the current blocks
-          marks-apart : m .apart ≡ true
-          marks-apart =
-              let on : s .fits ≡ true = not-false (s .fits) fits in
-              listed-distinct (currentKey g c) cs 128 (g .blocks) (m .apart) (d .currents on) (x .apart-is)
-              ∙ currents-distinct g c (f .good) (sym (d .fits) ∙ on) (sym q ∙ not-false p o)
 
 -- ---- check 7
 

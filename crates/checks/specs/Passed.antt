@@ -21,10 +21,10 @@ pub record Decoded (g : Geometry) (c : List ℕ) (ns cs : List ℕ) (s : Seen) :
   pub numbers : s .fits ≡ true → Lists (numberKey g c) ns (g .blocks)
   pub currents : s .fits ≡ true → Lists (currentKey g c) cs (g .blocks)
 
--- whether the first n keys of f that are data blocks differ, and where they do a bit for each block that is a key
+-- whether the first n keys of f that are data blocks differ, and a bit for each block that is a key
 pub record MarkedBy (f : ℕ → ℕ) (n : ℕ) (m : Marks) : Type 0 where
   pub apart-is : m .apart ≡ distinct f 128 n
-  pub map-is : m .apart ≡ true → m .map ≡ mapBy (λ d. anyBelow (keyed f d) n)
+  pub map-is : m .map ≡ mapBy (λ d. anyBelow (keyed f d) n)
 
 -- what check 6 starts from: a card that passed checks 1 to 5, the keys of its numbers listed, whether its current blocks are apart, and
 -- whether it is settled

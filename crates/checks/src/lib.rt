@@ -97,7 +97,8 @@ fn wide(k: u32) -> usize
     k as usize
 }
 
-// Whether no two keys of data blocks are equal, and where that is so a mark for each block that is a key.
+// Whether no two keys of data blocks are equal, and a mark for each block that is a key. It looks at all of them: a way out on the first
+// equal pair would make a jump of each test, and which word a block is in is not to be foreseen.
 pub struct Marks {
     pub apart: bool,
     pub map: Map,
@@ -108,22 +109,18 @@ fn mark_blocks(keys: &[u32; 128], n: usize) -> Marks
     ensures { λ r. ⌜ MarkedBy (keyAt (now (keys .entry))) n r ⌝ }
 {
     let mut map = Map { low: 0, high: 0 };
+    let mut apart = true;
     let mut i: usize = 0;
     while i < n {
         let k = wide(keys[i]);
         i += 1;
         if k < 128 {
-            if freemap::has(map, k) {
-                return Marks {
-                    apart: false,
-                    map: map,
-                };
-            }
+            apart = apart & !freemap::has(map, k);
             map = freemap::with(map, k);
         }
     }
     Marks {
-        apart: true,
+        apart: apart,
         map: map,
     }
 }

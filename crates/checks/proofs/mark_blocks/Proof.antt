@@ -1,19 +1,20 @@
--- `mark_blocks` answers whether the keys are distinct, and marks them. The invariant: the keys passed are, and exactly they are marked.
+-- `mark_blocks` answers whether the keys are distinct, and marks them. The invariant: so it does for the keys passed.
 use Prim.Native.Nat.{_≤_, _-_}
 use Rattle.checks.specs.Keys.{keyAt}
-use Rattle.checks.proofs.Marking.{Marked, marked-start, marked-skip, marked-more, marked-clash, marked-end}
+use Rattle.checks.specs.Passed.{MarkedBy}
+use Rattle.checks.proofs.Marking.{marked-start, marked-skip, marked-more, marked-end}
 use borrow.Author.Needs.{needs}
 use Rattle.checks.proofs.mark_blocks.Statement.{statement}
 use Rattle.checks.proofs.mark_blocks.Tie as tie
 
 abbrev Inv-loop : tie.InvT-loop
-Inv-loop keys n map₀ i₀ map i = (i ≤ n) × Marked (keyAt keys) map i
+Inv-loop keys n map₀ apart₀ i₀ map apart i = (i ≤ n) × MarkedBy (keyAt keys) i (record { apart = apart; map = map })
 
 abbrev μ-loop : tie.MeasureT-loop
-μ-loop keys n map₀ i₀ map i = n - i
+μ-loop keys n map₀ apart₀ i₀ map apart i = n - i
 
 loop-holds : tie.Need-loop-holds Inv-loop μ-loop
-loop-holds c = search (marked-start, needs)
+loop-holds c = (search needs, marked-start _)
 
 mul-wide : tie.Need-mul-wide Inv-loop μ-loop
 mul-wide c = search needs
@@ -29,10 +30,6 @@ add-i c = search needs
 
 has-requires : tie.Need-has-requires Inv-loop μ-loop
 has-requires c κs = search needs
-
-returns : tie.Need-returns Inv-loop μ-loop
-unfolding keyAt
-returns c = search (marked-clash, needs)
 
 with-requires : tie.Need-with-requires Inv-loop μ-loop
 with-requires c κs = search needs
@@ -51,8 +48,8 @@ loop-again-2 : tie.Need-loop-again-2 Inv-loop μ-loop
 unfolding keyAt
 loop-again-2 c = (search needs, search (marked-skip, needs))
 
-returns-2 : tie.Need-returns-2 Inv-loop μ-loop
-returns-2 c = search (marked-end, needs)
+returns : tie.Need-returns Inv-loop μ-loop
+returns c = search (marked-end, needs)
 
 pub mark-blocks-spec : {M : Type 1} → statement M
 mark-blocks-spec =
@@ -66,10 +63,9 @@ mark-blocks-spec =
     wide-requires
     add-i
     has-requires
-    returns
     with-requires
     loop-less
     loop-again
     loop-less-2
     loop-again-2
-    returns-2)
+    returns)
