@@ -8,7 +8,7 @@ use mathlib.Core.Path.{_≡_, refl, sym, ap, _∙_, subst}
 use native.Mathlib.Numerals.{add-one}
 use native.Mathlib.Omega.{arith}
 use lib.Dec.{eqb, leb}
-use borrow.Author.Tests.{lt-ltb, le-ltb, eq-eqb, ne-eqb, le-leb, lt-leb}
+use borrow.Author.Tests.{lt-ltb, eq-eqb, ne-eqb, eqb-true, not-true, le-leb, lt-leb}
 use Rattle.protocol.specs.declared.Geometry.{Geometry}
 use Rattle.protocol.specs.declared.Map.{Map}
 use Rattle.protocol.specs.Below.{allBelow, anyBelow}
@@ -17,51 +17,131 @@ use Rattle.protocol.specs.Entry.{entryAt}
 use Rattle.protocol.specs.Ring.{usedAt}
 use Rattle.protocol.specs.Search.{takenBy}
 use Rattle.protocol.specs.Map.{mapBy, isMarked}
-use Rattle.protocol.proofs.Below.{below-or-above, or-none, or-right, any-cong, any-miss}
+use Rattle.protocol.proofs.Below.{either, absurd-bool, bool-same, below-or-above, and-left, and-right, and-both, and-fails, or-none, or-left, or-right, any-found, any-cong, any-miss}
 use Rattle.protocol.proofs.Checks.{Limits, limits}
 use Rattle.protocol.proofs.Maps.{marked-below, marked-beyond}
 use Rattle.protocol.proofs.Words.{map-cong}
-use Rattle.freemap.specs.Bits.{withBit, hasBit, movedMap}
-use Rattle.freemap.proofs.Maps.{with-by, has-by, moved-by, empty-by}
-use Rattle.checks.specs.Keys.{NONE, key, currentKey, keyed, lone, distinct, keyAt, Lists}
+use Rattle.freemap.specs.Bits.{withBit, sharedMap, emptyMap, movedMap}
+use Rattle.freemap.proofs.Maps.{with-by, shared-by, moved-by, empty-by, empty-of, empty-at}
+use Rattle.checks.specs.Keys.{NONE, key, currentKey, keyed, lone, distinct, twice}
 use Rattle.checks.specs.declared.Marks.{Marks}
-use Rattle.checks.specs.Passed.{MarkedBy}
+use Rattle.checks.specs.Passed.{Marking, MarkedBy}
+use Rattle.checks.proofs.Keys.{distinct-of}
 
 and-true : (a : Bool) → a && true ≡ a
 and-true true = refl
 and-true false = refl
 
--- after i keys
-module _ (f : ℕ → ℕ) (m : Map) (apart : Bool) (i : ℕ) (h : MarkedBy f i (record { apart = apart; map = m })) where
-  pub marked-skip : (k : ℕ) → k ≡ f i → 128 ≤ k → MarkedBy f (i + 1) (record { apart = apart; map = m })
-  unfolding distinct lone keyed allBelow
-  marked-skip k q b = record {
-    apart-is = h .apart-is ∙ sym (rw (add-one, le-ltb (f i) 128 (omega arith)) (and-true (distinct f 128 i)));
-    map-is = h .map-is ∙ map-cong _ _ (λ v l. sym (any-miss (keyed f v) i (ne-eqb (f i) v (omega arith))));
-  }
+-- ---- one block more
 
-  pub marked-more : (k : ℕ) (t : Bool) (n : Map) → k ≡ f i → k < 128 → t ≡ hasBit m k → n ≡ withBit m k
-      → MarkedBy f (i + 1) (record { apart = apart && not t; map = n })
-  unfolding distinct lone keyed anyBelow allBelow
-  marked-more k t n q b e w =
-      let seen : anyBelow (keyed f (f i)) i ≡ t =
-      ap (λ (v : ℕ). anyBelow (keyed f v) i) (sym q)
-      ∙ sym (e ∙ ap (λ (z : Map). hasBit z k) (h .map-is) ∙ has-by (λ v. anyBelow (keyed f v) i) k b) in
-      let b′ : f i < 128 = subst (λ (j : ℕ). j < 128) q b in
+-- bits set and none cleared
+joined : (p q : ℕ → Bool) (m n nothing r : Map) → m ≡ mapBy p → n ≡ mapBy q → _≡_ {A = Map} nothing (record { low = 0; high = 0 })
+    → r ≡ movedMap m nothing n → r ≡ mapBy (λ x. p x || q x)
+joined p q m n nothing r a b e h =
+    h ∙ (λ t. movedMap (a t) ((e ∙ empty-by) t) (b t)) ∙ moved-by p (λ x. false) q
+    ∙ map-cong _ _ (λ x l. ap (λ (y : Bool). y || q x) (and-true (p x)))
+
+module _ (m : Marks) (d : ℕ) (b : d < 128) (nothing block both map again : Map) (e : _≡_ {A = Map} nothing (record { low = 0; high = 0 }))
+    (block-is : block ≡ withBit nothing d) (both-is : both ≡ sharedMap (m .map) block) (map-is : map ≡ movedMap (m .map) nothing block)
+    (again-is : again ≡ movedMap (m .again) nothing both) where
+  one : block ≡ mapBy (λ x. eqb d x)
+  one = block-is ∙ ap (λ (y : Map). withBit y d) (e ∙ empty-by) ∙ with-by (λ x. false) d b
+
+  pub marked-once : (p q : ℕ → Bool) → Marking p q m
+      → Marking (λ x. p x || eqb d x) (λ x. q x || (p x && eqb d x)) (record { map = map; again = again })
+  marked-once p q h =
       record {
-        apart-is = (λ y. h .apart-is y && not (sym seen y)) ∙ sym (rw (add-one, lt-ltb (f i) 128 b′));
-        map-is =
-            w ∙ ap (λ (y : Map). withBit y k) (h .map-is) ∙ with-by (λ v. anyBelow (keyed f v) i) k b
-            ∙ map-cong _ _
-            (λ v l. ap (λ (j : ℕ). anyBelow (keyed f v) i || eqb j v) q ∙ ap (anyBelow (keyed f v)) (sym (add-one i)));
+        map-is = joined p (eqb d) (m .map) block nothing map (h .map-is) one e map-is;
+        again-is =
+            joined q (λ x. p x && eqb d x) (m .again) both nothing again (h .again-is)
+            (both-is ∙ (λ t. sharedMap (h .map-is t) (one t)) ∙ shared-by p (eqb d)) e again-is;
       }
 
-pub marked-start : (f : ℕ → ℕ) → MarkedBy f 0 (record { apart = true; map = record { low = 0; high = 0 } })
-unfolding anyBelow distinct allBelow
-marked-start f = record { apart-is = refl; map-is = empty-by }
+-- ---- the keys in turn
+
+pub marked-start : (f : ℕ → ℕ) (m : Marks) → Marking (λ x. false) (λ x. false) m → MarkedBy f 0 m
+unfolding anyBelow twice
+marked-start f m h = h
+
+module _ (f : ℕ → ℕ) (m : Marks) (i k : ℕ) (h : MarkedBy f i m) (q : k ≡ f i) where
+  pub marked-skip : 128 ≤ k → MarkedBy f (i + 1) m
+  unfolding keyed twice
+  marked-skip b =
+      record {
+        map-is = h .map-is ∙ map-cong _ _ (λ v l. sym (any-miss (keyed f v) i (other v l)));
+        again-is =
+            h .again-is
+            ∙ map-cong _ _
+            (λ v l.
+            sym
+            (ap (twice f v) (add-one i)
+            ∙ ap (λ (t : Bool). twice f v i || t) (and-fails (anyBelow (keyed f v) i) _ (other v l))
+            ∙ or-none (twice f v i)));
+      }
+    where
+      other : (v : ℕ) → v < 128 → keyed f v i ≡ false
+      other v l = ne-eqb (f i) v (omega arith)
+
+  pub marked-more : (r : Marks)
+      → ((p t : ℕ → Bool) → Marking p t m → Marking (λ x. p x || eqb k x) (λ x. t x || (p x && eqb k x)) r) → MarkedBy f (i + 1) r
+  unfolding anyBelow keyed twice
+  marked-more r e =
+      let x = e _ _ h in
+      record {
+        map-is = x .map-is ∙ map-cong _ _ (λ v l. ap (λ (j : ℕ). anyBelow (keyed f v) i || eqb j v) q ∙ ap (anyBelow (keyed f v)) (sym (add-one i)));
+        again-is =
+            x .again-is
+            ∙ map-cong _ _
+            (λ v l. ap (λ (j : ℕ). twice f v i || (anyBelow (keyed f v) i && eqb j v)) q ∙ ap (twice f v) (sym (add-one i)));
+      }
 
 pub marked-end : (f : ℕ → ℕ) (m : Marks) (i n : ℕ) → MarkedBy f i m → i ≤ n → n ≤ i → MarkedBy f n m
 marked-end f m i n h a b = let e : i ≡ n = omega arith in subst (λ (z : ℕ). MarkedBy f z m) e h
+
+-- ---- no block twice
+
+-- once twice, always twice
+twice-stays : (f : ℕ → ℕ) (v i n : ℕ) → i ≤ n → twice f v i ≡ true → twice f v n ≡ true
+unfolding twice
+twice-stays f v i zero l h = let e : i ≡ 0 = omega arith in ap (twice f v) (sym e) ∙ h
+twice-stays f v i (suc n) l h =
+    ⊎-elim
+    (λ (b : n < i). let e : i ≡ suc n = omega arith in ap (twice f v) (sym e) ∙ h)
+    (λ (b : i ≤ n). or-left (twice f v n) _ (twice-stays f v i n b h))
+    (below-or-above n i)
+
+distinct-once : (f : ℕ → ℕ) (n : ℕ) → distinct f 128 n ≡ true → (v : ℕ) → v < 128 → twice f v n ≡ false
+unfolding distinct lone keyed allBelow twice
+distinct-once f zero d v l = refl
+distinct-once f (suc n) d v l =
+    let before : twice f v n ≡ false = distinct-once f n (and-left (distinct f 128 n) _ d) v l in
+    ap (λ (t : Bool). t || (anyBelow (keyed f v) n && keyed f v n)) before
+    ∙ ⊎-elim
+    (λ e.
+    let q : f n ≡ v = eqb-true _ _ e in
+    let none : anyBelow (keyed f (f n)) n ≡ false =
+    ap (λ (t : Bool). t && anyBelow (keyed f (f n)) n) (sym (lt-ltb (f n) 128 (omega arith)))
+    ∙ not-true _ (and-right (distinct f 128 n) _ d) in
+    ap (λ (z : ℕ). anyBelow (keyed f z) n && eqb (f n) z) (sym q)
+    ∙ ap (λ (t : Bool). t && eqb (f n) (f n)) none)
+    (λ e. and-fails (anyBelow (keyed f v) n) _ e)
+    (either (keyed f v n))
+
+once-distinct : (f : ℕ → ℕ) (n : ℕ) → ((v : ℕ) → v < 128 → twice f v n ≡ false) → distinct f 128 n ≡ true
+unfolding twice keyed
+once-distinct f n h =
+    distinct-of f 128 n
+    (λ i j ji iN b e.
+    let found = any-found (keyed f (f i)) i j ji (eq-eqb (f j) (f i) e) in
+    let two : twice f (f i) (suc i) ≡ true = or-right (twice f (f i) i) _ (and-both found (eq-eqb (f i) (f i) refl)) in
+    absurd-bool (twice-stays f (f i) (suc i) n (omega arith) two) (h (f i) b))
+
+pub marked-apart : (f : ℕ → ℕ) (n : ℕ) (m : Marks) (t : Bool) → MarkedBy f n m → t ≡ emptyMap (m .again) → t ≡ distinct f 128 n
+marked-apart f n m t h e =
+    e ∙ ap emptyMap (h .again-is)
+    ∙ bool-same (emptyMap (mapBy (λ v. twice f v n))) (distinct f 128 n)
+    (λ z. once-distinct f n (empty-at (λ v. twice f v n) z))
+    (λ d. empty-of (λ v. twice f v n) (distinct-once f n d))
 
 -- ---- the card's map
 
@@ -77,23 +157,20 @@ few-blocks g good = let l : Limits g = limits g good in omega arith
 -- with the blocks from n on marked too
 pub whole-is : (n : ℕ) (marks nothing beyond r : Map) → _≡_ {A = Map} nothing (record { low = 0; high = 0 }) → beyond ≡ mapBy (leb n)
     → r ≡ movedMap marks nothing beyond → (p : ℕ → Bool) → marks ≡ mapBy p → r ≡ mapBy (λ d. p d || leb n d)
-whole-is n marks nothing beyond r e b q p h =
-    q ∙ (λ t. movedMap (h t) ((e ∙ empty-by) t) (b t)) ∙ moved-by p (λ x. false) (leb n)
-    ∙ map-cong _ _ (λ d l. ap (λ (t : Bool). t || leb n d) (and-true (p d)))
+whole-is n marks nothing beyond r e b q p h = joined p (leb n) marks beyond nothing r h b e q
 
-pub map-given : (g : Geometry) (c cs : List ℕ) → goodGeometry g ≡ true → Lists (currentKey g c) cs (g .blocks)
-    → mapBy (λ d. anyBelow (keyed (keyAt cs) d) (g .blocks) || leb (g .blocks) d) ≡ mapBy (isMarked g c)
+pub map-given : (g : Geometry) (c : List ℕ)
+    → mapBy (λ d. anyBelow (keyed (currentKey g c) d) (g .blocks) || leb (g .blocks) d) ≡ mapBy (isMarked g c)
 unfolding takenBy currentKey keyed
-map-given g c cs good h =
+map-given g c =
     map-cong _ _
     (λ d l.
     ⊎-elim
     (λ (b : d < g .blocks).
-    ap (λ (t : Bool). anyBelow (keyed (keyAt cs) d) (g .blocks) || t) (lt-leb (g .blocks) d b)
-    ∙ or-none (anyBelow (keyed (keyAt cs) d) (g .blocks))
-    ∙ any-cong (keyed (keyAt cs) d) (takenBy g c d) (g .blocks)
-    (λ i k. ap (λ (x : ℕ). eqb x d) (h i k) ∙ key-taken (usedAt g c i) (entryAt g c i .current) d l)
+    ap (λ (t : Bool). anyBelow (keyed (currentKey g c) d) (g .blocks) || t) (lt-leb (g .blocks) d b)
+    ∙ or-none (anyBelow (keyed (currentKey g c) d) (g .blocks))
+    ∙ any-cong (keyed (currentKey g c) d) (takenBy g c d) (g .blocks) (λ i k. key-taken (usedAt g c i) (entryAt g c i .current) d l)
     ∙ sym (marked-below g c d b))
     (λ (b : g .blocks ≤ d).
-    or-right (anyBelow (keyed (keyAt cs) d) (g .blocks)) (leb (g .blocks) d) (le-leb (g .blocks) d b) ∙ sym (marked-beyond g c d b))
+    or-right (anyBelow (keyed (currentKey g c) d) (g .blocks)) (leb (g .blocks) d) (le-leb (g .blocks) d b) ∙ sym (marked-beyond g c d b))
     (below-or-above d (g .blocks)))

@@ -12,16 +12,15 @@ use Rattle.protocol.specs.Below.{allBelow}
 use Rattle.protocol.specs.Ring.{headOf, tailOf, windowOf, isSettled}
 use Rattle.protocol.specs.Check.{refuse, _orElse_, windowNumberFits, ringFits, entriesFit, entriesApart, damageRefusal, cardRefusal}
 use Rattle.protocol.specs.Map.{mapBy}
+use Rattle.freemap.specs.Bits.{emptyMap}
 use Rattle.protocol.proofs.Below.{and-left, and-right}
 use Rattle.protocol.proofs.Checks.{refuse-passed, refuse-failed, orElse-first, orElse-next}
 use Rattle.ring.specs.Fitted.{Fitted, Placed}
-use Rattle.checks.specs.declared.Marks.{Marks}
 use Rattle.checks.specs.declared.Seen.{Seen}
 use Rattle.checks.specs.declared.Verdict.{Verdict}
-use Rattle.checks.specs.Keys.{currentKey, keyAt}
-use Rattle.checks.specs.Passed.{Decoded, MarkedBy, Comparable, Inspected}
-use Rattle.checks.proofs.Marking.{map-given}
-use Rattle.checks.proofs.Settled.{listed-distinct}
+use Rattle.checks.specs.Keys.{currentKey}
+use Rattle.checks.specs.Passed.{Decoded, Comparable, Inspected}
+use Rattle.checks.proofs.Marking.{marked-apart, map-given}
 
 ring-placed : (g : Geometry) (c : List ℕ) → ringFits g c ≡ true → Placed g c
 unfolding ringFits
@@ -76,31 +75,30 @@ module _ (g : Geometry) (c ns cs : List ℕ) (r : Bool) (ring : r ≡ ringFits g
       unfolding isSettled
       settled-test h t eh et = λ i. eqb (eh i) (et i) && d .quiet (not-false (s .fits) fits) i
 
-      pub comparable : (h t : ℕ) (m : Marks) → Fitted g c → h ≡ headOf c → t ≡ tailOf c → MarkedBy (keyAt cs) (g .blocks) m
-          → Comparable g c ns (m .apart) (eqb h t && s .quiet)
-      comparable h t m f eh et x =
+      pub comparable : (h t : ℕ) (a : Bool) → Fitted g c → h ≡ headOf c → t ≡ tailOf c → a ≡ emptyMap (s .marks .again)
+          → Comparable g c ns a (eqb h t && s .quiet)
+      comparable h t a f eh et e =
           let on : s .fits ≡ true = not-false (s .fits) fits in
           record {
             fitted = f;
             placed = ring-placed g c (sym ring ∙ not-false r rings);
             fits = sym (d .fits) ∙ on;
             numbers = d .numbers on;
-            apart-is = listed-distinct (currentKey g c) cs 128 (g .blocks) (m .apart) (d .currents on) (x .apart-is);
+            apart-is = marked-apart (currentKey g c) (g .blocks) (s .marks) a (d .marked on) e;
             settled-is = settled-test h t eh et;
           }
 
-      pub undamaged : (h t : ℕ) (p : Bool) (m : Marks) (y : Map) → Fitted g c → h ≡ headOf c → t ≡ tailOf c → p ≡ entriesApart g c
-          → not p ≡ false → MarkedBy (keyAt cs) (g .blocks) m
-          → ((k : ℕ → Bool) → m .map ≡ mapBy k → y ≡ mapBy (λ i. k i || leb (g .blocks) i))
+      pub undamaged : (h t : ℕ) (p : Bool) (y : Map) → h ≡ headOf c → t ≡ tailOf c → p ≡ entriesApart g c → not p ≡ false
+          → ((k : ℕ → Bool) → s .marks .map ≡ mapBy k → y ≡ mapBy (λ i. k i || leb (g .blocks) i))
           → Inspected g c ns cs (record { refusal = 0; settled = eqb h t && s .quiet; map = y })
-      undamaged h t p m y f eh et q o x z =
+      undamaged h t p y eh et q o z =
           let on : s .fits ≡ true = not-false (s .fits) fits in
           record {
             refusal-is = past-entries 0 (refuse-passed 6 (entriesApart g c) (sym q ∙ not-false p o));
             settled-is = λ w. settled-test h t eh et;
             numbers = λ w. d .numbers on;
             currents = λ w. d .currents on;
-            map-is = λ w. z _ (x .map-is) ∙ map-given g c cs (f .good) (d .currents on);
+            map-is = λ w. z _ (d .marked on .map-is) ∙ map-given g c;
           }
 
 -- ---- check 7

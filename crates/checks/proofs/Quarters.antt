@@ -5,7 +5,7 @@ use mathlib.Core.Logic.{_⊎_, inl, inr, ⊎-elim}
 use mathlib.Core.Path.{_≡_, ap, _∙_}
 use native.Mathlib.Omega.{arith}
 use lib.Dec.{eqb, ltb, leb}
-use borrow.Author.Tests.{eq-eqb, eqb-true, lt-ltb, ltb-true, le-leb, leb-true}
+use borrow.Author.Tests.{ltb-true, eq-eqb, eqb-true, lt-ltb, le-leb, leb-true}
 use Rattle.protocol.specs.Entry.{FRESH, entryOf, unused, inUse, hasLogRole, allowedFlags, isUnused, goodEntry}
 use Rattle.protocol.proofs.Below.{absurd-bool, bool-same, same-or-other, and-left, and-right, and-both, or-left, or-right, or-true}
 use Rattle.checks.specs.Keys.{key}
@@ -139,6 +139,13 @@ module _ (n d x l p q : ℕ) (m : d ≤ 65536) (b : p < 2 ^ 32) (h : zeroQuarter
       ⊎-elim
       (λ z. absurd-bool z h)
       (λ t. and-left (allowedQuarter x) (ltb l d && (ltb q n && leb ((p + 1) % 2 ^ 32) n)) t)
+      (or-true (zeroQuarters x l p q) _ (good-quarters n d x l p q m b ∙ g))
+
+  pub quarters-current : q < n
+  quarters-current =
+      ⊎-elim
+      (λ z. absurd-bool z h)
+      (λ t. ltb-true q n (and-left (ltb q n) _ (and-right (ltb l d) _ (and-right (allowedQuarter x) _ t))))
       (or-true (zeroQuarters x l p q) _ (good-quarters n d x l p q m b ∙ g))
 
   pub quarters-key : (v : ℕ) → v ≡ key (inUse (quartersEntry x l p q)) v

@@ -1,7 +1,7 @@
 -- Check 6 as a search for equal keys: what is compared of an entry, as one number, and when a row of keys has no two equal ones.
-use Prim.Native.Nat.{ℕ, _<_}
+use Prim.Native.Nat.{ℕ, zero, suc, _<_}
 use mathlib.Core.List.{List}
-use mathlib.Core.Bool.{Bool, cond, not, _&&_, _||_}
+use mathlib.Core.Bool.{Bool, false, cond, not, _&&_, _||_}
 use mathlib.Core.Path.{_≡_}
 use lib.ListN.{getD}
 use lib.Dec.{eqb, ltb}
@@ -46,6 +46,11 @@ lone f limit i = not (ltb (f i) limit && anyBelow (keyed f (f i)) i)
 -- no two of the first n indices have one key below the limit
 unfoldable pub distinct : (ℕ → ℕ) → ℕ → ℕ → Bool
 distinct f limit n = allBelow (lone f limit) n
+
+-- v is the key of two of the first n indices
+unfoldable pub twice : (ℕ → ℕ) → ℕ → ℕ → Bool
+twice f v zero = false
+twice f v (suc n) = twice f v n || (anyBelow (keyed f v) n && keyed f v n)
 
 -- the key in a row of keys
 unfoldable pub keyAt : List ℕ → ℕ → ℕ

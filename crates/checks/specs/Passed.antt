@@ -12,19 +12,24 @@ use Rattle.ring.specs.Fitted.{Fitted, Placed}
 use Rattle.checks.specs.declared.Seen.{Seen}
 use Rattle.checks.specs.declared.Marks.{Marks}
 use Rattle.checks.specs.declared.Verdict.{Verdict}
-use Rattle.checks.specs.Keys.{numberKey, currentKey, keyed, distinct, Lists}
+use Rattle.checks.specs.Keys.{numberKey, currentKey, keyed, twice, distinct, Lists}
 
--- what a pass over the entries found, and the keys that it listed where check 5 allows every entry
+-- the blocks that have p are marked, and those that have q are marked again
+pub record Marking (p q : ℕ → Bool) (m : Marks) : Type 0 where
+  pub map-is : m .map ≡ mapBy p
+  pub again-is : m .again ≡ mapBy q
+
+-- of the first n keys of f those that are data blocks are marked, and again where they came twice
+abbrev pub MarkedBy : (ℕ → ℕ) → ℕ → Marks → Type 0
+MarkedBy f n m = Marking (λ d. anyBelow (keyed f d) n) (λ d. twice f d n) m
+
+-- what a pass over the entries found, and where check 5 allows every entry the keys that it listed and the marks of the current blocks
 pub record Decoded (g : Geometry) (c : List ℕ) (ns cs : List ℕ) (s : Seen) : Type 0 where
   pub fits : s .fits ≡ entriesFit g c
   pub quiet : s .fits ≡ true → s .quiet ≡ allBelow (roleFreeAt g c) (g .blocks)
   pub numbers : s .fits ≡ true → Lists (numberKey g c) ns (g .blocks)
   pub currents : s .fits ≡ true → Lists (currentKey g c) cs (g .blocks)
-
--- whether the first n keys of f that are data blocks differ, and a bit for each block that is a key
-pub record MarkedBy (f : ℕ → ℕ) (n : ℕ) (m : Marks) : Type 0 where
-  pub apart-is : m .apart ≡ distinct f 128 n
-  pub map-is : m .map ≡ mapBy (λ d. anyBelow (keyed f d) n)
+  pub marked : s .fits ≡ true → MarkedBy (currentKey g c) (g .blocks) (s .marks)
 
 -- what check 6 starts from: a card that passed checks 1 to 5, the keys of its numbers listed, whether its current blocks are apart, and
 -- whether it is settled

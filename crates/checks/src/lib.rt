@@ -4,10 +4,10 @@ use protocol::Geometry;
 use protocol::Map;
 use ring::Window;
 ghost use mathlib.Core.Path.{_≡_};
-ghost use mathlib.Core.Bool.{Bool, true, false, _||_};
+ghost use mathlib.Core.Bool.{Bool, true, false, _&&_, _||_};
 ghost use Prim.Native.Nat.{ℕ, _≤_, _<_};
 ghost use lib.ListN.{length};
-ghost use lib.Dec.{leb};
+ghost use lib.Dec.{eqb, leb};
 ghost use Rattle.protocol.specs.Below.{anyBelow, firstBelow};
 ghost use Rattle.protocol.specs.Layout.{goodGeometry};
 ghost use Rattle.protocol.specs.Entry.{entryAt, goodEntry};
@@ -17,7 +17,7 @@ ghost use Rattle.ring.specs.Fitted.{Fitted, Placed, WindowOf};
 ghost use Rattle.checks.specs.Keys.{NONE, settledKey, undoableEntry, keyed, distinct, keyAt};
 ghost use Rattle.checks.specs.Chain.{Chained};
 ghost use Rattle.checks.specs.Quarters.{quartersEntry, Quarter};
-ghost use Rattle.checks.specs.Passed.{Decoded, MarkedBy, Comparable, Inspected};
+ghost use Rattle.checks.specs.Passed.{Marking, Decoded, Comparable, Inspected};
 
 // Entry i of the card.
 pub fn entry_of(g: Geometry, card: &[u8], i: usize) -> Entry
@@ -49,19 +49,57 @@ fn good_quarters(n: u64, d: u64, x: u64, l: u64, p: u64, q: u64) -> bool
     unused | (allowed & ((l < d) & ((q < n) & held)))
 }
 
-// What one pass over the entries finds: whether check 5 allows them all, and whether none has R.
+// Marks of data blocks: those that came, and those of them that came again.
+pub struct Marks {
+    pub map: Map,
+    pub again: Map,
+}
+
+fn no_marks() -> Marks
+    ensures { λ r. ⌜ Marking (λ x. false) (λ x. false) r ⌝ }
+{
+    Marks {
+        map: Map { low: 0, high: 0 },
+        again: Map { low: 0, high: 0 },
+    }
+}
+
+// One block more. No test jumps here: which word a block is in is not to be foreseen.
+fn mark(m: Marks, d: usize) -> Marks
+    requires { ⌜ d < 128 ⌝ }
+    ensures { λ r. ⌜ ((p q : ℕ → Bool) → Marking p q m → Marking (λ x. p x || eqb d x) (λ x. q x || (p x && eqb d x)) r) ⌝ }
+{
+    let nothing = Map { low: 0, high: 0 };
+    let block = freemap::with(nothing, d);
+    let map = m.map;
+    let again = m.again;
+    Marks {
+        map: freemap::moved(map, nothing, block),
+        again: freemap::moved(again, nothing, freemap::shared(map, block)),
+    }
+}
+
+// What one pass over the entries finds: whether check 5 allows them all, whether none has R, and the marks of their current blocks.
 pub struct Seen {
     pub fits: bool,
     pub quiet: bool,
+    pub marks: Marks,
 }
 
-// One pass over the entries, each read once: not 5, and the keys of their numbers and current blocks for check 6.
+fn narrow(x: u64) -> usize
+    ensures { λ r. ⌜ r ≡ x ⌝ }
+{
+    x as usize
+}
+
+// One pass over the entries, each read once: not 5, the keys of their numbers and current blocks, and the marks of these for check 6.
 fn decode(g: Geometry, card: &[u8], ids: &mut [u32; 128], currents: &mut [u32; 128]) -> Seen
     requires { ⌜ Fitted g (now card) × (length (now ids) ≡ 128) × (length (now currents) ≡ 128) ⌝ }
     ensures { λ r. ⌜ Decoded g (now (card .entry)) (now (ids .exit)) (now (currents .exit)) r ⌝ }
 {
     let n = g.blocks as usize;
     let mut quiet = true;
+    let mut marks = no_marks();
     let mut i: usize = 0;
     while i < n {
         let at = i;
@@ -78,16 +116,19 @@ fn decode(g: Geometry, card: &[u8], ids: &mut [u32; 128], currents: &mut [u32; 1
                 return Seen {
                     fits: false,
                     quiet: false,
+                    marks: marks,
                 };
             }
             ids[at] = l as u32;
             currents[at] = q as u32;
             quiet = quiet & (x != 0x8300_0000);
+            marks = mark(marks, narrow(q));
         }
     }
     Seen {
         fits: true,
         quiet: quiet,
+        marks: marks,
     }
 }
 
@@ -95,34 +136,6 @@ fn wide(k: u32) -> usize
     ensures { λ r. ⌜ r ≡ k ⌝ }
 {
     k as usize
-}
-
-// Whether no two keys of data blocks are equal, and a mark for each block that is a key. It looks at all of them: a way out on the first
-// equal pair would make a jump of each test, and which word a block is in is not to be foreseen.
-pub struct Marks {
-    pub apart: bool,
-    pub map: Map,
-}
-
-fn mark_blocks(keys: &[u32; 128], n: usize) -> Marks
-    requires { ⌜ n ≤ 128 ⌝ }
-    ensures { λ r. ⌜ MarkedBy (keyAt (now (keys .entry))) n r ⌝ }
-{
-    let mut map = Map { low: 0, high: 0 };
-    let mut apart = true;
-    let mut i: usize = 0;
-    while i < n {
-        let k = wide(keys[i]);
-        i += 1;
-        if k < 128 {
-            apart = apart & !freemap::has(map, k);
-            map = freemap::with(map, k);
-        }
-    }
-    Marks {
-        apart: apart,
-        map: map,
-    }
 }
 
 fn index(x: u8) -> usize
@@ -209,14 +222,16 @@ fn settled_apart(g: Geometry, card: &[u8]) -> bool
 {
     let w = ring::window_of(g, card);
     let n = g.blocks as usize;
-    let mut keys = [0u32; 128];
+    let mut marks = no_marks();
     let mut i: usize = 0;
     while i < n {
-        keys[i] = settled_key(g, card, w, i);
+        let k = wide(settled_key(g, card, w, i));
         i += 1;
+        if k < 128 {
+            marks = mark(marks, k);
+        }
     }
-    let marks = mark_blocks(&keys, n);
-    marks.apart
+    freemap::is_empty(marks.again)
 }
 
 // Not 6, from the keys of numbers and whether the current blocks are apart. A settled card's settled blocks are its current ones.
@@ -275,8 +290,8 @@ pub fn inspect(g: Geometry, card: &[u8], ids: &mut [u32; 128], currents: &mut [u
         return refused(5);
     }
     let settled = (ring::head_of(card) == ring::tail_of(card)) & seen.quiet;
-    let marks = mark_blocks(currents, g.blocks as usize);
-    if !entries_apart(g, card, ids, marks.apart, settled) {
+    let marks = seen.marks;
+    if !entries_apart(g, card, ids, freemap::is_empty(marks.again), settled) {
         return refused(6);
     }
     Verdict {

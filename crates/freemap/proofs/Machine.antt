@@ -16,7 +16,7 @@ use Rattle.protocol.specs.declared.Map.{Map}
 use Rattle.protocol.specs.Map.{word, mapBy}
 use Rattle.protocol.proofs.Below.{below-or-above}
 use Rattle.protocol.proofs.Words.{word-cong}
-use Rattle.freemap.specs.Bits.{FULL, withBit, withoutBit, hasBit, clearFrom, freeFrom, nextFree}
+use Rattle.freemap.specs.Bits.{FULL, withBit, withoutBit, clearFrom, freeFrom, nextFree}
 use Rattle.freemap.proofs.Words.{word-not, word-none, word-full, word-ones}
 
 -- ---- one bit
@@ -42,14 +42,6 @@ module _ (m : Map) (d : ℕ) where
       → _≡_ {A = Map} (record { low = m .low; high = bitAnd (m .high) (FULL - 1 * 2 ^ (d - 64) % 2 ^ 64) }) (withoutBit m d)
   unfolding withoutBit
   without-high h l = rw (le-ltb d 64 h) (λ t. record { low = m .low; high = bitAnd (m .high) (FULL - shift-one (d - 64) (omega arith) t) })
-
-  pub has-low : (w : ℕ) → w ≡ m .low / 2 ^ d → d < 64 → eqb (w % 2) 1 ≡ hasBit m d
-  unfolding hasBit
-  has-low w e h = rw (lt-ltb d 64 h, e)
-
-  pub has-high : (w : ℕ) → w ≡ m .high / 2 ^ (d - 64) → 64 ≤ d → eqb (w % 2) 1 ≡ hasBit m d
-  unfolding hasBit
-  has-high w e h = rw (le-ltb d 64 h, e)
 
 -- ---- the bits from n on
 

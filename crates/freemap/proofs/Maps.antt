@@ -7,13 +7,13 @@ use mathlib.Core.Logic.{⊎-elim}
 use native.Mathlib.Omega.{arith}
 use lib.Bits.{bitAnd, bitOr}
 use lib.Dec.{eqb}
-use borrow.Author.Tests.{eq-eqb, ne-eqb, lt-ltb, le-ltb}
+use borrow.Author.Tests.{eq-eqb, ne-eqb, eqb-true, lt-ltb, le-ltb}
 use Rattle.protocol.specs.declared.Map.{Map}
 use Rattle.protocol.specs.Map.{word, mapBy, bitAt}
-use Rattle.protocol.proofs.Below.{below-or-above, same-or-other, or-none}
+use Rattle.protocol.proofs.Below.{below-or-above, same-or-other, or-none, and-left, and-right, and-both}
 use Rattle.protocol.proofs.Words.{word-cong}
-use Rattle.freemap.specs.Bits.{FULL, withBit, withoutBit, hasBit, movedMap}
-use Rattle.freemap.proofs.Words.{word-and, word-or, word-not, word-none, word-one, word-bit}
+use Rattle.freemap.specs.Bits.{FULL, withBit, withoutBit, sharedMap, emptyMap, movedMap}
+use Rattle.freemap.proofs.Words.{word-and, word-or, word-not, word-none, word-zero, word-one, word-bit}
 
 -- ---- the bit of block d, in the word that has it
 
@@ -36,18 +36,6 @@ module _ (p : ℕ → Bool) (d : ℕ) where
       let b : d % 64 ≡ d - 64 = omega arith in
       rw (a, b) (high-bit h l))
       (below-or-above d 64)
-
-  pub has-by : d < 128 → hasBit (mapBy p) d ≡ p d
-  unfolding hasBit mapBy
-  has-by l =
-      ⊎-elim
-      (λ h. rw (lt-ltb d 64 h, word-bit p 64 d h) (tested (p d)))
-      (λ h. rw (le-ltb d 64 h, high-bit h l) (tested (p d)))
-      (below-or-above d 64)
-    where
-      tested : (b : Bool) → eqb (cond b 1 0) 1 ≡ b
-      tested true = refl
-      tested false = refl
 
 -- ---- a word less another
 
@@ -126,3 +114,27 @@ unfolding mapBy
 empty-by =
     let e : 0 ≡ word (λ x. false) 64 = sym (word-none _ 64 (λ i l. refl)) in
     λ t. record { low = e t; high = e t }
+
+pub shared-by : (p q : ℕ → Bool) → sharedMap (mapBy p) (mapBy q) ≡ mapBy (λ x. p x && q x)
+unfolding sharedMap mapBy
+shared-by p q =
+    let low = word-and p q 64 in
+    let high = word-and (λ i. p (64 + i)) (λ i. q (64 + i)) 64 in
+    λ t. record { low = low t; high = high t }
+
+-- a map is empty where its test fails at every block
+module _ (p : ℕ → Bool) where
+  pub empty-of : ((x : ℕ) → x < 128 → p x ≡ false) → emptyMap (mapBy p) ≡ true
+  unfolding emptyMap mapBy
+  empty-of f =
+      and-both (eq-eqb _ _ (word-none p 64 (λ i l. f i (omega arith)))) (eq-eqb _ _ (word-none (λ i. p (64 + i)) 64 (λ i l. f (64 + i) (omega arith))))
+
+  pub empty-at : emptyMap (mapBy p) ≡ true → (x : ℕ) → x < 128 → p x ≡ false
+  unfolding emptyMap mapBy
+  empty-at e x l =
+      ⊎-elim
+      (λ h. word-zero p 64 (eqb-true _ _ (and-left (eqb (word p 64) 0) _ e)) x h)
+      (λ h.
+      let q : 64 + (x - 64) ≡ x = omega arith in
+      ap p (sym q) ∙ word-zero (λ i. p (64 + i)) 64 (eqb-true _ _ (and-right (eqb (word p 64) 0) _ e)) (x - 64) (omega arith))
+      (below-or-above x 64)

@@ -10,7 +10,7 @@ use native.Mathlib.Omega.{arith}
 use lib.Bits.{bitAnd, bitOr, and-block, or-block}
 use lib.Count.{ones, trailingZeros, under, ones-cat, ones-ones}
 use lib.Dec.{eqb, ltb}
-use lib.Pow.{shr-shr}
+use lib.Pow.{pow-pos, shr-shr}
 use borrow.Author.Tests.{eq-eqb, ne-eqb, lt-ltb, le-ltb}
 use Rattle.protocol.specs.Map.{word}
 use Rattle.protocol.specs.Below.{countBelow, firstBelow}
@@ -67,6 +67,23 @@ pub word-none : (p : ℕ → Bool) (k : ℕ) → ((i : ℕ) → i < k → p i �
 unfolding word
 word-none p zero f = refl
 word-none p (suc k) f = rw (f k (omega arith)) (omega (arith, word-none p k (λ i l. f i (omega arith))))
+
+-- a word of 0 has no bit set
+pub word-zero : (p : ℕ → Bool) (k : ℕ) → word p k ≡ 0 → (i : ℕ) → i < k → p i ≡ false
+unfolding word
+word-zero p zero e i l = absurd (omega arith)
+word-zero p (suc k) e i l =
+    ⊎-elim
+    (λ q. ap p q ∙ top (p k) e)
+    (λ h. word-zero p k (rest (p k) e) i h)
+    (last-or-before i k l)
+  where
+    top : (b : Bool) → cond b 1 0 * 2 ^ k + word p k ≡ 0 → b ≡ false
+    top true z = absurd (omega (arith, pow-pos k))
+    top false z = refl
+
+    rest : (b : Bool) → cond b 1 0 * 2 ^ k + word p k ≡ 0 → word p k ≡ 0
+    rest b z = omega arith
 
 -- a single bit
 pub word-one : (d k : ℕ) → d < k → 2 ^ d ≡ word (λ i. eqb d i) k

@@ -1,6 +1,6 @@
 -- The map's bits as the machine's words have them: set, cleared, tested, and searched by the trailing zeros of the complement.
 use Prim.Native.Nat.{ℕ, zero, suc, _+_, _-_, _/_, _%_, _^_}
-use mathlib.Core.Bool.{Bool, cond}
+use mathlib.Core.Bool.{Bool, cond, _&&_}
 use lib.Bits.{bitAnd, bitOr}
 use lib.Count.{trailingZeros}
 use lib.Dec.{eqb, ltb}
@@ -24,9 +24,13 @@ withoutBit m d =
     (record { low = bitAnd (m .low) (FULL - 2 ^ d); high = m .high })
     (record { low = m .low; high = bitAnd (m .high) (FULL - 2 ^ (d - 64)) })
 
--- bit d is set
-unfoldable pub hasBit : Map → ℕ → Bool
-hasBit m d = eqb (cond (ltb d 64) (m .low / 2 ^ d) (m .high / 2 ^ (d - 64)) % 2) 1
+-- the bits that both maps have
+unfoldable pub sharedMap : Map → Map → Map
+sharedMap a b = record { low = bitAnd (a .low) (b .low); high = bitAnd (a .high) (b .high) }
+
+-- no bit is set
+unfoldable pub emptyMap : Map → Bool
+emptyMap m = eqb (m .low) 0 && eqb (m .high) 0
 
 -- the bits of `gone` cleared, then those of `come` set
 unfoldable pub movedMap : Map → Map → Map → Map

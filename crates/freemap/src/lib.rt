@@ -5,7 +5,7 @@ ghost use Prim.Native.Nat.{ℕ, _%_, _≤_, _<_};
 ghost use lib.Count.{ones};
 ghost use lib.Dec.{leb};
 ghost use Rattle.protocol.specs.Map.{mapBy, freeCount, sameMap};
-ghost use Rattle.freemap.specs.Bits.{withBit, withoutBit, hasBit, movedMap, clearFrom, freeFrom, nextFree, takenAt};
+ghost use Rattle.freemap.specs.Bits.{withBit, withoutBit, sharedMap, emptyMap, movedMap, clearFrom, freeFrom, nextFree, takenAt};
 ghost use Rattle.freemap.specs.Taken.{Took};
 
 // The map with bit d set.
@@ -44,17 +44,21 @@ pub fn without(m: Map, d: usize) -> Map
     }
 }
 
-// Whether bit d is set.
-pub fn has(m: Map, d: usize) -> bool
-    requires { ⌜ d < 128 ⌝ }
-    ensures { λ r. ⌜ r ≡ hasBit m d ⌝ }
+// The bits that both maps have.
+pub fn shared(a: Map, b: Map) -> Map
+    ensures { λ r. ⌜ r ≡ sharedMap a b ⌝ }
 {
-    let w = if d < 64 {
-        m.low >> d
-    } else {
-        m.high >> (d - 64)
-    };
-    w % 2 == 1
+    Map {
+        low: a.low & b.low,
+        high: a.high & b.high,
+    }
+}
+
+// Whether no bit is set.
+pub fn is_empty(m: Map) -> bool
+    ensures { λ r. ⌜ r ≡ emptyMap m ⌝ }
+{
+    (m.low == 0) & (m.high == 0)
 }
 
 // The map with the bits of `gone` cleared and then those of `come` set.

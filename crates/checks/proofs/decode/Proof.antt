@@ -1,40 +1,48 @@
--- `decode` answers what the pass over the entries finds. The invariant: check 5 allows the entries passed, and their keys are listed.
+-- `decode` answers what the pass over the entries finds. The invariant: check 5 allows the entries passed, their keys are listed, and their
+-- current blocks are marked.
 use Prim.Native.Nat.{_≤_, _-_}
 use denote.Ref.{now}
 use Rattle.ring.proofs.Laws.{fitted-blocks, fitted-disk}
-use Rattle.checks.proofs.Laws.{Listed, listed-start, Split, listed-unused, listed-used, listed-bad, listed-end}
-use borrow.Author.Needs.{needs}
+use Rattle.checks.specs.Keys.{currentKey}
+use Rattle.checks.specs.Passed.{MarkedBy}
+use Rattle.checks.proofs.Laws.{Listed, listed-start, Split, listed-unused, listed-used, listed-bad, listed-end, marked-unused, current-few, marked-used}
+use Rattle.checks.proofs.Marking.{marked-start}
 use native.Mathlib.Omega.{arith}
+use borrow.Author.Needs.{needs}
 use Rattle.checks.proofs.decode.Statement.{statement}
 use Rattle.checks.proofs.decode.Tie as tie
 
 abbrev Inv-loop : tie.InvT-loop
-Inv-loop g card ids₀ currents₀ n quiet₀ i₀ ids currents quiet i = (n ≤ 128) × (i ≤ n) × Listed g card i quiet ids currents
+Inv-loop g card ids₀ currents₀ n quiet₀ marks₀ i₀ ids currents quiet marks i =
+    (n ≤ 128) × (i ≤ n) × Listed g card i quiet ids currents × MarkedBy (currentKey g card) i marks
 
 abbrev μ-loop : tie.MeasureT-loop
-μ-loop g card ids₀ currents₀ n quiet₀ i₀ ids currents quiet i = n - i
+μ-loop g card ids₀ currents₀ n quiet₀ marks₀ i₀ ids currents quiet marks i = n - i
 
 -- the four reads of a turn are the entry's quarters
 split-of : (c : tie.After-quarter-of4 Inv-loop μ-loop)
     → let r = c .before .before .before in
     let h = r .before .before in
-    Split (h .before .before .args .g) (now (h .before .before .args .card)) (h .loop .i) (r .quarter-of .result)
+    Split (h .before .before .before .args .g) (now (h .before .before .before .args .card)) (h .loop .i) (r .quarter-of .result)
     (c .before .before .quarter-of2 .result) (c .before .quarter-of3 .result) (c .quarter-of4 .result)
 split-of c =
     let r = c .before .before .before in
     let h = r .before .before in
     record {
-      fitted = h .before .before .pre .0;
+      fitted = h .before .before .before .pre .0;
       below = r .before .loop-test .taken;
-      bytes = λ j m. omega (arith, h .before .shared-slice-known .given j);
+      bytes = λ j m. omega (arith, h .before .before .shared-slice-known .given j);
       first = r .quarter-of .ensures;
       second = c .before .before .quarter-of2 .ensures;
       third = c .before .quarter-of3 .ensures;
       fourth = c .quarter-of4 .ensures;
     }
 
+no-marks-requires : tie.Need-no-marks-requires Inv-loop μ-loop
+no-marks-requires c κs = search needs
+
 loop-holds : tie.Need-loop-holds Inv-loop μ-loop
-loop-holds c = (search (fitted-blocks, needs), search needs, search (listed-start, needs))
+loop-holds c = (search (fitted-blocks, needs), search needs, search (listed-start, needs), search (marked-start, needs))
 
 quarter-of-requires : tie.Need-quarter-of-requires Inv-loop μ-loop
 quarter-of-requires c κs = search needs
@@ -67,13 +75,16 @@ loop-less : tie.Need-loop-less Inv-loop μ-loop
 loop-less c = search needs
 
 loop-again : tie.Need-loop-again Inv-loop μ-loop
-loop-again c = (search needs, search needs, listed-unused (split-of (c .before)) (c .before .before .before .before .before .before .loop .inv .2) (c .if1 .taken))
+loop-again c =
+    let s = split-of (c .before) in
+    let l = c .before .before .before .before .before .before .loop in
+    (search needs, search needs, listed-unused s (l .inv .2) (c .if1 .taken), marked-unused s (l .inv .3) (c .if1 .taken))
 
 good-quarters-requires : tie.Need-good-quarters-requires Inv-loop μ-loop
 good-quarters-requires c κs = (search (fitted-disk, needs), c .before .before .quarter-of3 .ensures .below)
 
 returns : tie.Need-returns Inv-loop μ-loop
-returns c = listed-bad (split-of (c .before .before .before)) _ _ (c .before .good-quarters .ensures) (c .if2 .taken)
+returns c = listed-bad (split-of (c .before .before .before)) _ _ (c .before .good-quarters .ensures) (c .if2 .taken) _
 
 cast-ids : tie.Need-cast-ids Inv-loop μ-loop
 cast-ids c = search needs
@@ -93,16 +104,30 @@ mul-currents-2 c = search needs
 element-write-currents-2 : tie.Need-element-write-currents-2 Inv-loop μ-loop
 element-write-currents-2 c = search needs
 
+narrow-requires : tie.Need-narrow-requires Inv-loop μ-loop
+narrow-requires c κs = search needs
+
+mark-requires : tie.Need-mark-requires Inv-loop μ-loop
+mark-requires c κs =
+    let e = c .before in
+    let g = e .before in
+    omega (arith, c .narrow .ensures, current-few (split-of (g .before .before)) (g .before .if1 .left) (g .good-quarters .ensures) (e .if2 .left))
+
 loop-less-2 : tie.Need-loop-less-2 Inv-loop μ-loop
 loop-less-2 c = search needs
 
 loop-again-2 : tie.Need-loop-again-2 Inv-loop μ-loop
 loop-again-2 c =
-    let w = c .before .before .before in
-    let h = w .before .before .before .before .before in (
+    let e = c .before .before in
+    let g = e .before in
+    let w = g .before .before in
+    let s = split-of w in
+    let l = w .before .before .before .before .before .loop in
+    let z = g .before .if1 .left in (
       search needs,
       search needs,
-      listed-used (split-of w) (h .loop .inv .2) (c .before .before .if1 .left) (c .before .good-quarters .ensures) (c .if2 .left),
+      listed-used s (l .inv .2) z (g .good-quarters .ensures) (e .if2 .left),
+      marked-used s z (g .good-quarters .ensures) (e .if2 .left) _ _ (l .inv .3) (c .before .narrow .ensures) (c .mark .ensures),
     )
 
 returns-2 : tie.Need-returns-2 Inv-loop μ-loop
@@ -110,6 +135,33 @@ returns-2 c = search (listed-end, needs)
 
 pub decode-spec : {M : Type 1} → statement M
 decode-spec =
-    tie.close (tie.spec Inv-loop μ-loop loop-holds quarter-of-requires quarter-of-requires-2 quarter-of-requires-3 quarter-of-requires-4
-    add-i mul-ids element-write-ids mul-currents element-write-currents loop-less loop-again good-quarters-requires returns cast-ids
-    mul-ids-2 element-write-ids-2 cast-currents mul-currents-2 element-write-currents-2 loop-less-2 loop-again-2 returns-2)
+    tie.close
+    (tie.spec
+    Inv-loop
+    μ-loop
+    no-marks-requires
+    loop-holds
+    quarter-of-requires
+    quarter-of-requires-2
+    quarter-of-requires-3
+    quarter-of-requires-4
+    add-i
+    mul-ids
+    element-write-ids
+    mul-currents
+    element-write-currents
+    loop-less
+    loop-again
+    good-quarters-requires
+    returns
+    cast-ids
+    mul-ids-2
+    element-write-ids-2
+    cast-currents
+    mul-currents-2
+    element-write-currents-2
+    narrow-requires
+    mark-requires
+    loop-less-2
+    loop-again-2
+    returns-2)

@@ -1,5 +1,5 @@
--- `inspect` answers checks 4 to 6 in their order, and the keys of a card that passes them.
-use Rattle.ring.proofs.Laws.{fitted-long, fitted-blocks}
+-- `inspect` answers checks 4 to 6 in their order, and the keys and the map of a card that passes them.
+use Rattle.ring.proofs.Laws.{fitted-long}
 use Rattle.checks.proofs.Order.{ring-damaged, entry-damaged, pair-damaged, comparable, undamaged}
 use borrow.Author.Needs.{needs}
 use Rattle.checks.proofs.inspect.Statement.{statement}
@@ -29,8 +29,8 @@ head-of-requires c κs = search (fitted-long, needs)
 tail-of-requires : tie.Need-tail-of-requires
 tail-of-requires c κs = search (fitted-long, needs)
 
-mark-blocks-requires : tie.Need-mark-blocks-requires
-mark-blocks-requires c κs = search (fitted-blocks, needs)
+is-empty-requires : tie.Need-is-empty-requires
+is-empty-requires c κs = search needs
 
 entries-apart-requires : tie.Need-entries-apart-requires
 entries-apart-requires c κs = search (comparable, needs)
@@ -49,5 +49,19 @@ returns-4 c = search (undamaged, needs)
 
 pub inspect-spec : {M : Type 1} → statement M
 inspect-spec =
-    tie.close (tie.spec ring-fits-requires refused-requires returns decode-requires refused-requires-2 returns-2 head-of-requires
-    tail-of-requires mark-blocks-requires entries-apart-requires refused-requires-3 returns-3 whole-map-requires returns-4)
+    tie.close
+    (tie.spec
+    ring-fits-requires
+    refused-requires
+    returns
+    decode-requires
+    refused-requires-2
+    returns-2
+    head-of-requires
+    tail-of-requires
+    is-empty-requires
+    entries-apart-requires
+    refused-requires-3
+    returns-3
+    whole-map-requires
+    returns-4)

@@ -1,57 +1,81 @@
--- `settled_apart` answers whether the settled blocks are distinct. The invariant: the keys of the entries passed are listed.
-use Prim.Native.Nat.{_≤_, _<_, _-_}
-use mathlib.Core.Path.{_≡_}
-use lib.ListN.{length}
+-- `settled_apart` answers whether the settled blocks are distinct. The invariant: those of the entries passed are marked.
+use Prim.Native.Nat.{_≤_, _-_}
 use Rattle.ring.proofs.Laws.{fitted-blocks}
-use Rattle.checks.specs.Keys.{settledKey, Lists}
-use Rattle.checks.proofs.Laws.{lists-none, lists-more, lists-all}
-use Rattle.checks.proofs.Settled.{listed-distinct}
+use Rattle.checks.specs.Keys.{settledKey}
+use Rattle.checks.specs.Passed.{MarkedBy}
+use Rattle.checks.proofs.Marking.{marked-start, marked-skip, marked-more, marked-end, marked-apart}
+use mathlib.Core.Path.{_∙_}
 use borrow.Author.Needs.{needs}
-use native.Mathlib.Omega.{arith}
 use Rattle.checks.proofs.settled_apart.Statement.{statement}
 use Rattle.checks.proofs.settled_apart.Tie as tie
 
 abbrev Inv-loop : tie.InvT-loop
-Inv-loop g card w n keys₀ i₀ keys i = (n ≤ 128) × (i ≤ n) × (length keys ≡ 128) × Lists (settledKey g card) keys i
+Inv-loop g card w n marks₀ i₀ marks i = (i ≤ n) × MarkedBy (settledKey g card) i marks
 
 abbrev μ-loop : tie.MeasureT-loop
-μ-loop g card w n keys₀ i₀ keys i = n - i
+μ-loop g card w n marks₀ i₀ marks i = n - i
 
 window-of-requires : tie.Need-window-of-requires Inv-loop μ-loop
 window-of-requires c κs = search needs
 
+no-marks-requires : tie.Need-no-marks-requires Inv-loop μ-loop
+no-marks-requires c κs = search needs
+
 loop-holds : tie.Need-loop-holds Inv-loop μ-loop
-loop-holds c = (search (fitted-blocks, needs), search needs, search needs, lists-none _ _)
+loop-holds c = (search needs, search (marked-start, needs))
 
 settled-key-requires : tie.Need-settled-key-requires Inv-loop μ-loop
 settled-key-requires c κs = search needs
 
-mul-keys : tie.Need-mul-keys Inv-loop μ-loop
-mul-keys c = search needs
-
-array-write-keys : tie.Need-array-write-keys Inv-loop μ-loop
-array-write-keys c = search needs
+wide-requires : tie.Need-wide-requires Inv-loop μ-loop
+wide-requires c κs = search needs
 
 add-i : tie.Need-add-i Inv-loop μ-loop
 add-i c = search needs
+
+mark-requires : tie.Need-mark-requires Inv-loop μ-loop
+mark-requires c κs = search needs
 
 loop-less : tie.Need-loop-less Inv-loop μ-loop
 loop-less c = search needs
 
 loop-again : tie.Need-loop-again Inv-loop μ-loop
 loop-again c =
-    let l = c .before .before .loop in
-    let b : l .i < length (l .keys) = omega arith in
-    (search needs, search needs, search needs, lists-more _ _ _ _ b (l .inv .3) (c .settled-key .ensures))
+    let w = c .before .before in
+    let k = w .before in
+    (search needs, marked-more _ _ _ _ (k .before .before .loop .inv .1) (w .wide .ensures ∙ k .settled-key .ensures) _ (c .mark .ensures))
 
-mark-blocks-requires : tie.Need-mark-blocks-requires Inv-loop μ-loop
-mark-blocks-requires c κs = search needs
+loop-less-2 : tie.Need-loop-less-2 Inv-loop μ-loop
+loop-less-2 c = search needs
+
+loop-again-2 : tie.Need-loop-again-2 Inv-loop μ-loop
+loop-again-2 c =
+    let w = c .before in
+    let k = w .before in
+    (search needs, marked-skip _ _ _ _ (k .before .before .loop .inv .1) (w .wide .ensures ∙ k .settled-key .ensures) (c .if1 .left))
+
+is-empty-requires : tie.Need-is-empty-requires Inv-loop μ-loop
+is-empty-requires c κs = search needs
 
 returns : tie.Need-returns Inv-loop μ-loop
-returns c =
-    let e = c .before .before in listed-distinct _ _ _ _ _ (lists-all _ _ _ _ (e .loop-test .left) (e .before .loop .inv .3)) (c .mark-blocks .ensures .apart-is)
+returns c = search (marked-apart, marked-end, needs)
 
 pub settled-apart-spec : {M : Type 1} → statement M
 settled-apart-spec =
-    tie.close (tie.spec Inv-loop μ-loop window-of-requires loop-holds settled-key-requires mul-keys array-write-keys add-i loop-less
-    loop-again mark-blocks-requires returns)
+    tie.close
+    (tie.spec
+    Inv-loop
+    μ-loop
+    window-of-requires
+    no-marks-requires
+    loop-holds
+    settled-key-requires
+    wide-requires
+    add-i
+    mark-requires
+    loop-less
+    loop-again
+    loop-less-2
+    loop-again-2
+    is-empty-requires
+    returns)

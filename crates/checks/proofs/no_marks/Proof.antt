@@ -1,0 +1,11 @@
+-- `no_marks` marks nothing.
+use Rattle.freemap.proofs.Maps.{empty-by}
+use borrow.Author.Needs.{needs}
+use Rattle.checks.proofs.no_marks.Statement.{statement}
+use Rattle.checks.proofs.no_marks.Tie as tie
+
+returns : tie.Need-returns
+returns c = record { map-is = empty-by; again-is = empty-by }
+
+pub no-marks-spec : {M : Type 1} → statement M
+no-marks-spec = tie.close (tie.spec returns)
