@@ -7,6 +7,7 @@ use mathlib.Core.Logic.{⊎-elim}
 use mathlib.Core.Path.{_≡_, refl, sym, ap, _∙_, subst}
 use native.Mathlib.Numerals.{add-one}
 use native.Mathlib.Omega.{arith}
+use lib.Bits.{bitOr}
 use lib.Dec.{eqb, leb}
 use borrow.Author.Tests.{lt-ltb, eq-eqb, ne-eqb, eqb-true, not-true, le-leb, lt-leb}
 use Rattle.protocol.specs.declared.Geometry.{Geometry}
@@ -17,12 +18,12 @@ use Rattle.protocol.specs.Entry.{entryAt}
 use Rattle.protocol.specs.Ring.{usedAt}
 use Rattle.protocol.specs.Search.{takenBy}
 use Rattle.protocol.specs.Map.{mapBy, isMarked}
-use Rattle.protocol.proofs.Below.{either, absurd-bool, bool-same, below-or-above, and-left, and-right, and-both, and-fails, or-none, or-left, or-right, any-found, any-cong, any-miss}
+use Rattle.protocol.proofs.Below.{either, absurd-bool, bool-same, below-or-above, and-left, and-right, and-both, and-fails, or-none, or-false, or-left, or-right, any-found, any-cong, any-miss}
 use Rattle.protocol.proofs.Checks.{Limits, limits}
 use Rattle.protocol.proofs.Maps.{marked-below, marked-beyond}
 use Rattle.protocol.proofs.Words.{map-cong}
-use Rattle.freemap.specs.Bits.{withBit, sharedMap, emptyMap, movedMap}
-use Rattle.freemap.proofs.Maps.{with-by, shared-by, moved-by, empty-by, empty-of, empty-at}
+use Rattle.freemap.specs.Bits.{withBit, sharedBits, movedMap}
+use Rattle.freemap.proofs.Maps.{with-by, moved-by, empty-by, or-zero, shared-of, shared-at}
 use Rattle.checks.specs.Keys.{NONE, key, currentKey, keyed, lone, distinct, twice}
 use Rattle.checks.specs.declared.Marks.{Marks}
 use Rattle.checks.specs.Passed.{Marking, MarkedBy}
@@ -41,21 +42,29 @@ joined p q m n nothing r a b e h =
     h ∙ (λ t. movedMap (a t) ((e ∙ empty-by) t) (b t)) ∙ moved-by p (λ x. false) q
     ∙ map-cong _ _ (λ x l. ap (λ (y : Bool). y || q x) (and-true (p x)))
 
-module _ (m : Marks) (d : ℕ) (b : d < 128) (nothing block both map again : Map) (e : _≡_ {A = Map} nothing (record { low = 0; high = 0 }))
-    (block-is : block ≡ withBit nothing d) (both-is : both ≡ sharedMap (m .map) block) (map-is : map ≡ movedMap (m .map) nothing block)
-    (again-is : again ≡ movedMap (m .again) nothing both) where
+module _ (m : Marks) (d : ℕ) (b : d < 128) (nothing block map : Map) (both : ℕ) (e : _≡_ {A = Map} nothing (record { low = 0; high = 0 }))
+    (block-is : block ≡ withBit nothing d) (map-is : map ≡ movedMap (m .map) nothing block) (both-is : both ≡ sharedBits (m .map) block) where
   one : block ≡ mapBy (λ x. eqb d x)
   one = block-is ∙ ap (λ (y : Map). withBit y d) (e ∙ empty-by) ∙ with-by (λ x. false) d b
 
   pub marked-once : (p q : ℕ → Bool) → Marking p q m
-      → Marking (λ x. p x || eqb d x) (λ x. q x || (p x && eqb d x)) (record { map = map; again = again })
+      → Marking (λ x. p x || eqb d x) (λ x. q x || (p x && eqb d x)) (record { map = map; again = bitOr (m .again) both })
   marked-once p q h =
       record {
         map-is = joined p (eqb d) (m .map) block nothing map (h .map-is) one e map-is;
-        again-is =
-            joined q (λ x. p x && eqb d x) (m .again) both nothing again (h .again-is)
-            (both-is ∙ (λ t. sharedMap (h .map-is t) (one t)) ∙ shared-by p (eqb d)) e again-is;
+        once = λ z x l.
+            let y = sym (or-zero (m .again) both) ∙ eq-eqb _ _ z in
+            let old = h .once (eqb-true (m .again) 0 (and-left (eqb (m .again) 0) _ y)) x l in
+            let new = shared-at p (eqb d) (same ∙ and-right (eqb (m .again) 0) _ y) x l in
+            (λ t. old t || new t);
+        none = λ f.
+            let old = h .none (λ x l. or-false (q x) _ (f x l) .0) in
+            let new = shared-of p (eqb d) (λ x l. or-false (q x) _ (f x l) .1) in
+            eqb-true (bitOr (m .again) both) 0 (or-zero (m .again) both ∙ and-both (eq-eqb (m .again) 0 old) (sym same ∙ new));
       }
+    where
+      same : eqb (sharedBits (mapBy p) (mapBy (eqb d))) 0 ≡ eqb both 0
+      same = sym (ap (λ (y : ℕ). eqb y 0) (both-is ∙ (λ t. sharedBits (h .map-is t) (one t))))
 
 -- ---- the keys in turn
 
@@ -63,21 +72,26 @@ pub marked-start : (f : ℕ → ℕ) (m : Marks) → Marking (λ x. false) (λ x
 unfolding anyBelow twice
 marked-start f m h = h
 
+-- the same by tests that agree
+marking-same : (p q p′ q′ : ℕ → Bool) (m : Marks) → ((d : ℕ) → d < 128 → p d ≡ p′ d) → ((d : ℕ) → d < 128 → q d ≡ q′ d) → Marking p q m → Marking p′ q′ m
+marking-same p q p′ q′ m f g h =
+    record {
+      map-is = h .map-is ∙ map-cong p p′ f;
+      once = λ z d l. sym (g d l) ∙ h .once z d l;
+      none = λ k. h .none (λ d l. g d l ∙ k d l);
+    }
+
 module _ (f : ℕ → ℕ) (m : Marks) (i k : ℕ) (h : MarkedBy f i m) (q : k ≡ f i) where
   pub marked-skip : 128 ≤ k → MarkedBy f (i + 1) m
   unfolding keyed twice
   marked-skip b =
-      record {
-        map-is = h .map-is ∙ map-cong _ _ (λ v l. sym (any-miss (keyed f v) i (other v l)));
-        again-is =
-            h .again-is
-            ∙ map-cong _ _
-            (λ v l.
-            sym
-            (ap (twice f v) (add-one i)
-            ∙ ap (λ (t : Bool). twice f v i || t) (and-fails (anyBelow (keyed f v) i) _ (other v l))
-            ∙ or-none (twice f v i)));
-      }
+      marking-same _ _ _ _ m (λ v l. sym (any-miss (keyed f v) i (other v l)))
+      (λ v l.
+      sym
+      (ap (twice f v) (add-one i)
+      ∙ ap (λ (t : Bool). twice f v i || t) (and-fails (anyBelow (keyed f v) i) _ (other v l))
+      ∙ or-none (twice f v i)))
+      h
     where
       other : (v : ℕ) → v < 128 → keyed f v i ≡ false
       other v l = ne-eqb (f i) v (omega arith)
@@ -86,14 +100,10 @@ module _ (f : ℕ → ℕ) (m : Marks) (i k : ℕ) (h : MarkedBy f i m) (q : k �
       → ((p t : ℕ → Bool) → Marking p t m → Marking (λ x. p x || eqb k x) (λ x. t x || (p x && eqb k x)) r) → MarkedBy f (i + 1) r
   unfolding anyBelow keyed twice
   marked-more r e =
-      let x = e _ _ h in
-      record {
-        map-is = x .map-is ∙ map-cong _ _ (λ v l. ap (λ (j : ℕ). anyBelow (keyed f v) i || eqb j v) q ∙ ap (anyBelow (keyed f v)) (sym (add-one i)));
-        again-is =
-            x .again-is
-            ∙ map-cong _ _
-            (λ v l. ap (λ (j : ℕ). twice f v i || (anyBelow (keyed f v) i && eqb j v)) q ∙ ap (twice f v) (sym (add-one i)));
-      }
+      marking-same _ _ _ _ r
+      (λ v l. ap (λ (j : ℕ). anyBelow (keyed f v) i || eqb j v) q ∙ ap (anyBelow (keyed f v)) (sym (add-one i)))
+      (λ v l. ap (λ (j : ℕ). twice f v i || (anyBelow (keyed f v) i && eqb j v)) q ∙ ap (twice f v) (sym (add-one i)))
+      (e _ _ h)
 
 pub marked-end : (f : ℕ → ℕ) (m : Marks) (i n : ℕ) → MarkedBy f i m → i ≤ n → n ≤ i → MarkedBy f n m
 marked-end f m i n h a b = let e : i ≡ n = omega arith in subst (λ (z : ℕ). MarkedBy f z m) e h
@@ -136,12 +146,11 @@ once-distinct f n h =
     let two : twice f (f i) (suc i) ≡ true = or-right (twice f (f i) i) _ (and-both found (eq-eqb (f i) (f i) refl)) in
     absurd-bool (twice-stays f (f i) (suc i) n (omega arith) two) (h (f i) b))
 
-pub marked-apart : (f : ℕ → ℕ) (n : ℕ) (m : Marks) (t : Bool) → MarkedBy f n m → t ≡ emptyMap (m .again) → t ≡ distinct f 128 n
-marked-apart f n m t h e =
-    e ∙ ap emptyMap (h .again-is)
-    ∙ bool-same (emptyMap (mapBy (λ v. twice f v n))) (distinct f 128 n)
-    (λ z. once-distinct f n (empty-at (λ v. twice f v n) z))
-    (λ d. empty-of (λ v. twice f v n) (distinct-once f n d))
+pub marked-apart : (f : ℕ → ℕ) (n : ℕ) (m : Marks) → MarkedBy f n m → eqb (m .again) 0 ≡ distinct f 128 n
+marked-apart f n m h =
+    bool-same (eqb (m .again) 0) (distinct f 128 n)
+    (λ z. once-distinct f n (h .once (eqb-true _ _ z)))
+    (λ d. eq-eqb _ _ (h .none (distinct-once f n d)))
 
 -- ---- the card's map
 

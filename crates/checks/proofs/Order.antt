@@ -12,7 +12,6 @@ use Rattle.protocol.specs.Below.{allBelow}
 use Rattle.protocol.specs.Ring.{headOf, tailOf, windowOf, isSettled}
 use Rattle.protocol.specs.Check.{refuse, _orElse_, windowNumberFits, ringFits, entriesFit, entriesApart, damageRefusal, cardRefusal}
 use Rattle.protocol.specs.Map.{mapBy}
-use Rattle.freemap.specs.Bits.{emptyMap}
 use Rattle.protocol.proofs.Below.{and-left, and-right}
 use Rattle.protocol.proofs.Checks.{refuse-passed, refuse-failed, orElse-first, orElse-next}
 use Rattle.ring.specs.Fitted.{Fitted, Placed}
@@ -75,16 +74,16 @@ module _ (g : Geometry) (c ns cs : List ℕ) (r : Bool) (ring : r ≡ ringFits g
       unfolding isSettled
       settled-test h t eh et = λ i. eqb (eh i) (et i) && d .quiet (not-false (s .fits) fits) i
 
-      pub comparable : (h t : ℕ) (a : Bool) → Fitted g c → h ≡ headOf c → t ≡ tailOf c → a ≡ emptyMap (s .marks .again)
-          → Comparable g c ns a (eqb h t && s .quiet)
-      comparable h t a f eh et e =
+      pub comparable : (h t : ℕ) → Fitted g c → h ≡ headOf c → t ≡ tailOf c
+          → Comparable g c ns (eqb (s .marks .again) 0) (eqb h t && s .quiet)
+      comparable h t f eh et =
           let on : s .fits ≡ true = not-false (s .fits) fits in
           record {
             fitted = f;
             placed = ring-placed g c (sym ring ∙ not-false r rings);
             fits = sym (d .fits) ∙ on;
             numbers = d .numbers on;
-            apart-is = marked-apart (currentKey g c) (g .blocks) (s .marks) a (d .marked on) e;
+            apart-is = marked-apart (currentKey g c) (g .blocks) (s .marks) (d .marked on);
             settled-is = settled-test h t eh et;
           }
 

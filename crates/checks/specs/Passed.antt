@@ -1,7 +1,7 @@
 -- What the passes over the entries answer.
-use Prim.Native.Nat.{ℕ}
+use Prim.Native.Nat.{ℕ, _<_}
 use mathlib.Core.List.{List}
-use mathlib.Core.Bool.{Bool, true}
+use mathlib.Core.Bool.{Bool, true, false}
 use mathlib.Core.Path.{_≡_}
 use Rattle.protocol.specs.declared.Geometry.{Geometry}
 use Rattle.protocol.specs.Below.{allBelow, anyBelow}
@@ -14,12 +14,13 @@ use Rattle.checks.specs.declared.Marks.{Marks}
 use Rattle.checks.specs.declared.Verdict.{Verdict}
 use Rattle.checks.specs.Keys.{numberKey, currentKey, keyed, twice, distinct, Lists}
 
--- the blocks that have p are marked, and those that have q are marked again
+-- the blocks that have p are marked, and `again` is 0 exactly where none has q
 pub record Marking (p q : ℕ → Bool) (m : Marks) : Type 0 where
   pub map-is : m .map ≡ mapBy p
-  pub again-is : m .again ≡ mapBy q
+  pub once : m .again ≡ 0 → (d : ℕ) → d < 128 → q d ≡ false
+  pub none : ((d : ℕ) → d < 128 → q d ≡ false) → m .again ≡ 0
 
--- of the first n keys of f those that are data blocks are marked, and again where they came twice
+-- of the first n keys of f those that are data blocks are marked, and it is known whether one came twice
 abbrev pub MarkedBy : (ℕ → ℕ) → ℕ → Marks → Type 0
 MarkedBy f n m = Marking (λ d. anyBelow (keyed f d) n) (λ d. twice f d n) m
 

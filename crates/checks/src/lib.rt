@@ -49,10 +49,10 @@ fn good_quarters(n: u64, d: u64, x: u64, l: u64, p: u64, q: u64) -> bool
     unused | (allowed & ((l < d) & ((q < n) & held)))
 }
 
-// Marks of data blocks: those that came, and those of them that came again.
+// Marks of data blocks that came, and a word that is 0 where none came again.
 pub struct Marks {
     pub map: Map,
-    pub again: Map,
+    pub again: u64,
 }
 
 fn no_marks() -> Marks
@@ -60,7 +60,7 @@ fn no_marks() -> Marks
 {
     Marks {
         map: Map { low: 0, high: 0 },
-        again: Map { low: 0, high: 0 },
+        again: 0,
     }
 }
 
@@ -72,10 +72,9 @@ fn mark(m: Marks, d: usize) -> Marks
     let nothing = Map { low: 0, high: 0 };
     let block = freemap::with(nothing, d);
     let map = m.map;
-    let again = m.again;
     Marks {
         map: freemap::moved(map, nothing, block),
-        again: freemap::moved(again, nothing, freemap::shared(map, block)),
+        again: m.again | freemap::shared(map, block),
     }
 }
 
@@ -231,7 +230,7 @@ fn settled_apart(g: Geometry, card: &[u8]) -> bool
             marks = mark(marks, k);
         }
     }
-    freemap::is_empty(marks.again)
+    marks.again == 0
 }
 
 // Not 6, from the keys of numbers and whether the current blocks are apart. A settled card's settled blocks are its current ones.
@@ -291,7 +290,7 @@ pub fn inspect(g: Geometry, card: &[u8], ids: &mut [u32; 128], currents: &mut [u
     }
     let settled = (ring::head_of(card) == ring::tail_of(card)) & seen.quiet;
     let marks = seen.marks;
-    if !entries_apart(g, card, ids, freemap::is_empty(marks.again), settled) {
+    if !entries_apart(g, card, ids, marks.again == 0, settled) {
         return refused(6);
     }
     Verdict {

@@ -5,14 +5,14 @@ use mathlib.Core.Bool.{Bool, true, false, cond, not, _&&_, _||_, and-true}
 use mathlib.Core.Path.{_≡_, refl, sym, ap, _∙_}
 use mathlib.Core.Logic.{⊎-elim}
 use native.Mathlib.Omega.{arith}
-use lib.Bits.{bitAnd, bitOr}
+use lib.Bits.{bitAnd, bitOr, and-le-l, and-le-r, or-add-and}
 use lib.Dec.{eqb}
 use borrow.Author.Tests.{eq-eqb, ne-eqb, eqb-true, lt-ltb, le-ltb}
 use Rattle.protocol.specs.declared.Map.{Map}
 use Rattle.protocol.specs.Map.{word, mapBy, bitAt}
-use Rattle.protocol.proofs.Below.{below-or-above, same-or-other, or-none, and-left, and-right, and-both}
+use Rattle.protocol.proofs.Below.{bool-same, below-or-above, same-or-other, or-none, and-left, and-right, and-both}
 use Rattle.protocol.proofs.Words.{word-cong}
-use Rattle.freemap.specs.Bits.{FULL, withBit, withoutBit, sharedMap, emptyMap, movedMap}
+use Rattle.freemap.specs.Bits.{FULL, withBit, withoutBit, sharedBits, movedMap}
 use Rattle.freemap.proofs.Words.{word-and, word-or, word-not, word-none, word-zero, word-one, word-bit}
 
 -- ---- the bit of block d, in the word that has it
@@ -115,26 +115,41 @@ empty-by =
     let e : 0 ≡ word (λ x. false) 64 = sym (word-none _ 64 (λ i l. refl)) in
     λ t. record { low = e t; high = e t }
 
-pub shared-by : (p q : ℕ → Bool) → sharedMap (mapBy p) (mapBy q) ≡ mapBy (λ x. p x && q x)
-unfolding sharedMap mapBy
-shared-by p q =
-    let low = word-and p q 64 in
-    let high = word-and (λ i. p (64 + i)) (λ i. q (64 + i)) 64 in
-    λ t. record { low = low t; high = high t }
+-- two words laid over each other are 0 where both are
+pub or-zero : (a b : ℕ) → eqb (bitOr a b) 0 ≡ eqb a 0 && eqb b 0
+or-zero a b =
+    bool-same (eqb (bitOr a b) 0) (eqb a 0 && eqb b 0)
+    (λ e.
+    let z = eqb-true (bitOr a b) 0 e in
+    let s = or-add-and a b in
+    let x : a ≡ 0 = omega (arith, and-le-r a b) in
+    let y : b ≡ 0 = omega (arith, and-le-l a b) in
+    and-both (eq-eqb a 0 x) (eq-eqb b 0 y))
+    (λ e.
+    let x : a ≡ 0 = eqb-true a 0 (and-left (eqb a 0) _ e) in
+    let y : b ≡ 0 = eqb-true b 0 (and-right (eqb a 0) _ e) in
+    eq-eqb (bitOr a b) 0 (omega (arith, or-add-and a b)))
 
--- a map is empty where its test fails at every block
-module _ (p : ℕ → Bool) where
-  pub empty-of : ((x : ℕ) → x < 128 → p x ≡ false) → emptyMap (mapBy p) ≡ true
-  unfolding emptyMap mapBy
-  empty-of f =
-      and-both (eq-eqb _ _ (word-none p 64 (λ i l. f i (omega arith)))) (eq-eqb _ _ (word-none (λ i. p (64 + i)) 64 (λ i l. f (64 + i) (omega arith))))
+-- no block is marked in both where the tests never hold together
+module _ (p q : ℕ → Bool) where
+  shared-zero : eqb (sharedBits (mapBy p) (mapBy q)) 0 ≡ eqb (word (λ x. p x && q x) 64) 0 && eqb (word (λ i. p (64 + i) && q (64 + i)) 64) 0
+  unfolding sharedBits mapBy
+  shared-zero =
+      or-zero (bitAnd (word p 64) (word q 64)) (bitAnd (word (λ i. p (64 + i)) 64) (word (λ i. q (64 + i)) 64))
+      ∙ (λ t. eqb (word-and p q 64 t) 0 && eqb (word-and (λ i. p (64 + i)) (λ i. q (64 + i)) 64 t) 0)
 
-  pub empty-at : emptyMap (mapBy p) ≡ true → (x : ℕ) → x < 128 → p x ≡ false
-  unfolding emptyMap mapBy
-  empty-at e x l =
+  pub shared-of : ((x : ℕ) → x < 128 → p x && q x ≡ false) → eqb (sharedBits (mapBy p) (mapBy q)) 0 ≡ true
+  shared-of f =
+      shared-zero
+      ∙ and-both (eq-eqb _ _ (word-none _ 64 (λ i l. f i (omega arith)))) (eq-eqb _ _ (word-none _ 64 (λ i l. f (64 + i) (omega arith))))
+
+  pub shared-at : eqb (sharedBits (mapBy p) (mapBy q)) 0 ≡ true → (x : ℕ) → x < 128 → p x && q x ≡ false
+  shared-at e x l =
+      let z = sym shared-zero ∙ e in
       ⊎-elim
-      (λ h. word-zero p 64 (eqb-true _ _ (and-left (eqb (word p 64) 0) _ e)) x h)
+      (λ h. word-zero (λ x. p x && q x) 64 (eqb-true _ _ (and-left (eqb (word (λ x. p x && q x) 64) 0) _ z)) x h)
       (λ h.
-      let q : 64 + (x - 64) ≡ x = omega arith in
-      ap p (sym q) ∙ word-zero (λ i. p (64 + i)) 64 (eqb-true _ _ (and-right (eqb (word p 64) 0) _ e)) (x - 64) (omega arith))
+      let k : 64 + (x - 64) ≡ x = omega arith in
+      ap (λ (y : ℕ). p y && q y) (sym k)
+      ∙ word-zero (λ i. p (64 + i) && q (64 + i)) 64 (eqb-true _ _ (and-right (eqb (word (λ x. p x && q x) 64) 0) _ z)) (x - 64) (omega arith))
       (below-or-above x 64)

@@ -24,13 +24,9 @@ withoutBit m d =
     (record { low = bitAnd (m .low) (FULL - 2 ^ d); high = m .high })
     (record { low = m .low; high = bitAnd (m .high) (FULL - 2 ^ (d - 64)) })
 
--- the bits that both maps have
-unfoldable pub sharedMap : Map → Map → Map
-sharedMap a b = record { low = bitAnd (a .low) (b .low); high = bitAnd (a .high) (b .high) }
-
--- no bit is set
-unfoldable pub emptyMap : Map → Bool
-emptyMap m = eqb (m .low) 0 && eqb (m .high) 0
+-- the bits of both words that both maps have, laid over each other
+unfoldable pub sharedBits : Map → Map → ℕ
+sharedBits a b = bitOr (bitAnd (a .low) (b .low)) (bitAnd (a .high) (b .high))
 
 -- the bits of `gone` cleared, then those of `come` set
 unfoldable pub movedMap : Map → Map → Map → Map

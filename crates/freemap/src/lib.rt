@@ -5,23 +5,24 @@ ghost use Prim.Native.Nat.{ℕ, _%_, _≤_, _<_};
 ghost use lib.Count.{ones};
 ghost use lib.Dec.{leb};
 ghost use Rattle.protocol.specs.Map.{mapBy, freeCount, sameMap};
-ghost use Rattle.freemap.specs.Bits.{withBit, withoutBit, sharedMap, emptyMap, movedMap, clearFrom, freeFrom, nextFree, takenAt};
+ghost use Rattle.freemap.specs.Bits.{withBit, withoutBit, sharedBits, movedMap, clearFrom, freeFrom, nextFree, takenAt};
 ghost use Rattle.freemap.specs.Taken.{Took};
 
-// The map with bit d set.
+// The map with bit d set. One shift serves both words, so that the compiler chooses between them without a jump.
 pub fn with(m: Map, d: usize) -> Map
     requires { ⌜ d < 128 ⌝ }
     ensures { λ r. ⌜ r ≡ withBit m d ⌝ }
 {
+    let bit = 1 << (d % 64);
     if d < 64 {
         Map {
-            low: m.low | (1 << d),
+            low: m.low | bit,
             high: m.high,
         }
     } else {
         Map {
             low: m.low,
-            high: m.high | (1 << (d - 64)),
+            high: m.high | bit,
         }
     }
 }
@@ -44,21 +45,11 @@ pub fn without(m: Map, d: usize) -> Map
     }
 }
 
-// The bits that both maps have.
-pub fn shared(a: Map, b: Map) -> Map
-    ensures { λ r. ⌜ r ≡ sharedMap a b ⌝ }
+// 0 where no block is marked in both maps.
+pub fn shared(a: Map, b: Map) -> u64
+    ensures { λ r. ⌜ r ≡ sharedBits a b ⌝ }
 {
-    Map {
-        low: a.low & b.low,
-        high: a.high & b.high,
-    }
-}
-
-// Whether no bit is set.
-pub fn is_empty(m: Map) -> bool
-    ensures { λ r. ⌜ r ≡ emptyMap m ⌝ }
-{
-    (m.low == 0) & (m.high == 0)
+    (a.low & b.low) | (a.high & b.high)
 }
 
 // The map with the bits of `gone` cleared and then those of `come` set.

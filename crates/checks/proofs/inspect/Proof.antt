@@ -29,9 +29,6 @@ head-of-requires c κs = search (fitted-long, needs)
 tail-of-requires : tie.Need-tail-of-requires
 tail-of-requires c κs = search (fitted-long, needs)
 
-is-empty-requires : tie.Need-is-empty-requires
-is-empty-requires c κs = search needs
-
 entries-apart-requires : tie.Need-entries-apart-requires
 entries-apart-requires c κs = search (comparable, needs)
 
@@ -59,7 +56,6 @@ inspect-spec =
     returns-2
     head-of-requires
     tail-of-requires
-    is-empty-requires
     entries-apart-requires
     refused-requires-3
     returns-3

@@ -1,4 +1,4 @@
--- `mark` marks one block more, and marks it again where it was marked.
+-- `mark` marks one block more, and tells where it was marked already.
 use mathlib.Core.Path.{refl}
 use Rattle.checks.proofs.Marking.{marked-once}
 use borrow.Author.Needs.{needs}
@@ -14,15 +14,11 @@ moved-requires c κs = search needs
 shared-requires : tie.Need-shared-requires
 shared-requires c κs = search needs
 
-moved-requires-2 : tie.Need-moved-requires-2
-moved-requires-2 c κs = search needs
-
 returns : tie.Need-returns
 returns c =
     let m = c .before .before in
-    let w = m .before .before .before in
-    marked-once _ _ (w .before .pre) _ _ _ _ _ refl (w .with .ensures) (c .before .shared .ensures) (m .moved .ensures) (c .moved2 .ensures)
+    let w = m .before .before in
+    marked-once _ _ (w .before .pre) _ _ _ _ refl (w .with .ensures) (m .moved .ensures) (c .before .shared .ensures)
 
 pub mark-spec : {M : Type 1} → statement M
-mark-spec =
-    tie.close (tie.spec with-requires moved-requires shared-requires moved-requires-2 returns)
+mark-spec = tie.close (tie.spec with-requires moved-requires shared-requires returns)

@@ -1,10 +1,9 @@
 -- `settled_apart` answers whether the settled blocks are distinct. The invariant: those of the entries passed are marked.
 use Prim.Native.Nat.{_≤_, _-_}
-use Rattle.ring.proofs.Laws.{fitted-blocks}
+use mathlib.Core.Path.{_∙_}
 use Rattle.checks.specs.Keys.{settledKey}
 use Rattle.checks.specs.Passed.{MarkedBy}
 use Rattle.checks.proofs.Marking.{marked-start, marked-skip, marked-more, marked-end, marked-apart}
-use mathlib.Core.Path.{_∙_}
 use borrow.Author.Needs.{needs}
 use Rattle.checks.proofs.settled_apart.Statement.{statement}
 use Rattle.checks.proofs.settled_apart.Tie as tie
@@ -54,9 +53,6 @@ loop-again-2 c =
     let k = w .before in
     (search needs, marked-skip _ _ _ _ (k .before .before .loop .inv .1) (w .wide .ensures ∙ k .settled-key .ensures) (c .if1 .left))
 
-is-empty-requires : tie.Need-is-empty-requires Inv-loop μ-loop
-is-empty-requires c κs = search needs
-
 returns : tie.Need-returns Inv-loop μ-loop
 returns c = search (marked-apart, marked-end, needs)
 
@@ -77,5 +73,4 @@ settled-apart-spec =
     loop-again
     loop-less-2
     loop-again-2
-    is-empty-requires
     returns)

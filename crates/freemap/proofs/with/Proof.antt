@@ -4,11 +4,8 @@ use borrow.Author.Needs.{needs}
 use Rattle.freemap.proofs.with.Statement.{statement}
 use Rattle.freemap.proofs.with.Tie as tie
 
-shl-t6 : tie.Need-shl-t6
-shl-t6 c = search needs
-
-shl-t10 : tie.Need-shl-t10
-shl-t10 c = search needs
+shl-bit : tie.Need-shl-bit
+shl-bit c = search needs
 
 returns : tie.Need-returns
 returns c = search (with-low, needs)
@@ -17,4 +14,4 @@ returns-2 : tie.Need-returns-2
 returns-2 c = search (with-high, needs)
 
 pub with-spec : {M : Type 1} → statement M
-with-spec = tie.close (tie.spec shl-t6 shl-t10 returns returns-2)
+with-spec = tie.close (tie.spec shl-bit returns returns-2)
