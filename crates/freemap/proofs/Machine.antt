@@ -25,21 +25,14 @@ pub shift-one : (k : ℕ) → k < 64 → 1 * 2 ^ k % 2 ^ 64 ≡ 2 ^ k
 shift-one k h = shl-exact 1 k 64 (omega arith) (omega arith) ∙ one-mul (2 ^ k)
 
 module _ (m : Map) (d : ℕ) where
-  shift-place : (e : ℕ) → d % 64 ≡ e → e < 64 → 1 * 2 ^ (d % 64) % 2 ^ 64 ≡ 2 ^ e
-  shift-place e q h = ap (λ (k : ℕ). 1 * 2 ^ k % 2 ^ 64) q ∙ shift-one e h
-
-  pub with-low : d < 64 → _≡_ {A = Map} (record { low = bitOr (m .low) (1 * 2 ^ (d % 64) % 2 ^ 64); high = m .high }) (withBit m d)
+  pub with-low : d < 64 → _≡_ {A = Map} (record { low = bitOr (m .low) (1 * 2 ^ d % 2 ^ 64); high = m .high }) (withBit m d)
   unfolding withBit
-  with-low h =
-      let e : d % 64 ≡ d = omega arith in
-      rw (lt-ltb d 64 h) (λ t. record { low = bitOr (m .low) (shift-place d e h t); high = m .high })
+  with-low h = rw (lt-ltb d 64 h) (λ t. record { low = bitOr (m .low) (shift-one d h t); high = m .high })
 
   pub with-high : 64 ≤ d → d < 128
-      → _≡_ {A = Map} (record { low = m .low; high = bitOr (m .high) (1 * 2 ^ (d % 64) % 2 ^ 64) }) (withBit m d)
+      → _≡_ {A = Map} (record { low = m .low; high = bitOr (m .high) (1 * 2 ^ (d - 64) % 2 ^ 64) }) (withBit m d)
   unfolding withBit
-  with-high h l =
-      let e : d % 64 ≡ d - 64 = omega arith in
-      rw (le-ltb d 64 h) (λ t. record { low = m .low; high = bitOr (m .high) (shift-place (d - 64) e (omega arith) t) })
+  with-high h l = rw (le-ltb d 64 h) (λ t. record { low = m .low; high = bitOr (m .high) (shift-one (d - 64) (omega arith) t) })
 
   pub without-low : d < 64 → _≡_ {A = Map} (record { low = bitAnd (m .low) (FULL - 1 * 2 ^ d % 2 ^ 64); high = m .high }) (withoutBit m d)
   unfolding withoutBit

@@ -8,21 +8,20 @@ ghost use Rattle.protocol.specs.Map.{mapBy, freeCount, sameMap};
 ghost use Rattle.freemap.specs.Bits.{withBit, withoutBit, sharedBits, movedMap, clearFrom, freeFrom, nextFree, takenAt};
 ghost use Rattle.freemap.specs.Taken.{Took};
 
-// The map with bit d set. One shift serves both words, so that the compiler chooses between them without a jump.
+// The map with bit d set.
 pub fn with(m: Map, d: usize) -> Map
     requires { ⌜ d < 128 ⌝ }
     ensures { λ r. ⌜ r ≡ withBit m d ⌝ }
 {
-    let bit = 1 << (d % 64);
     if d < 64 {
         Map {
-            low: m.low | bit,
+            low: m.low | (1 << d),
             high: m.high,
         }
     } else {
         Map {
             low: m.low,
-            high: m.high | bit,
+            high: m.high | (1 << (d - 64)),
         }
     }
 }

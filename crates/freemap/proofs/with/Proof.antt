@@ -4,8 +4,11 @@ use borrow.Author.Needs.{needs}
 use Rattle.freemap.proofs.with.Statement.{statement}
 use Rattle.freemap.proofs.with.Tie as tie
 
-shl-bit : tie.Need-shl-bit
-shl-bit c = search needs
+shl-t6 : tie.Need-shl-t6
+shl-t6 c = search needs
+
+shl-t10 : tie.Need-shl-t10
+shl-t10 c = search needs
 
 returns : tie.Need-returns
 returns c = search (with-low, needs)
@@ -14,4 +17,4 @@ returns-2 : tie.Need-returns-2
 returns-2 c = search (with-high, needs)
 
 pub with-spec : {M : Type 1} → statement M
-with-spec = tie.close (tie.spec shl-bit returns returns-2)
+with-spec = tie.close (tie.spec shl-t6 shl-t10 returns returns-2)
