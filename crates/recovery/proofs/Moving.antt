@@ -33,7 +33,7 @@ use Rattle.recovery.specs.declared.Step.{Step}
 use Rattle.recovery.specs.declared.Step.the-variants.{Nothing, Undo, Tail}
 use Rattle.recovery.specs.Step.{changedAt, runsAt, undoes, Listed}
 use Rattle.recovery.specs.Went.{Went}
-use Rattle.recovery.specs.Blocks.{noted, blocksBy, Noted}
+use Rattle.recovery.specs.Blocks.{noted, blocksBy, BlocksNoted}
 use Rattle.recovery.proofs.Skipped.{same-fields}
 use Rattle.recovery.proofs.Turns.{entry-stays, changed-stays}
 
@@ -82,12 +82,12 @@ module _ (g : Geometry) (c : List ℕ) (i : ℕ) (f : Fitted g c) (good : goodEn
   blocks-small e q =
       subst (λ (y : Entry). (y .current < 128) × ((y .previous ≡ FRESH → ⊥) → y .previous < 128)) (sym q) (current-small, previous-small)
 
-  noted-more : (m : Moved) → Noted g c i m → Noted g c (i + 1) (noted (changedAt g c i) (entryAt g c i) m)
+  noted-more : (m : Moved) → BlocksNoted g c i m → BlocksNoted g c (i + 1) (noted (changedAt g c i) (entryAt g c i) m)
   unfolding noted
   noted-more m x = go (changedAt g c i) refl (eqb (entryAt g c i .previous) FRESH) refl
     where
       go : (b : Bool) → changedAt g c i ≡ b → (q : Bool) → eqb (entryAt g c i .previous) FRESH ≡ q
-          → Noted g c (i + 1)
+          → BlocksNoted g c (i + 1)
           (cond b
           (record { gone = withBit (m .gone) (entryAt g c i .current); come = cond q (m .come) (withBit (m .come) (entryAt g c i .previous)) })
           m)
@@ -138,11 +138,11 @@ module _ (u : Step) (e : Entry) (so : Moved) where
 abbrev nowhere : Map
 nowhere = record { low = 0; high = 0 }
 
-pub noted-none : (g : Geometry) (c : List ℕ) → Noted g c (min 0 (g .blocks)) (record { gone = nowhere; come = nowhere })
+pub noted-none : (g : Geometry) (c : List ℕ) → BlocksNoted g c (min 0 (g .blocks)) (record { gone = nowhere; come = nowhere })
 unfolding anyBelow
 noted-none g c =
     let z : min 0 (g .blocks) ≡ 0 = omega arith in
-    subst (λ (n : ℕ). Noted g c n (record { gone = nowhere; come = nowhere })) (sym z) (record { gone = empty-by; come = empty-by })
+    subst (λ (n : ℕ). BlocksNoted g c n (record { gone = nowhere; come = nowhere })) (sym z) (record { gone = empty-by; come = empty-by })
 
 -- c is the card c₀ after i turns, cut anywhere, and u the step of the next place
 module _ (g : Geometry) (c₀ : List ℕ) (i a : ℕ) (c : List ℕ) (n r : ℕ)
@@ -156,34 +156,34 @@ module _ (g : Geometry) (c₀ : List ℕ) (i a : ℕ) (c : List ℕ) (n r : ℕ)
   unfolding goodEntryAt
   good-stays l = ap (goodEntry (g .blocks) (g .disk)) (entry-stays g c₀ i a c n r x top w v l) ∙ good₀ l
 
-  pub noted-next : Fitted g c₀ → (u : Step) → Listed g c i u → (m m′ : Moved) → Noted g c₀ (min i (g .blocks)) m
-      → m′ ≡ noted (undoes u) (entryAt g c i) m → Noted g c₀ (min (i + 1) (g .blocks)) m′
+  pub noted-next : Fitted g c₀ → (u : Step) → Listed g c i u → (m m′ : Moved) → BlocksNoted g c₀ (min i (g .blocks)) m
+      → m′ ≡ noted (undoes u) (entryAt g c i) m → BlocksNoted g c₀ (min (i + 1) (g .blocks)) m′
   unfolding noted
   noted-next f u k m m′ y e = ⊎-elim below above (below-or-above i (g .blocks))
     where
-      below : i < g .blocks → Noted g c₀ (min (i + 1) (g .blocks)) m′
+      below : i < g .blocks → BlocksNoted g c₀ (min (i + 1) (g .blocks)) m′
       below l =
           let here : min i (g .blocks) ≡ i = omega arith in
           let next : i + 1 ≡ min (i + 1) (g .blocks) = omega arith in
           let changed = k .changes l ∙ changed-stays g c₀ i a c n r x top w v l in
           let is : m′ ≡ noted (changedAt g c₀ i) (entryAt g c₀ i) m = e ∙ (λ t. noted (changed t) (entry-stays g c₀ i a c n r x top w v l t) m) in
-          subst (λ (p : Moved). Noted g c₀ (min (i + 1) (g .blocks)) p) (sym is)
-          (subst (λ (p : ℕ). Noted g c₀ p (noted (changedAt g c₀ i) (entryAt g c₀ i) m)) next
-          (noted-more g c₀ i f (good₀ l) m (subst (λ (p : ℕ). Noted g c₀ p m) here y)))
+          subst (λ (p : Moved). BlocksNoted g c₀ (min (i + 1) (g .blocks)) p) (sym is)
+          (subst (λ (p : ℕ). BlocksNoted g c₀ p (noted (changedAt g c₀ i) (entryAt g c₀ i) m)) next
+          (noted-more g c₀ i f (good₀ l) m (subst (λ (p : ℕ). BlocksNoted g c₀ p m) here y)))
 
-      above : g .blocks ≤ i → Noted g c₀ (min (i + 1) (g .blocks)) m′
+      above : g .blocks ≤ i → BlocksNoted g c₀ (min (i + 1) (g .blocks)) m′
       above l =
           let next : min i (g .blocks) ≡ min (i + 1) (g .blocks) = omega arith in
           let not-undone : undoes u ≡ false = ⊎-elim (λ t. absurd (omega (arith, k .fits t))) (λ t. t) (either (undoes u)) in
           let is : m′ ≡ m = e ∙ ap (λ (b : Bool). noted b (entryAt g c i) m) not-undone in
-          subst (λ (p : Moved). Noted g c₀ (min (i + 1) (g .blocks)) p) (sym is) (subst (λ (p : ℕ). Noted g c₀ p m) next y)
+          subst (λ (p : Moved). BlocksNoted g c₀ (min (i + 1) (g .blocks)) p) (sym is) (subst (λ (p : ℕ). BlocksNoted g c₀ p m) next y)
 
-pub noted-last : (g : Geometry) (c : List ℕ) (m : Moved) (i n : ℕ) → n < i → n ≡ g .blocks → Noted g c (min i (g .blocks)) m → Noted g c (g .blocks) m
-noted-last g c m i n h e x = let q : min i (g .blocks) ≡ g .blocks = omega arith in subst (λ (k : ℕ). Noted g c k m) q x
+pub noted-last : (g : Geometry) (c : List ℕ) (m : Moved) (i n : ℕ) → n < i → n ≡ g .blocks → BlocksNoted g c (min i (g .blocks)) m → BlocksNoted g c (g .blocks) m
+noted-last g c m i n h e x = let q : min i (g .blocks) ≡ g .blocks = omega arith in subst (λ (k : ℕ). BlocksNoted g c k m) q x
 
 -- ---- what the whole list leaves of the map
 
-pub moved-map : (c : List ℕ) (m : Map) → recoverRefusal c m ≡ 0 → (b : Moved) → Noted (geometryOf c) c (geometryOf c .blocks) b
+pub moved-map : (c : List ℕ) (m : Map) → recoverRefusal c m ≡ 0 → (b : Moved) → BlocksNoted (geometryOf c) c (geometryOf c .blocks) b
     → movedMap (mapOf c) (b .gone) (b .come) ≡ mapOf (madeOn card (flat (recoverRuns (geometryOf c) c)) c)
 unfolding mapOf changedAt
 moved-map c m z b x =

@@ -33,7 +33,7 @@ use Rattle.recovery.specs.declared.Moved.{Moved}
 use Rattle.recovery.specs.declared.Progress.{Progress}
 use Rattle.recovery.specs.Step.{Examined}
 use Rattle.recovery.specs.Went.{Went, Recovered}
-use Rattle.recovery.specs.Blocks.{Noted}
+use Rattle.recovery.specs.Blocks.{BlocksNoted}
 use Rattle.recovery.proofs.Moving.{moved-map}
 
 -- ---- refusals in order
@@ -158,7 +158,7 @@ module _ (a : ℕ) (c : List ℕ) (m : Map) where
               after-is = after-is;
             }
 
-        pub done-recovery : p .count ≤ a → (b : Moved) → Noted (s .geometry) c (s .geometry .blocks) b → (n : Map) → n ≡ movedMap m (b .gone) (b .come)
+        pub done-recovery : p .count ≤ a → (b : Moved) → BlocksNoted (s .geometry) c (s .geometry .blocks) b → (n : Map) → n ≡ movedMap m (b .gone) (b .come)
             → Recovered a c m d (record { answer = Done (p .count); map = n })
         unfolding mapAfter handedOn
         done-recovery l b k n e =
@@ -166,7 +166,7 @@ module _ (a : ℕ) (c : List ℕ) (m : Map) where
             let all : d ≡ madeOn card (flat (recoverRuns (geometryOf c) c)) c =
             made .did .made ∙ ap (λ (ss : List Store). madeOn card ss c) (take-all a _ (omega (arith, made .counted))) in
             let old : m ≡ mapOf c = same-map m (mapOf c) (sym told ∙ not-false t h) in
-            let own = subst (λ (g : Geometry). Noted g c (g .blocks) b) (x .own z) k in
+            let own = subst (λ (g : Geometry). BlocksNoted g c (g .blocks) b) (x .own z) k in
             record {
               answer-is = said;
               map-is =

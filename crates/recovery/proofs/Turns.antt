@@ -35,7 +35,7 @@ use Rattle.stores.proofs.Laws.{did-none, did-same, did-each, did-length, length
 use Rattle.recovery.specs.declared.Progress.{Progress}
 use Rattle.recovery.specs.declared.Step.{Step}
 use Rattle.recovery.specs.declared.Step.the-variants.{Nothing, Undo, Tail}
-use Rattle.recovery.specs.Step.{changedAt, runsAt, stepStores, undoes, Undoes, Listed}
+use Rattle.recovery.specs.Step.{changedAt, runsAt, stepStores, undoes, UndoneBy, Listed}
 use Rattle.recovery.specs.Went.{Went, sameEntry}
 use Rattle.recovery.proofs.Skipped.{entry-left-out, entry-changing, tail-left-out, tail-changing}
 
@@ -63,7 +63,7 @@ unfolding undoableAt usedAt undoableEntry
 undoable-is g c i e t p q = ap (undoableEntry g c) (sym p) ∙ sym q
 
 module _ (g : Geometry) (c : List ℕ) (i : ℕ) (e : Entry) (t : Bool) (p : e ≡ entryAt g c i) (q : t ≡ undoableEntry g c e) where
-  pub step-passed : not t ≡ true → Undoes g c i Nothing
+  pub step-passed : not t ≡ true → UndoneBy g c i Nothing
   unfolding undoRuns stepStores undoes changedAt
   step-passed h =
       let n : undoableAt g c i ≡ false = undoable-is g c i e t p q ∙ not-true t h in
@@ -84,12 +84,12 @@ module _ (g : Geometry) (c : List ℕ) (i : ℕ) (e : Entry) (t : Bool) (p : e �
     unfolding changedAt
     changed-is b z = rw (is-undoable, same-is, z)
 
-    pub step-left-out : s ≡ true → Undoes g c i Nothing
+    pub step-left-out : s ≡ true → UndoneBy g c i Nothing
     unfolding stepStores undoes
     step-left-out z =
         record { stores = no-stores _ (runs-are ∙ entry-left-out g c (f .long) b i l (same-is ∙ z)); changes = changed-is true z }
 
-    pub step-undone : s ≡ false → Undoes g c i (Undo u)
+    pub step-undone : s ≡ false → UndoneBy g c i (Undo u)
     unfolding stepStores undoes
     step-undone z =
         record {
@@ -120,7 +120,7 @@ unfolding runsAt
 at-tail g c i l = rw (le-ltb i (g .blocks) l)
 
 module _ (g : Geometry) (c : List ℕ) (i : ℕ) (u : Step) where
-  pub listed-entry : i < g .blocks → Undoes g c i u → Listed g c i u
+  pub listed-entry : i < g .blocks → UndoneBy g c i u → Listed g c i u
   listed-entry l e = record { stores = e .stores ∙ ap flat (sym (at-entry g c i l)); fits = λ q. l; changes = λ q. e .changes }
 
   pub listed-tail : g .blocks ≤ i → (stepStores g i u ≡ flat (ifChanging c (tailStore (headOf c)))) × (undoes u ≡ false) → Listed g c i u

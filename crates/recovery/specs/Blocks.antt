@@ -26,6 +26,6 @@ abbrev pub blocksBy : (ℕ → Bool) → (ℕ → ℕ) → ℕ → Map
 blocksBy changed f n = mapBy (λ x. anyBelow (λ i. changed i && eqb (f i) x) n)
 
 -- m has the blocks that the first n entries of the card c give up, and those that they take
-pub record Noted (g : Geometry) (c : List ℕ) (n : ℕ) (m : Moved) : Type 0 where
+pub record BlocksNoted (g : Geometry) (c : List ℕ) (n : ℕ) (m : Moved) : Type 0 where
   pub gone : m .gone ≡ blocksBy (changedAt g c) (λ i. entryAt g c i .current) n
   pub come : m .come ≡ blocksBy (changedAt g c) (λ i. entryAt g c i .previous) n

@@ -46,7 +46,7 @@ unfoldable pub spelledStores : Spelled → List Store
 spelledStores s = cond (eqb (s .size) 0) [] (cardStore (s .place) (part (s .bytes) 0 (s .size)) ∷ [])
 
 -- the step u is what becomes of entry i of the card c
-pub record Undoes (g : Geometry) (c : List ℕ) (i : ℕ) (u : Step) : Type 0 where
+pub record UndoneBy (g : Geometry) (c : List ℕ) (i : ℕ) (u : Step) : Type 0 where
   pub stores : stepStores g i u ≡ flat (undoRuns g c i)
   pub changes : undoes u ≡ changedAt g c i
 

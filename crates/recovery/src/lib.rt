@@ -20,9 +20,9 @@ ghost use Rattle.protocol.specs.Store.{flat, tailStore};
 ghost use Rattle.protocol.specs.Map.{madeMap};
 ghost use Rattle.protocol.specs.Recover.{ifChanging, recoverRuns};
 ghost use Rattle.ring.specs.Fitted.{Fitted, WindowOf};
-ghost use Rattle.recovery.specs.Step.{stepStores, undoes, spelledStores, Undoes, Listed, Examined};
+ghost use Rattle.recovery.specs.Step.{stepStores, undoes, spelledStores, UndoneBy, Listed, Examined};
 ghost use Rattle.recovery.specs.Went.{Went, Recovered, sameEntry};
-ghost use Rattle.recovery.specs.Blocks.{noted, Noted};
+ghost use Rattle.recovery.specs.Blocks.{noted, BlocksNoted};
 
 // How far recovery has come: the stores that its list has so far, and what is left of the allowance.
 pub struct Progress {
@@ -68,7 +68,7 @@ pub enum Step {
 // as the bytes.
 fn undo_step(g: Geometry, card: &[u8], w: Window, i: usize) -> Step
     requires { ⌜ Fitted g (now card) × WindowOf g (now card) w × (i < g .blocks) ⌝ }
-    ensures { λ r. ⌜ Undoes g (now (card .entry)) i r ⌝ }
+    ensures { λ r. ⌜ UndoneBy g (now (card .entry)) i r ⌝ }
 {
     let e = checks::entry_of(g, card, i);
     if !checks::undoable(g, card, w, e) {
@@ -222,7 +222,7 @@ pub struct Made {
 // go from one entry to another, so what is given up and what is taken are kept apart.
 fn make_list(g: Geometry, card: &mut [u8], w: Window, allowance: u64) -> Made
     requires { ⌜ Fitted g (now card) × WindowOf g (now card) w × (entriesFit g (now card) ≡ true) ⌝ }
-    ensures { λ r. ⌜ Went (flat (recoverRuns g (now (card .entry)))) allowance (now (card .entry)) (now (card .exit)) (r .progress) × Noted g (now (card .entry)) (g .blocks) (r .moved) ⌝ }
+    ensures { λ r. ⌜ Went (flat (recoverRuns g (now (card .entry)))) allowance (now (card .entry)) (now (card .exit)) (r .progress) × BlocksNoted g (now (card .entry)) (g .blocks) (r .moved) ⌝ }
 {
     let n = g.blocks as usize;
     let mut count: u64 = 0;

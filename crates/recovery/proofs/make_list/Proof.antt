@@ -7,7 +7,7 @@ use Rattle.protocol.specs.Store.{flat}
 use Rattle.stores.proofs.Laws.{did-length}
 use Rattle.recovery.specs.Step.{runsAt}
 use Rattle.recovery.specs.Went.{Went}
-use Rattle.recovery.specs.Blocks.{Noted}
+use Rattle.recovery.specs.Blocks.{BlocksNoted}
 use Rattle.recovery.proofs.Moving.{noted-none, good-stays, noted-next, noted-last}
 use Rattle.recovery.proofs.Turns.{turn-first, turn-next, turn-last, fitted-stays, window-stays, place-fits, count-fits}
 use Rattle.recovery.proofs.make_list.Statement.{statement}
@@ -18,7 +18,7 @@ Inv-loop g card₀ w allowance n count₀ left₀ moved₀ i₀ card count left 
     (i ≤ n + 1)
     × Went (flat (eachBelow (runsAt g card₀) i)) allowance card₀ card (record { count = count; left = left })
     × (count ≤ i)
-    × Noted g card₀ (min i (g .blocks)) moved
+    × BlocksNoted g card₀ (min i (g .blocks)) moved
 
 abbrev μ-loop : tie.MeasureT-loop
 μ-loop g card₀ w allowance n count₀ left₀ moved₀ i₀ card count left moved i = n + 1 - i
