@@ -1,7 +1,7 @@
 -- The pass over the entries: after i of them, check 5 allows each, and their keys are listed. Assumes nothing.
 use Prim.Native.Nat.{ℕ, _+_, _^_, _≤_, _<_}
 use mathlib.Core.List.{List}
-use mathlib.Core.Bool.{Bool, true, false, not, _&&_, _||_}
+use mathlib.Core.Bool.{Bool, true, false, not, _&&_}
 use mathlib.Core.Logic.{⊎-elim}
 use mathlib.Core.Path.{_≡_, refl, sym, ap, _∙_, subst}
 use native.Mathlib.Nat.{not-suc-le-zero, add-zero}
@@ -9,6 +9,7 @@ use native.Mathlib.Numerals.{add-one}
 use native.Mathlib.Omega.{arith}
 use lib.ListN.{length, getD, set, length-set}
 use lib.Seq.{getD-set-same, getD-set-other}
+use lib.Bits.{bitOr}
 use lib.Dec.{eqb}
 use borrow.Author.Tests.{not-true, not-false}
 use Rattle.numbers.specs.Bytes.{numberAt, Bytes}
@@ -25,8 +26,7 @@ use Rattle.ring.specs.Fitted.{Fitted}
 use Rattle.ring.proofs.Laws.{Room, room}
 use Rattle.checks.specs.Keys.{NONE, key, numberKey, currentKey, keyAt, Lists}
 use Rattle.checks.specs.Quarters.{quartersEntry, Quarter}
-use Rattle.checks.specs.declared.Marks.{Marks}
-use Rattle.checks.specs.Passed.{Marking, MarkedBy, Decoded}
+use Rattle.checks.specs.Passed.{MarkedBy, Decoded}
 use Rattle.checks.proofs.Quarters.{zeroQuarters, quarters-unused, quarters-current, quarters-key, quarters-number, quarters-role}
 use Rattle.checks.proofs.Marking.{marked-skip, marked-more, marked-end}
 
@@ -116,9 +116,9 @@ module _ {g : Geometry} {c : List ℕ} {i x l p q : ℕ} (s : Split g c i x l p 
       (sym (ap (λ (e : Entry). key (inUse e) (e .current)) z)))
 
   pub listed-bad : (ns cs : List ℕ) {ok : Bool} → ok ≡ goodEntry (g .blocks) (g .disk) (quartersEntry x l p q) → not ok ≡ true
-      → (m : Marks) → Decoded g c ns cs (record { fits = false; quiet = false; marks = m })
+      → (ms : List ℕ) → Decoded g c ns cs (record { fits = false; quiet = false; again = 0; marks = ms })
   unfolding entriesFit goodEntryAt
-  listed-bad ns cs {ok} r o m = record {
+  listed-bad ns cs {ok} r o ms = record {
     fits =
         sym (all-fails (goodEntryAt g c) (g .blocks) i (s .below) (ap (goodEntry (g .blocks) (g .disk)) (sym quarters-entry) ∙ sym r ∙ not-true ok o));
     quiet = λ h. absurd-bool h refl;
@@ -127,11 +127,11 @@ module _ {g : Geometry} {c : List ℕ} {i x l p q : ℕ} (s : Split g c i x l p 
     marked = λ h. absurd-bool h refl;
   }
 
-  pub marked-unused : {m : Marks} → MarkedBy (currentKey g c) i m → zeroQuarters x l p q ≡ true → MarkedBy (currentKey g c) (i + 1) m
+  pub marked-unused : {ms : List ℕ} {a : ℕ} → MarkedBy (currentKey g c) i ms a → zeroQuarters x l p q ≡ true → MarkedBy (currentKey g c) (i + 1) ms a
   unfolding currentKey usedAt inUse key
-  marked-unused {m} h e =
+  marked-unused {ms} {a} h e =
       let z : entryAt g c i ≡ unused = sym quarters-entry ∙ quarters-unused x l p q e in
-      marked-skip (currentKey g c) m i NONE h (sym (ap (λ (e : Entry). key (inUse e) (e .current)) z)) (omega arith)
+      marked-skip (currentKey g c) ms a i NONE h (sym (ap (λ (e : Entry). key (inUse e) (e .current)) z)) (omega arith)
 
   module _ {ok : Bool} (z : zeroQuarters x l p q ≡ false) (r : ok ≡ goodEntry (g .blocks) (g .disk) (quartersEntry x l p q)) (o : not ok ≡ false) where
     pub current-few : q < 128
@@ -140,16 +140,16 @@ module _ {g : Geometry} {c : List ℕ} {i x l p q : ℕ} (s : Split g c i x l p 
         let d : g .disk ≤ 65536 = omega arith in
         omega (arith, quarters-current (g .blocks) (g .disk) x l p q d (s .third .below) z (sym r ∙ not-false ok o))
 
-    pub marked-used : {m : Marks} (n : Marks) (k : ℕ) → MarkedBy (currentKey g c) i m → k ≡ q
-        → ((p t : ℕ → Bool) → Marking p t m → Marking (λ x. p x || eqb k x) (λ x. t x || (p x && eqb k x)) n) → MarkedBy (currentKey g c) (i + 1) n
+    pub marked-used : {ms : List ℕ} {a : ℕ} (k : ℕ) → MarkedBy (currentKey g c) i ms a → k ≡ q
+        → MarkedBy (currentKey g c) (i + 1) (set ms k 1) (bitOr a (getD ms k 0))
     unfolding currentKey usedAt quartersEntry
-    marked-used {m} n k h e w =
+    marked-used {ms} {a} k h e =
         let y : Room g c = room g c (s .fitted) in
         let d : g .disk ≤ 65536 = omega arith in
         let good : goodEntry (g .blocks) (g .disk) (quartersEntry x l p q) ≡ true = sym r ∙ not-false ok o in
-        marked-more (currentKey g c) m i k h
+        marked-more (currentKey g c) ms a i k h
         (e ∙ quarters-key (g .blocks) (g .disk) x l p q d (s .third .below) z good q ∙ ap (λ (e : Entry). key (inUse e) (e .current)) quarters-entry)
-        n w
+        (omega (arith, current-few))
 
   pub listed-used : {quiet : Bool} {ns cs : List ℕ} {ok : Bool} → Listed g c i quiet ns cs → zeroQuarters x l p q ≡ false
       → ok ≡ goodEntry (g .blocks) (g .disk) (quartersEntry x l p q) → not ok ≡ false
@@ -168,15 +168,16 @@ module _ {g : Geometry} {c : List ℕ} {i x l p q : ℕ} (s : Split g c i x l p 
       ∙ ap (λ (e : Entry). key (inUse e) (e .number)) quarters-entry)
       (quarters-key (g .blocks) (g .disk) x l p q d b z good q ∙ ap (λ (e : Entry). key (inUse e) (e .current)) quarters-entry)
 
-pub listed-end : (g : Geometry) (c : List ℕ) (i : ℕ) (quiet : Bool) (ns cs : List ℕ) (m : Marks) → Listed g c i quiet ns cs
-    → MarkedBy (currentKey g c) i m → g .blocks ≤ i → i ≤ g .blocks → Decoded g c ns cs (record { fits = true; quiet = quiet; marks = m })
+pub listed-end : (g : Geometry) (c : List ℕ) (i : ℕ) (quiet : Bool) (ns cs ms : List ℕ) (x : ℕ) → Listed g c i quiet ns cs
+    → MarkedBy (currentKey g c) i ms x → g .blocks ≤ i → i ≤ g .blocks
+    → Decoded g c ns cs (record { fits = true; quiet = quiet; again = x; marks = ms })
 unfolding entriesFit
-listed-end g c i quiet ns cs m h w a b =
+listed-end g c i quiet ns cs ms x h w a b =
     let e : i ≡ g .blocks = omega arith in
     record {
       fits = sym (all-done (goodEntryAt g c) (g .blocks) i (h .good) a b);
       quiet = λ t. h .silent ∙ ap (allBelow (roleFreeAt g c)) e;
       numbers = λ t. lists-all (numberKey g c) ns i (g .blocks) a (h .numbers);
       currents = λ t. lists-all (currentKey g c) cs i (g .blocks) a (h .currents);
-      marked = λ t. marked-end (currentKey g c) m i (g .blocks) w b a;
+      marked = λ t. marked-end (currentKey g c) ms x i (g .blocks) w b a;
     }

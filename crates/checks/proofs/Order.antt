@@ -1,17 +1,15 @@
 -- Checks 4 to 7 in their order. Assumes nothing.
 use Prim.Native.Nat.{ℕ, _<_}
 use mathlib.Core.List.{List}
-use mathlib.Core.Bool.{Bool, true, false, not, _&&_, _||_}
+use mathlib.Core.Bool.{Bool, true, false, not, _&&_}
 use mathlib.Core.Path.{_≡_, sym, _∙_}
 use native.Mathlib.Omega.{arith}
-use lib.Dec.{eqb, ltb, leb}
+use lib.Dec.{eqb, ltb}
 use borrow.Author.Tests.{ltb-true, not-true, not-false}
 use Rattle.protocol.specs.declared.Geometry.{Geometry}
-use Rattle.protocol.specs.declared.Map.{Map}
 use Rattle.protocol.specs.Below.{allBelow}
 use Rattle.protocol.specs.Ring.{headOf, tailOf, windowOf, isSettled}
 use Rattle.protocol.specs.Check.{refuse, _orElse_, windowNumberFits, ringFits, entriesFit, entriesApart, damageRefusal, cardRefusal}
-use Rattle.protocol.specs.Map.{mapBy}
 use Rattle.protocol.proofs.Below.{and-left, and-right}
 use Rattle.protocol.proofs.Checks.{refuse-passed, refuse-failed, orElse-first, orElse-next}
 use Rattle.ring.specs.Fitted.{Fitted, Placed}
@@ -19,7 +17,7 @@ use Rattle.checks.specs.declared.Seen.{Seen}
 use Rattle.checks.specs.declared.Verdict.{Verdict}
 use Rattle.checks.specs.Keys.{currentKey}
 use Rattle.checks.specs.Passed.{Decoded, Comparable, Inspected}
-use Rattle.checks.proofs.Marking.{marked-apart, map-given}
+use Rattle.checks.proofs.Marking.{marked-apart}
 
 ring-placed : (g : Geometry) (c : List ℕ) → ringFits g c ≡ true → Placed g c
 unfolding ringFits
@@ -38,7 +36,7 @@ module _ (g : Geometry) (c ns cs : List ℕ) (r : Bool) (ring : r ≡ ringFits g
     settled-is = λ z. absurd (omega arith);
     numbers = λ z. absurd (omega arith);
     currents = λ z. absurd (omega arith);
-    map-is = λ z. absurd (omega arith);
+    marks-are = λ z. absurd (omega arith);
   }
 
   pub ring-damaged : (v : Verdict) → not r ≡ true → (v .refusal ≡ 4) × (v .settled ≡ false) → Inspected g c ns cs v
@@ -75,7 +73,7 @@ module _ (g : Geometry) (c ns cs : List ℕ) (r : Bool) (ring : r ≡ ringFits g
       settled-test h t eh et = λ i. eqb (eh i) (et i) && d .quiet (not-false (s .fits) fits) i
 
       pub comparable : (h t : ℕ) → Fitted g c → h ≡ headOf c → t ≡ tailOf c
-          → Comparable g c ns (eqb (s .marks .again) 0) (eqb h t && s .quiet)
+          → Comparable g c ns (eqb (s .again) 0) (eqb h t && s .quiet)
       comparable h t f eh et =
           let on : s .fits ≡ true = not-false (s .fits) fits in
           record {
@@ -83,21 +81,20 @@ module _ (g : Geometry) (c ns cs : List ℕ) (r : Bool) (ring : r ≡ ringFits g
             placed = ring-placed g c (sym ring ∙ not-false r rings);
             fits = sym (d .fits) ∙ on;
             numbers = d .numbers on;
-            apart-is = marked-apart (currentKey g c) (g .blocks) (s .marks) (d .marked on);
+            apart-is = marked-apart (currentKey g c) (g .blocks) (s .marks) (s .again) (d .marked on);
             settled-is = settled-test h t eh et;
           }
 
-      pub undamaged : (h t : ℕ) (p : Bool) (y : Map) → h ≡ headOf c → t ≡ tailOf c → p ≡ entriesApart g c → not p ≡ false
-          → ((k : ℕ → Bool) → s .marks .map ≡ mapBy k → y ≡ mapBy (λ i. k i || leb (g .blocks) i))
-          → Inspected g c ns cs (record { refusal = 0; settled = eqb h t && s .quiet; map = y })
-      undamaged h t p y eh et q o z =
+      pub undamaged : (h t : ℕ) (p : Bool) → h ≡ headOf c → t ≡ tailOf c → p ≡ entriesApart g c → not p ≡ false
+          → Inspected g c ns cs (record { refusal = 0; settled = eqb h t && s .quiet; marks = s .marks })
+      undamaged h t p eh et q o =
           let on : s .fits ≡ true = not-false (s .fits) fits in
           record {
             refusal-is = past-entries 0 (refuse-passed 6 (entriesApart g c) (sym q ∙ not-false p o));
             settled-is = λ w. settled-test h t eh et;
             numbers = λ w. d .numbers on;
             currents = λ w. d .currents on;
-            map-is = λ w. z _ (d .marked on .map-is) ∙ map-given g c;
+            marks-are = λ w. d .marked on .marks;
           }
 
 -- ---- check 7

@@ -4,20 +4,21 @@ use protocol::Geometry;
 use protocol::Map;
 use ring::Window;
 ghost use mathlib.Core.Path.{_≡_};
-ghost use mathlib.Core.Bool.{Bool, true, false, _&&_, _||_};
+ghost use mathlib.Core.Bool.{true, false};
+ghost use mathlib.Core.List.{List};
 ghost use Prim.Native.Nat.{ℕ, _≤_, _<_};
 ghost use lib.ListN.{length};
-ghost use lib.Dec.{eqb, leb};
 ghost use Rattle.protocol.specs.Below.{anyBelow, firstBelow};
 ghost use Rattle.protocol.specs.Layout.{goodGeometry};
 ghost use Rattle.protocol.specs.Entry.{entryAt, goodEntry};
 ghost use Rattle.protocol.specs.Check.{entriesApart, damageRefusal, cardRefusal};
-ghost use Rattle.protocol.specs.Map.{mapBy};
+ghost use Rattle.protocol.specs.Map.{mapBy, isMarked};
+ghost use Rattle.freemap.specs.Bits.{MarkBytes};
 ghost use Rattle.ring.specs.Fitted.{Fitted, Placed, WindowOf};
 ghost use Rattle.checks.specs.Keys.{NONE, settledKey, undoableEntry, keyed, distinct, keyAt};
 ghost use Rattle.checks.specs.Chain.{Chained};
 ghost use Rattle.checks.specs.Quarters.{quartersEntry, Quarter};
-ghost use Rattle.checks.specs.Passed.{Marking, Decoded, Comparable, Inspected};
+ghost use Rattle.checks.specs.Passed.{CurrentMarks, Decoded, Comparable, Inspected};
 
 // Entry i of the card.
 pub fn entry_of(g: Geometry, card: &[u8], i: usize) -> Entry
@@ -49,40 +50,13 @@ fn good_quarters(n: u64, d: u64, x: u64, l: u64, p: u64, q: u64) -> bool
     unused | (allowed & ((l < d) & ((q < n) & held)))
 }
 
-// Marks of data blocks that came, and a word that is 0 where none came again.
-pub struct Marks {
-    pub map: Map,
-    pub again: u64,
-}
-
-fn no_marks() -> Marks
-    ensures { λ r. ⌜ Marking (λ x. false) (λ x. false) r ⌝ }
-{
-    Marks {
-        map: Map { low: 0, high: 0 },
-        again: 0,
-    }
-}
-
-// One block more. No test jumps here: which word a block is in is not to be foreseen.
-fn mark(m: Marks, d: usize) -> Marks
-    requires { ⌜ d < 128 ⌝ }
-    ensures { λ r. ⌜ ((p q : ℕ → Bool) → Marking p q m → Marking (λ x. p x || eqb d x) (λ x. q x || (p x && eqb d x)) r) ⌝ }
-{
-    let nothing = Map { low: 0, high: 0 };
-    let block = freemap::with(nothing, d);
-    let map = m.map;
-    Marks {
-        map: freemap::moved(map, nothing, block),
-        again: m.again | freemap::shared(map, block),
-    }
-}
-
-// What one pass over the entries finds: whether check 5 allows them all, whether none has R, and the marks of their current blocks.
+// What one pass over the entries finds: whether check 5 allows them all, whether none has R, a mark for each of their current blocks, and
+// a byte that is 0 where no block came again.
 pub struct Seen {
     pub fits: bool,
     pub quiet: bool,
-    pub marks: Marks,
+    pub again: u8,
+    pub marks: [u8; 128],
 }
 
 fn narrow(x: u64) -> usize
@@ -98,7 +72,8 @@ fn decode(g: Geometry, card: &[u8], ids: &mut [u32; 128], currents: &mut [u32; 1
 {
     let n = g.blocks as usize;
     let mut quiet = true;
-    let mut marks = no_marks();
+    let mut again = 0;
+    let mut marks = [0u8; 128];
     let mut i: usize = 0;
     while i < n {
         let at = i;
@@ -115,18 +90,22 @@ fn decode(g: Geometry, card: &[u8], ids: &mut [u32; 128], currents: &mut [u32; 1
                 return Seen {
                     fits: false,
                     quiet: false,
+                    again: 0,
                     marks: marks,
                 };
             }
             ids[at] = l as u32;
             currents[at] = q as u32;
             quiet = quiet & (x != 0x8300_0000);
-            marks = mark(marks, narrow(q));
+            let d = narrow(q);
+            again = again | marks[d];
+            marks[d] = 1;
         }
     }
     Seen {
         fits: true,
         quiet: quiet,
+        again: again,
         marks: marks,
     }
 }
@@ -221,16 +200,18 @@ fn settled_apart(g: Geometry, card: &[u8]) -> bool
 {
     let w = ring::window_of(g, card);
     let n = g.blocks as usize;
-    let mut marks = no_marks();
+    let mut again = 0;
+    let mut marks = [0u8; 128];
     let mut i: usize = 0;
     while i < n {
         let k = wide(settled_key(g, card, w, i));
         i += 1;
         if k < 128 {
-            marks = mark(marks, k);
+            again = again | marks[k];
+            marks[k] = 1;
         }
     }
-    marks.again == 0
+    again == 0
 }
 
 // Not 6, from the keys of numbers and whether the current blocks are apart. A settled card's settled blocks are its current ones.
@@ -250,11 +231,11 @@ fn entries_apart(g: Geometry, card: &[u8], ids: &[u32; 128], apart: bool, settle
     settled_apart(g, card)
 }
 
-// What checks 4 to 6 find, and where they find nothing, whether the card is settled and the map that it gives.
+// What checks 4 to 6 find, and where they find nothing, whether the card is settled and a mark for each of its current blocks.
 pub struct Verdict {
     pub refusal: u8,
     pub settled: bool,
-    pub map: Map,
+    pub marks: [u8; 128],
 }
 
 fn refused(refusal: u8) -> Verdict
@@ -263,20 +244,20 @@ fn refused(refusal: u8) -> Verdict
     Verdict {
         refusal: refusal,
         settled: false,
-        map: Map { low: 0, high: 0 },
+        marks: [0u8; 128],
     }
 }
 
-// The card's map: the blocks that are marked, and those that it does not have.
-fn whole_map(g: Geometry, marks: Map) -> Map
-    requires { ⌜ goodGeometry g ≡ true ⌝ }
-    ensures { λ r. ⌜ ((p : ℕ → Bool) → marks ≡ mapBy p → r ≡ mapBy (λ d. p d || leb (g .blocks) d)) ⌝ }
+// The card's map: the blocks that are marked, and those that it does not have. Only a call that has a map to compare makes it.
+pub fn map_of(g: Geometry, marks: &[u8; 128]) -> Map
+    requires { ⌜ (goodGeometry g ≡ true) × MarkBytes (now marks) ⌝ }
+    ensures { λ r. ⌜ ((c : List ℕ) → CurrentMarks g c (now (marks .entry)) → r ≡ mapBy (isMarked g c)) ⌝ }
 {
     let nothing = Map { low: 0, high: 0 };
-    freemap::moved(marks, nothing, freemap::beyond(g.blocks as usize))
+    freemap::moved(freemap::packed(marks), nothing, freemap::beyond(g.blocks as usize))
 }
 
-// Checks 4 to 6, and with them the keys of the card's entries for whoever looks for a number next, and the card's map.
+// Checks 4 to 6, and with them the keys of the card's entries for whoever looks for a number next, and the marks of its current blocks.
 pub fn inspect(g: Geometry, card: &[u8], ids: &mut [u32; 128], currents: &mut [u32; 128]) -> Verdict
     requires { ⌜ Fitted g (now card) × (length (now ids) ≡ 128) × (length (now currents) ≡ 128) ⌝ }
     ensures { λ r. ⌜ Inspected g (now (card .entry)) (now (ids .exit)) (now (currents .exit)) r ⌝ }
@@ -289,14 +270,14 @@ pub fn inspect(g: Geometry, card: &[u8], ids: &mut [u32; 128], currents: &mut [u
         return refused(5);
     }
     let settled = (ring::head_of(card) == ring::tail_of(card)) & seen.quiet;
-    let marks = seen.marks;
-    if !entries_apart(g, card, ids, marks.again == 0, settled) {
+    if !entries_apart(g, card, ids, seen.again == 0, settled) {
         return refused(6);
     }
+    let marks = seen.marks;
     Verdict {
         refusal: 0,
         settled: settled,
-        map: whole_map(g, marks.map),
+        marks: marks,
     }
 }
 

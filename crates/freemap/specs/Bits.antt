@@ -1,9 +1,11 @@
 -- The map's bits as the machine's words have them: set, cleared, tested, and searched by the trailing zeros of the complement.
-use Prim.Native.Nat.{ℕ, zero, suc, _+_, _-_, _/_, _%_, _^_}
+use Prim.Native.Nat.{ℕ, zero, suc, _+_, _-_, _/_, _%_, _^_, _≤_, _<_}
 use mathlib.Core.Bool.{Bool, cond, _&&_}
+use mathlib.Core.List.{List}
 use lib.Bits.{bitAnd, bitOr}
 use lib.Count.{trailingZeros}
 use lib.Dec.{eqb, ltb}
+use lib.ListN.{getD}
 use Rattle.protocol.specs.declared.Map.{Map}
 
 -- all 64 bits set
@@ -24,9 +26,13 @@ withoutBit m d =
     (record { low = bitAnd (m .low) (FULL - 2 ^ d); high = m .high })
     (record { low = m .low; high = bitAnd (m .high) (FULL - 2 ^ (d - 64)) })
 
--- the bits of both words that both maps have, laid over each other
-unfoldable pub sharedBits : Map → Map → ℕ
-sharedBits a b = bitOr (bitAnd (a .low) (b .low)) (bitAnd (a .high) (b .high))
+-- block d has a mark in a row of bytes, one for each block
+unfoldable pub markedAt : List ℕ → ℕ → Bool
+markedAt ms d = eqb (getD ms d 0) 1
+
+-- each of the 128 bytes is 0 or 1
+abbrev pub MarkBytes : List ℕ → Type 0
+MarkBytes ms = (d : ℕ) → d < 128 → getD ms d 0 ≤ 1
 
 -- the bits of `gone` cleared, then those of `come` set
 unfoldable pub movedMap : Map → Map → Map → Map

@@ -1,6 +1,6 @@
 -- `decode` answers what the pass over the entries finds. The invariant: check 5 allows the entries passed, their keys are listed, and their
 -- current blocks are marked.
-use Prim.Native.Nat.{_≤_, _-_}
+use Prim.Native.Nat.{_≤_, _<_, _-_}
 use denote.Ref.{now}
 use Rattle.ring.proofs.Laws.{fitted-blocks, fitted-disk}
 use Rattle.checks.specs.Keys.{currentKey}
@@ -13,33 +13,30 @@ use Rattle.checks.proofs.decode.Statement.{statement}
 use Rattle.checks.proofs.decode.Tie as tie
 
 abbrev Inv-loop : tie.InvT-loop
-Inv-loop g card ids₀ currents₀ n quiet₀ marks₀ i₀ ids currents quiet marks i =
-    (n ≤ 128) × (i ≤ n) × Listed g card i quiet ids currents × MarkedBy (currentKey g card) i marks
+Inv-loop g card ids₀ currents₀ n quiet₀ again₀ marks₀ i₀ ids currents quiet again marks i =
+    (n ≤ 128) × (i ≤ n) × Listed g card i quiet ids currents × MarkedBy (currentKey g card) i marks again
 
 abbrev μ-loop : tie.MeasureT-loop
-μ-loop g card ids₀ currents₀ n quiet₀ marks₀ i₀ ids currents quiet marks i = n - i
+μ-loop g card ids₀ currents₀ n quiet₀ again₀ marks₀ i₀ ids currents quiet again marks i = n - i
 
 -- the four reads of a turn are the entry's quarters
 split-of : (c : tie.After-quarter-of4 Inv-loop μ-loop)
     → let r = c .before .before .before in
     let h = r .before .before in
-    Split (h .before .before .before .args .g) (now (h .before .before .before .args .card)) (h .loop .i) (r .quarter-of .result)
+    Split (h .before .before .args .g) (now (h .before .before .args .card)) (h .loop .i) (r .quarter-of .result)
     (c .before .before .quarter-of2 .result) (c .before .quarter-of3 .result) (c .quarter-of4 .result)
 split-of c =
     let r = c .before .before .before in
     let h = r .before .before in
     record {
-      fitted = h .before .before .before .pre .0;
+      fitted = h .before .before .pre .0;
       below = r .before .loop-test .taken;
-      bytes = λ j m. omega (arith, h .before .before .shared-slice-known .given j);
+      bytes = λ j m. omega (arith, h .before .shared-slice-known .given j);
       first = r .quarter-of .ensures;
       second = c .before .before .quarter-of2 .ensures;
       third = c .before .quarter-of3 .ensures;
       fourth = c .quarter-of4 .ensures;
     }
-
-no-marks-requires : tie.Need-no-marks-requires Inv-loop μ-loop
-no-marks-requires c κs = search needs
 
 loop-holds : tie.Need-loop-holds Inv-loop μ-loop
 loop-holds c = (search (fitted-blocks, needs), search needs, search (listed-start, needs), search (marked-start, needs))
@@ -107,18 +104,25 @@ element-write-currents-2 c = search needs
 narrow-requires : tie.Need-narrow-requires Inv-loop μ-loop
 narrow-requires c κs = search needs
 
-mark-requires : tie.Need-mark-requires Inv-loop μ-loop
-mark-requires c κs =
+-- the block marked has a mark
+few-of : (c : tie.After-narrow Inv-loop μ-loop) → c .narrow .result < 128
+few-of c =
     let e = c .before in
     let g = e .before in
     omega (arith, c .narrow .ensures, current-few (split-of (g .before .before)) (g .before .if1 .left) (g .good-quarters .ensures) (e .if2 .left))
+
+array-read-again : tie.Need-array-read-again Inv-loop μ-loop
+array-read-again c = search (few-of c, needs)
+
+array-write-marks : tie.Need-array-write-marks Inv-loop μ-loop
+array-write-marks c = search (few-of c, needs)
 
 loop-less-2 : tie.Need-loop-less-2 Inv-loop μ-loop
 loop-less-2 c = search needs
 
 loop-again-2 : tie.Need-loop-again-2 Inv-loop μ-loop
 loop-again-2 c =
-    let e = c .before .before in
+    let e = c .before in
     let g = e .before in
     let w = g .before .before in
     let s = split-of w in
@@ -127,7 +131,7 @@ loop-again-2 c =
       search needs,
       search needs,
       listed-used s (l .inv .2) z (g .good-quarters .ensures) (e .if2 .left),
-      marked-used s z (g .good-quarters .ensures) (e .if2 .left) _ _ (l .inv .3) (c .before .narrow .ensures) (c .mark .ensures),
+      marked-used s z (g .good-quarters .ensures) (e .if2 .left) _ (l .inv .3) (c .narrow .ensures),
     )
 
 returns-2 : tie.Need-returns-2 Inv-loop μ-loop
@@ -139,7 +143,6 @@ decode-spec =
     (tie.spec
     Inv-loop
     μ-loop
-    no-marks-requires
     loop-holds
     quarter-of-requires
     quarter-of-requires-2
@@ -161,7 +164,8 @@ decode-spec =
     mul-currents-2
     element-write-currents-2
     narrow-requires
-    mark-requires
+    array-read-again
+    array-write-marks
     loop-less-2
     loop-again-2
     returns-2)

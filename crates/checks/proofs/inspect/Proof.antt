@@ -1,4 +1,4 @@
--- `inspect` answers checks 4 to 6 in their order, and the keys and the map of a card that passes them.
+-- `inspect` answers checks 4 to 6 in their order, and the keys and marks of a card that passes them.
 use Rattle.ring.proofs.Laws.{fitted-long}
 use Rattle.checks.proofs.Order.{ring-damaged, entry-damaged, pair-damaged, comparable, undamaged}
 use borrow.Author.Needs.{needs}
@@ -38,9 +38,6 @@ refused-requires-3 c κs = search needs
 returns-3 : tie.Need-returns-3
 returns-3 c = search (pair-damaged, needs)
 
-whole-map-requires : tie.Need-whole-map-requires
-whole-map-requires c κs = search needs
-
 returns-4 : tie.Need-returns-4
 returns-4 c = search (undamaged, needs)
 
@@ -59,5 +56,4 @@ inspect-spec =
     entries-apart-requires
     refused-requires-3
     returns-3
-    whole-map-requires
     returns-4)

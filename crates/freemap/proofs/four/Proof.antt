@@ -1,0 +1,73 @@
+-- `four` joins four words of 1 bit. Assumes nothing.
+use denote.Ref.{now}
+use Rattle.freemap.specs.Bits.{markedAt}
+use Rattle.freemap.proofs.Words.{word-four}
+use Rattle.freemap.proofs.Maps.{word-bound}
+use borrow.Author.Needs.{needs}
+use Rattle.freemap.proofs.four.Statement.{statement}
+use Rattle.freemap.proofs.four.Tie as tie
+
+add-b : tie.Need-add-b
+add-b c = search needs
+
+add-c : tie.Need-add-c
+add-c c = search needs
+
+add-d : tie.Need-add-d
+add-d c = search needs
+
+mark-at-requires : tie.Need-mark-at-requires
+mark-at-requires c κs = search needs
+
+mark-at-requires-2 : tie.Need-mark-at-requires-2
+mark-at-requires-2 c κs = search needs
+
+mul-high : tie.Need-mul-high
+mul-high c = search needs
+
+add-high : tie.Need-add-high
+add-high c = search needs
+
+mark-at-requires-3 : tie.Need-mark-at-requires-3
+mark-at-requires-3 c κs = search needs
+
+mark-at-requires-4 : tie.Need-mark-at-requires-4
+mark-at-requires-4 c κs = search needs
+
+mul-result : tie.Need-mul-result
+mul-result c = search needs
+
+add-result : tie.Need-add-result
+add-result c = search needs
+
+mul-result-2 : tie.Need-mul-result-2
+mul-result-2 c = search needs
+
+add-result-2 : tie.Need-add-result-2
+add-result-2 c = search needs
+
+returns : tie.Need-returns
+returns c = 
+    let e =
+    word-four (markedAt (now (c .before .before .before .before .args .marks))) (c .before .before .before .before .args .at) 1 _ _ _ _
+    (c .before .mark-at3 .ensures .0) (c .mark-at4 .ensures .0) (c .before .before .before .mark-at .ensures .0) (c .before .before .mark-at2 .ensures .0) in
+    (e, word-bound _ 4 _ e)
+
+pub four-spec : {M : Type 1} → statement M
+four-spec =
+    tie.close
+    (tie.spec
+    add-b
+    add-c
+    add-d
+    mark-at-requires
+    mark-at-requires-2
+    mul-high
+    add-high
+    mark-at-requires-3
+    mark-at-requires-4
+    mul-result
+    add-result
+    mul-result-2
+    add-result-2
+    returns)
