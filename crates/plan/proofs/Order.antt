@@ -23,7 +23,7 @@ use Rattle.freemap.specs.Taken.{Took}
 use Rattle.ring.specs.Fitted.{Fitted}
 use Rattle.checks.specs.declared.Verdict.{Verdict}
 use Rattle.checks.specs.Keys.{keyAt}
-use Rattle.checks.specs.Passed.{Inspected}
+use Rattle.checks.specs.Passed.{CurrentMarks, Inspected}
 use Rattle.checks.proofs.Order.{card-damaged, card-settled, card-unsettled}
 use Rattle.plan.specs.declared.Homes.{Homes}
 use Rattle.plan.specs.declared.Saving.{Saving}
@@ -128,9 +128,11 @@ module _ (g : Geometry) (c ids currents : List ℕ) (m : Map) (ns bs : List ℕ)
           planned = unplanned-first g c ns u 7 (omega arith) q;
         }
 
-    module _ (o : not (v .settled) ≡ false) (t : Bool) (e : t ≡ sameMap m (v .map)) where
+    module _ (o : not (v .settled) ≡ false) (own : Map) (w : (y : List ℕ) → CurrentMarks g y (v .marks) → own ≡ mapBy (isMarked g y)) (t : Bool)
+        (e : t ≡ sameMap m own)
+      where
       same-is : sameMap m (mapBy (isMarked g c)) ≡ t
-      same-is = ap (sameMap m) (sym (h .map-is z)) ∙ sym e
+      same-is = ap (sameMap m) (sym (w c (h .marks-are z))) ∙ sym e
 
       past-card : (r : ℕ) → r ≡ refuse 15 (sameMap m (mapBy (isMarked g c))) orElse saveRefusal g c ns bs
           → r ≡ cardRefusal g c orElse refuse 15 (sameMap m (mapBy (isMarked g c))) orElse saveRefusal g c ns bs

@@ -328,10 +328,12 @@ fn examine(g: Geometry, card: &[u8], map: Map, numbers: &[u64], data: &[u8]) -> 
     if !v.settled {
         return unplanned(7);
     }
-    if !freemap::same(map, v.map) {
+    let marks = v.marks;
+    let own = checks::map_of(g, &marks);
+    if !freemap::same(map, own) {
         return unplanned(15);
     }
-    save(g, card, &ids, &currents, v.map, numbers, data)
+    save(g, card, &ids, &currents, own, numbers, data)
 }
 
 // What a commit comes to on the card at entry: its refusal, and where there is none its plan.

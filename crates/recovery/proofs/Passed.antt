@@ -13,7 +13,7 @@ use Rattle.protocol.specs.declared.Answer.the-variants.{Done, Cut, Refused}
 use Rattle.protocol.specs.declared.Geometry.{Geometry}
 use Rattle.protocol.specs.declared.Map.{Map}
 use Rattle.protocol.specs.declared.Mapped.the-variants.{Is, Refused as RefusedMap}
-use Rattle.protocol.specs.Layout.{geometryOf}
+use Rattle.protocol.specs.Layout.{goodGeometry, geometryOf}
 use Rattle.protocol.specs.Check.{entriesFit, fitRefusal, damageRefusal}
 use Rattle.protocol.specs.Store.{card, Store, flat, madeOn, storesOf, answerOf, afterOn}
 use Rattle.protocol.specs.Map.{mapBy, isMarked, mapOf, sameMap, makeRefusal, madeMap, mapRefusal, handedOn, mapAfter}
@@ -22,7 +22,9 @@ use Rattle.protocol.proofs.Below.{and-left, and-right}
 use Rattle.protocol.proofs.Checks.{orElse-first, orElse-next, refuse-passed, refuse-failed}
 use Rattle.protocol.proofs.Lawful.{Intact, intact}
 use Rattle.checks.specs.declared.Verdict.{Verdict}
-use Rattle.checks.specs.Passed.{Inspected}
+use Rattle.checks.proofs.Marking.{current-bytes}
+use Rattle.freemap.specs.Bits.{MarkBytes}
+use Rattle.checks.specs.Passed.{CurrentMarks, Inspected}
 use Rattle.freemap.specs.Bits.{movedMap}
 use Rattle.ring.specs.Fitted.{Fitted, Placed, WindowOf}
 use Rattle.ring.proofs.Laws.{fit-fitted}
@@ -60,6 +62,9 @@ module _ (c : List ℕ) (g : Geometry) (f : ℕ) (fe : f ≡ fitRefusal c) (fz :
   unfolding makeRefusal
   refusal-is = orElse-next (v .refusal) (fitRefusal c) _ (sym (sym fe ∙ fz)) (e .refusal-is ∙ ap (λ (y : Geometry). damageRefusal y c) q)
 
+  pub damage-good : goodGeometry g ≡ true
+  damage-good = fit-fitted c g f fe fz q .good
+
   pub damage-refuses : (s : Checked) → (v .refusal ≡ 0 → ⊥) → s .refusal ≡ v .refusal → Examined c s
   damage-refuses s h p = refused-examined c s (p ∙ refusal-is) (λ z. h (sym p ∙ z))
 
@@ -70,7 +75,11 @@ module _ (c : List ℕ) (g : Geometry) (f : ℕ) (fe : f ≡ fitRefusal c) (fz :
     pub damage-placed : Placed g c
     damage-placed = subst (λ (y : Geometry). Placed y c) (sym q) (record { head = whole .head; tail = whole .tail })
 
-    pub damage-passes : (w : Window) (m : Map) → WindowOf g c w → m ≡ v .map → Examined c (record { refusal = 0; geometry = g; window = w; map = m })
+    pub damage-marks : MarkBytes (v .marks)
+    damage-marks = current-bytes g c (v .marks) (e .marks-are z)
+
+    pub damage-passes : (w : Window) (m : Map) → WindowOf g c w → ((y : List ℕ) → CurrentMarks g y (v .marks) → m ≡ mapBy (isMarked g y))
+        → Examined c (record { refusal = 0; geometry = g; window = w; map = m })
     unfolding mapOf
     damage-passes w m x k =
         record {
@@ -79,7 +88,7 @@ module _ (c : List ℕ) (g : Geometry) (f : ℕ) (fe : f ≡ fitRefusal c) (fz :
           fitted = λ y. fit-fitted c g f fe fz q;
           window = λ y. x;
           entries = λ y. ap (λ (h : Geometry). entriesFit h c) q ∙ whole .fits;
-          map-is = λ y. k ∙ e .map-is z ∙ ap (λ (h : Geometry). mapBy (isMarked h c)) q;
+          map-is = λ y. k c (e .marks-are z) ∙ ap (λ (h : Geometry). mapBy (isMarked h c)) q;
         }
 
 -- ---- past them

@@ -289,12 +289,12 @@ pub fn examine(card: &[u8]) -> Checked
     if v.refusal != 0 {
         return refused(v.refusal);
     }
-    let map = v.map;
+    let marks = v.marks;
     Checked {
         refusal: 0,
         geometry: g,
         window: ring::window_of(g, card),
-        map: map,
+        map: checks::map_of(g, &marks),
     }
 }
 

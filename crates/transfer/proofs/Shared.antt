@@ -19,7 +19,9 @@ use Rattle.protocol.proofs.Checks.{refuse-passed, refuse-failed, refuse-none, o
 use Rattle.ring.specs.Fitted.{Fitted}
 use Rattle.ring.proofs.Laws.{fit-fitted}
 use Rattle.checks.specs.declared.Verdict.{Verdict}
-use Rattle.checks.specs.Passed.{Inspected}
+use Rattle.freemap.specs.Bits.{MarkBytes}
+use Rattle.checks.specs.Passed.{CurrentMarks, Inspected}
+use Rattle.checks.proofs.Marking.{current-bytes}
 use Rattle.checks.proofs.Order.{card-damaged, card-settled, card-unsettled}
 use Rattle.plan.proofs.Order.{examined-keyed}
 use Rattle.transfer.specs.Examined.{sharedRefusal, Listed, Examined}
@@ -67,7 +69,12 @@ module _ (c d : List ℕ) (m : Map) (b : ℕ) (ids cs : List ℕ) where
         pub examined-unsettled : v .refusal ≡ 0 → not (v .settled) ≡ true → Examined c d m b ids 7
         examined-unsettled w o = given 7 (past-disk 7 (card-unsettled g c ids cs v x w (not-true (v .settled) o))) (λ k. omega arith)
 
-        module _ (w : v .refusal ≡ 0) (o : not (v .settled) ≡ false) (t : Bool) (k : t ≡ sameMap m (v .map)) where
+        pub marks-passed : v .refusal ≡ 0 → MarkBytes (v .marks)
+        marks-passed w = current-bytes g c (v .marks) (x .marks-are w)
+
+        module _ (w : v .refusal ≡ 0) (o : not (v .settled) ≡ false) (n : Map)
+            (made : (y : List ℕ) → CurrentMarks g y (v .marks) → n ≡ mapBy (isMarked g y)) (t : Bool) (k : t ≡ sameMap m n)
+          where
           past-card : (p : ℕ) → p ≡ mapRefusal c m orElse blockRefusal g b → p ≡ sharedRefusal c d m b
           unfolding sharedRefusal
           past-card p h =
@@ -76,7 +83,7 @@ module _ (c d : List ℕ) (m : Map) (b : ℕ) (ids cs : List ℕ) where
 
           same-is : sameMap m (mapOf c) ≡ t
           unfolding mapOf
-          same-is = ap (sameMap m) (sym (x .map-is w ∙ ap (λ (y : Geometry). mapBy (isMarked y c)) q)) ∙ sym k
+          same-is = ap (sameMap m) (sym (made c (x .marks-are w) ∙ ap (λ (y : Geometry). mapBy (isMarked y c)) q)) ∙ sym k
 
           pub examined-other : not t ≡ true → Examined c d m b ids 15
           unfolding mapRefusal
@@ -98,7 +105,7 @@ module _ (c d : List ℕ) (m : Map) (b : ℕ) (ids cs : List ℕ) where
                 record {
                   fitted = y .fitted;
                   fits = y .fits;
-                  map-is = same-maps m (v .map) (sym k ∙ not-false t h) ∙ x .map-is w;
+                  map-is = same-maps m n (sym k ∙ not-false t h) ∙ made c (x .marks-are w);
                   numbers = y .numbers;
                 }
 

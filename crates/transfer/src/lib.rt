@@ -39,7 +39,8 @@ fn examine(card: &[u8], disk: &[u8], map: Map, b: u64, ids: &mut [u32; 128]) -> 
     if !v.settled {
         return 7;
     }
-    if !freemap::same(map, v.map) {
+    let marks = v.marks;
+    if !freemap::same(map, checks::map_of(g, &marks)) {
         return 15;
     }
     if b < g.disk { 0 } else { 10 }

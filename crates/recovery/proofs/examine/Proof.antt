@@ -1,7 +1,7 @@
 -- `examine` answers the lowest refusal that holds, and of a card that has none what the list starts from, with its map.
 use borrow.Author.Needs.{needs}
 use Rattle.ring.proofs.Laws.{fit-long, fit-fitted}
-use Rattle.recovery.proofs.Passed.{fit-refuses, damage-refuses, damage-passes, damage-placed}
+use Rattle.recovery.proofs.Passed.{fit-refuses, damage-refuses, damage-passes, damage-placed, damage-good, damage-marks}
 use Rattle.recovery.proofs.examine.Statement.{statement}
 use Rattle.recovery.proofs.examine.Tie as tie
 
@@ -29,6 +29,9 @@ returns-2 c = search (damage-refuses, needs)
 window-of-requires : tie.Need-window-of-requires
 window-of-requires c κs = search (fit-fitted, damage-placed, needs)
 
+map-of-requires : tie.Need-map-of-requires
+map-of-requires c κs = (search (damage-good, needs), search (damage-marks, needs))
+
 returns-3 : tie.Need-returns-3
 returns-3 c = search (damage-passes, needs)
 
@@ -44,4 +47,5 @@ examine-spec =
     refused-requires-2
     returns-2
     window-of-requires
+    map-of-requires
     returns-3)

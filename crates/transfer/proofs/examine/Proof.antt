@@ -1,7 +1,7 @@
 -- `examine` answers the refusals that load and evict share, or lists the keys: one law for each answer.
 use borrow.Author.Needs.{needs}
 use Rattle.ring.proofs.Laws.{fit-long, fit-fitted}
-use Rattle.transfer.proofs.Shared.{fit-good, examined-misfit, examined-disk, examined-damaged, examined-unsettled, examined-other, examined-passed, examined-outside}
+use Rattle.transfer.proofs.Shared.{fit-good, examined-misfit, examined-disk, examined-damaged, examined-unsettled, marks-passed, examined-other, examined-passed, examined-outside}
 use Rattle.transfer.proofs.examine.Statement.{statement}
 use Rattle.transfer.proofs.examine.Tie as tie
 
@@ -29,6 +29,9 @@ returns-3 c = search (examined-damaged, needs)
 returns-4 : tie.Need-returns-4
 returns-4 c = search (examined-unsettled, needs)
 
+map-of-requires : tie.Need-map-of-requires
+map-of-requires c κs = (search (fit-good, needs), search (marks-passed, needs))
+
 same-requires : tie.Need-same-requires
 same-requires c κs = search needs
 
@@ -53,6 +56,7 @@ examine-spec =
     inspect-requires
     returns-3
     returns-4
+    map-of-requires
     same-requires
     returns-5
     returns-6
