@@ -254,7 +254,11 @@ pub fn map_of(g: Geometry, marks: &[u8; 128]) -> Map
     ensures { λ r. ⌜ ((c : List ℕ) → CurrentMarks g c (now (marks .entry)) → r ≡ mapBy (isMarked g c)) ⌝ }
 {
     let nothing = Map { low: 0, high: 0 };
-    freemap::moved(freemap::packed(marks), nothing, freemap::beyond(g.blocks as usize))
+    freemap::moved(
+        freemap::packed(marks),
+        nothing,
+        freemap::beyond(g.blocks as usize),
+    )
 }
 
 // Checks 4 to 6, and with them the keys of the card's entries for whoever looks for a number next, and the marks of its current blocks.

@@ -131,27 +131,27 @@ module _ (g : Geometry) (c ids currents : List ℕ) (m : Map) (ns bs : List ℕ)
     module _ (o : not (v .settled) ≡ false) (own : Map) (w : (y : List ℕ) → CurrentMarks g y (v .marks) → own ≡ mapBy (isMarked g y)) (t : Bool)
         (e : t ≡ sameMap m own)
       where
-      same-is : sameMap m (mapBy (isMarked g c)) ≡ t
-      same-is = ap (sameMap m) (sym (w c (h .marks-are z))) ∙ sym e
+        same-is : sameMap m (mapBy (isMarked g c)) ≡ t
+        same-is = ap (sameMap m) (sym (w c (h .marks-are z))) ∙ sym e
 
-      past-card : (r : ℕ) → r ≡ refuse 15 (sameMap m (mapBy (isMarked g c))) orElse saveRefusal g c ns bs
-          → r ≡ cardRefusal g c orElse refuse 15 (sameMap m (mapBy (isMarked g c))) orElse saveRefusal g c ns bs
-      past-card r q = orElse-next r (cardRefusal g c) _ (card-settled g c ids currents v h z (not-false (v .settled) o)) q
+        past-card : (r : ℕ) → r ≡ refuse 15 (sameMap m (mapBy (isMarked g c))) orElse saveRefusal g c ns bs
+            → r ≡ cardRefusal g c orElse refuse 15 (sameMap m (mapBy (isMarked g c))) orElse saveRefusal g c ns bs
+        past-card r q = orElse-next r (cardRefusal g c) _ (card-settled g c ids currents v h z (not-false (v .settled) o)) q
 
-      pub examined-other : (u : Saving) → not t ≡ true → u .refusal ≡ 15 → Examined g c m ns bs u
-      examined-other u k q =
-          record {
-            refusal-is =
-                q ∙ past-card 15 (orElse-first 15 (refuse 15 (sameMap m (mapBy (isMarked g c)))) _ (refuse-failed 15 _ (same-is ∙ not-true t k)) (omega arith));
-            planned = unplanned-first g c ns u 15 (omega arith) q;
-          }
+        pub examined-other : (u : Saving) → not t ≡ true → u .refusal ≡ 15 → Examined g c m ns bs u
+        examined-other u k q =
+            record {
+              refusal-is =
+                  q ∙ past-card 15 (orElse-first 15 (refuse 15 (sameMap m (mapBy (isMarked g c)))) _ (refuse-failed 15 _ (same-is ∙ not-true t k)) (omega arith));
+              planned = unplanned-first g c ns u 15 (omega arith) q;
+            }
 
-      pub examined-saved : (u : Saving) → not t ≡ false → Saved g c ns bs u → Examined g c m ns bs u
-      examined-saved u k s =
-          record {
-            refusal-is = past-card (u .refusal) (orElse-next (u .refusal) _ _ (refuse-passed 15 _ (same-is ∙ not-false t k)) (s .refusal-is));
-            planned = s .planned;
-          }
+        pub examined-saved : (u : Saving) → not t ≡ false → Saved g c ns bs u → Examined g c m ns bs u
+        examined-saved u k s =
+            record {
+              refusal-is = past-card (u .refusal) (orElse-next (u .refusal) _ _ (refuse-passed 15 _ (same-is ∙ not-false t k)) (s .refusal-is));
+              planned = s .planned;
+            }
 
 module _ (c : List ℕ) (m : Map) (ns bs : List ℕ) (r : ℕ) (e : r ≡ fitRefusal c) where
   pub prepared-misfit : (u : Saving) → (r ≡ 0 → ⊥) → u .refusal ≡ r → Prepared c m ns bs u

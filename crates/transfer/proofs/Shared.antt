@@ -75,55 +75,55 @@ module _ (c d : List ℕ) (m : Map) (b : ℕ) (ids cs : List ℕ) where
         module _ (w : v .refusal ≡ 0) (o : not (v .settled) ≡ false) (n : Map)
             (made : (y : List ℕ) → CurrentMarks g y (v .marks) → n ≡ mapBy (isMarked g y)) (t : Bool) (k : t ≡ sameMap m n)
           where
-          past-card : (p : ℕ) → p ≡ mapRefusal c m orElse blockRefusal g b → p ≡ sharedRefusal c d m b
-          unfolding sharedRefusal
-          past-card p h =
-              orElse-next p (pairRefusal c d) _ (past-disk 0 (card-settled g c ids cs v x w (not-false (v .settled) o)))
-              (h ∙ ap (λ (y : Geometry). mapRefusal c m orElse blockRefusal y b) q)
+            past-card : (p : ℕ) → p ≡ mapRefusal c m orElse blockRefusal g b → p ≡ sharedRefusal c d m b
+            unfolding sharedRefusal
+            past-card p h =
+                orElse-next p (pairRefusal c d) _ (past-disk 0 (card-settled g c ids cs v x w (not-false (v .settled) o)))
+                (h ∙ ap (λ (y : Geometry). mapRefusal c m orElse blockRefusal y b) q)
 
-          same-is : sameMap m (mapOf c) ≡ t
-          unfolding mapOf
-          same-is = ap (sameMap m) (sym (made c (x .marks-are w) ∙ ap (λ (y : Geometry). mapBy (isMarked y c)) q)) ∙ sym k
+            same-is : sameMap m (mapOf c) ≡ t
+            unfolding mapOf
+            same-is = ap (sameMap m) (sym (made c (x .marks-are w) ∙ ap (λ (y : Geometry). mapBy (isMarked y c)) q)) ∙ sym k
 
-          pub examined-other : not t ≡ true → Examined c d m b ids 15
-          unfolding mapRefusal
-          examined-other h =
-              record {
-                refusal-is =
-                    past-card 15 (orElse-first 15 (mapRefusal c m) _ (refuse-failed 15 _ (same-is ∙ not-true t h)) (λ j. omega arith));
-                listed = λ j. absurd (omega arith);
-              }
-
-          module _ (h : not t ≡ false) where
-            past-map : (p : ℕ) → p ≡ blockRefusal g b → p ≡ sharedRefusal c d m b
+            pub examined-other : not t ≡ true → Examined c d m b ids 15
             unfolding mapRefusal
-            past-map p l = past-card p (orElse-next p (mapRefusal c m) _ (refuse-passed 15 _ (same-is ∙ not-false t h)) l)
-
-            own : Listed g c m ids
-            own =
-                let y = examined-keyed g c ids cs v x w (fit-fitted c g r e z q) in
+            examined-other h =
                 record {
-                  fitted = y .fitted;
-                  fits = y .fits;
-                  map-is = same-maps m n (sym k ∙ not-false t h) ∙ made c (x .marks-are w);
-                  numbers = y .numbers;
-                }
-
-            pub examined-passed : b < g .disk → Examined c d m b ids 0
-            unfolding blockRefusal
-            examined-passed l =
-                record {
-                  refusal-is = past-map 0 (refuse-passed 10 (ltb b (g .disk)) (lt-ltb b (g .disk) l));
-                  listed = λ j. subst (λ (y : Geometry). Listed y c m ids) q own;
-                }
-
-            pub examined-outside : g .disk ≤ b → Examined c d m b ids 10
-            unfolding blockRefusal
-            examined-outside l =
-                record {
-                  refusal-is = past-map 10 (refuse-failed 10 (ltb b (g .disk)) (le-ltb b (g .disk) l));
+                  refusal-is =
+                      past-card 15 (orElse-first 15 (mapRefusal c m) _ (refuse-failed 15 _ (same-is ∙ not-true t h)) (λ j. omega arith));
                   listed = λ j. absurd (omega arith);
                 }
+
+            module _ (h : not t ≡ false) where
+              past-map : (p : ℕ) → p ≡ blockRefusal g b → p ≡ sharedRefusal c d m b
+              unfolding mapRefusal
+              past-map p l = past-card p (orElse-next p (mapRefusal c m) _ (refuse-passed 15 _ (same-is ∙ not-false t h)) l)
+
+              own : Listed g c m ids
+              own =
+                  let y = examined-keyed g c ids cs v x w (fit-fitted c g r e z q) in
+                  record {
+                    fitted = y .fitted;
+                    fits = y .fits;
+                    map-is = same-maps m n (sym k ∙ not-false t h) ∙ made c (x .marks-are w);
+                    numbers = y .numbers;
+                  }
+
+              pub examined-passed : b < g .disk → Examined c d m b ids 0
+              unfolding blockRefusal
+              examined-passed l =
+                  record {
+                    refusal-is = past-map 0 (refuse-passed 10 (ltb b (g .disk)) (lt-ltb b (g .disk) l));
+                    listed = λ j. subst (λ (y : Geometry). Listed y c m ids) q own;
+                  }
+
+              pub examined-outside : g .disk ≤ b → Examined c d m b ids 10
+              unfolding blockRefusal
+              examined-outside l =
+                  record {
+                    refusal-is = past-map 10 (refuse-failed 10 (ltb b (g .disk)) (le-ltb b (g .disk) l));
+                    listed = λ j. absurd (omega arith);
+                  }
 
 -- ---- past them
 

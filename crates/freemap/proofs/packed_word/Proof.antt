@@ -46,7 +46,7 @@ add-result-2 : tie.Need-add-result-2
 add-result-2 c = search needs
 
 returns : tie.Need-returns
-returns c = 
+returns c =
     word-four (markedAt (now (c .before .before .before .before .args .marks))) (c .before .before .before .before .args .at) 16 _ _ _ _
     (c .before .sixteen3 .ensures .0) (c .sixteen4 .ensures .0) (c .before .before .before .sixteen .ensures .0) (c .before .before .sixteen2 .ensures .0)
 
