@@ -302,11 +302,11 @@ pub fn examine(card: &[u8]) -> Checked
 pub fn make_map(card: &[u8]) -> Mapped
     ensures { λ r. ⌜ r ≡ madeMap (now (card .entry)) ⌝ }
 {
-    let s = examine(card);
-    if s.refusal != 0 {
-        return Mapped::Refused(s.refusal);
+    let e = examine(card);
+    if e.refusal != 0 {
+        return Mapped::Refused(e.refusal);
     }
-    let map = s.map;
+    let map = e.map;
     Mapped::Is(map)
 }
 
