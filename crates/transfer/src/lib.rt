@@ -40,7 +40,8 @@ fn examine(card: &[u8], disk: &[u8], map: Map, b: u64, ids: &mut [u32; 128]) -> 
         return 7;
     }
     let marks = v.marks;
-    if !freemap::same(map, checks::map_of(g, &marks)) {
+    let own = checks::map_of(g, &marks);
+    if !freemap::same(map, own) {
         return 15;
     }
     if b < g.disk { 0 } else { 10 }
