@@ -1,6 +1,6 @@
--- The map's bits as the machine's words have them: set, cleared, tested, and searched by the trailing zeros of the complement.
-use Prim.Native.Nat.{ℕ, zero, suc, _+_, _-_, _/_, _%_, _^_, _≤_, _<_}
-use mathlib.Core.Bool.{Bool, cond, _&&_}
+-- The map's bits as the machine's words have them: set, cleared, and searched by the trailing zeros of the complement; and marks in bytes.
+use Prim.Native.Nat.{ℕ, zero, suc, _+_, _-_, _^_, _≤_, _<_}
+use mathlib.Core.Bool.{Bool, cond}
 use mathlib.Core.List.{List}
 use lib.Bits.{bitAnd, bitOr}
 use lib.Count.{trailingZeros}
