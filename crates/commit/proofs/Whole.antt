@@ -1,12 +1,10 @@
--- A whole commit: the plan's runs are those of the definition, they are so many stores, and what the checks have passed is all that making them
+-- A whole commit: the plan's runs are those of the definition, and what the checks have passed is all that making them
 -- needs. Assumes nothing.
-use Prim.Native.Nat.{ℕ, zero, suc, _+_, _*_, _/_, _^_, _≤_, _<_}
+use Prim.Native.Nat.{ℕ, zero, suc, _+_, _*_, _/_, _≤_, _<_}
 use mathlib.Core.List.{List, [], _∷_, _++_}
 use mathlib.Core.Path.{_≡_, refl, sym, ap, subst, _∙_}
-use native.Mathlib.Nat.{mul-le-mul, suc-mul, zero-mul, mul-add, mul-assoc, mul-div-cancel}
-use native.Mathlib.Numerals.{add-one}
 use native.Mathlib.Omega.{arith}
-use lib.ListN.{length, getD, length-append}
+use lib.ListN.{length, getD}
 use mathlib.Core.Bool.{true, cond}
 use lib.Dec.{ltb}
 use Rattle.protocol.specs.declared.Answer.{Answer}
@@ -18,12 +16,12 @@ use Rattle.protocol.specs.Below.{eachBelow, around}
 use Rattle.protocol.specs.Layout.{goodGeometry, geometryOf, blockSize}
 use Rattle.protocol.specs.Entry.{entryOf, switched}
 use Rattle.protocol.specs.Ring.{headOf}
-use Rattle.protocol.specs.Store.{card, Run, flat, single, units, words, entryStore, wordStore, tailStore, storesOf}
-use Rattle.protocol.specs.Map.{mapOf, handedOn}
-use Rattle.protocol.specs.Commit.{numberOf, entryFound, logEntry, dataOf, headAfter, blockRuns, switchRuns, commitRuns, commitWork}
+use Rattle.protocol.specs.Store.{card, Run, flat, single, entryStore, wordStore, tailStore, storesOf}
+use Rattle.protocol.specs.Map.{handedOn}
+use Rattle.protocol.specs.Commit.{numberOf, entryFound, logEntry, headAfter, blockRuns, switchRuns, commitRuns, commitRefusal, commitWork}
 use Rattle.protocol.proofs.Checks.{Limits, limits}
 use Rattle.protocol.proofs.Left.{commit-map}
-use Rattle.protocol.proofs.Stores.{flat-append, length-units}
+use Rattle.protocol.proofs.Stores.{flat-append}
 use Rattle.protocol.proofs.Region.{whole}
 use Rattle.ring.specs.Fitted.{Fitted}
 use Rattle.ring.proofs.Laws.{fitted-long}
@@ -31,9 +29,10 @@ use Rattle.checks.specs.Keys.{keyAt}
 use Rattle.plan.specs.declared.Plan.{Plan}
 use Rattle.plan.specs.declared.Saving.{Saving}
 use Rattle.plan.specs.Planned.{Planned, Prepared}
+use Rattle.plan.proofs.Count.{runs-count}
 use Rattle.plan.proofs.Bounds.{Passed, passed, few-numbers, new-below, entry-below}
 use Rattle.stores.specs.Did.{Did}
-use Rattle.stores.proofs.Laws.{did-then, did-same, length-each, refused-answer, refused-after, refused-map, made-answer, made-after, made-map}
+use Rattle.stores.proofs.Laws.{did-then, did-same, refused-answer, refused-after, refused-map, made-answer, made-after, made-map}
 use Rattle.commit.specs.Making.{stepRuns, plannedEntry, plannedBlock, plannedSwitch, plannedRuns, Ready}
 use Rattle.commit.specs.Committed.{Committed}
 
@@ -68,47 +67,6 @@ module _ (g : Geometry) (c ns bs : List ℕ) (p : Plan) (x : Planned g c ns p) w
       ++ (each-same (plannedSwitch g p ns) (switchRuns g c ns) (length ns) switch-same t
       ++ single (tailStore (around (g .slots) (headOf c) (length ns))))
 
--- ---- how many stores they are
-
-each-count : (f : ℕ → List Run) (k n : ℕ) → ((i : ℕ) → length (flat (f i)) ≡ k) → length (flat (eachBelow f n)) ≡ n * k
-unfolding eachBelow flat
-each-count f k zero e = sym (zero-mul k)
-each-count f k (suc n) e =
-    ap (λ (z : ℕ). length (flat (eachBelow f z))) (sym (add-one n))
-    ∙ length-each f n
-    ∙ omega (arith, each-count f k n e, e n, suc-mul n k)
-
-flat-length : (rs qs : List Run) → length (flat (rs ++ qs)) ≡ length (flat rs) + length (flat qs)
-flat-length rs qs = ap length (flat-append rs qs) ∙ length-append (flat rs) (flat qs)
-
-module _ (g : Geometry) (c ns bs : List ℕ) where
-  block-count : (i : ℕ) → length (flat (blockRuns g c ns bs i)) ≡ blockSize g / 8 + 3
-  unfolding blockRuns flat single words
-  block-count i =
-      length-append (units card 8 (blockSize g / 8) _ (dataOf g bs i)) _
-      ∙ ap (λ (z : ℕ). z + 3) (length-units card 8 (blockSize g / 8) _ (dataOf g bs i))
-
-  switch-count : (i : ℕ) → length (flat (switchRuns g c ns i)) ≡ 1
-  unfolding switchRuns flat single
-  switch-count i = refl
-
-  pub runs-count : length (flat (commitRuns g c ns bs)) ≡ length ns * (blockSize g / 8 + 4) + 1
-  unfolding commitRuns single flat
-  runs-count =
-      let n = length ns in
-      let blocks = eachBelow (blockRuns g c ns bs) n in
-      let switches = eachBelow (switchRuns g c ns) n in
-      let last = single (tailStore (headAfter g c n)) in
-      omega (
-        arith,
-        flat-length blocks (switches ++ last),
-        flat-length switches last,
-        each-count (blockRuns g c ns bs) (blockSize g / 8 + 3) n block-count,
-        each-count (switchRuns g c ns) 1 n switch-count,
-        mul-add n (blockSize g / 8) 3,
-        mul-add n (blockSize g / 8) 4,
-      )
-
 -- ---- all of them made
 
 pub plan-made : (g : Geometry) (p : Plan) (h : ℕ) (ns bs : List ℕ) (end left a b r : ℕ) (xs ys zs ws : List ℕ)
@@ -125,37 +83,24 @@ plan-made g p h ns bs end left a b r xs ys zs ws x y e z =
     (did-same (sym (flat-append switches _))
     (did-then y (did-same (ap (λ (v : ℕ). wordStore 72 v ∷ []) e) z))))
 
--- m from n·B, which is a shift: its words, and four stores more for each block
-module _ (g : Geometry) (n o : ℕ) (h : (goodGeometry g ≡ true) × (n < g .slots)) (e : o ≡ n * blockSize g) where
-  pub count-small : (n ≤ 256) × (o ≤ 256 * 4096)
-  count-small =
-      let l : Limits g = limits g (h .0) in
-      let few : n ≤ 256 = omega (arith, h .1) in
-      (few, rw e (mul-le-mul few (l .size .1)))
-
-  count-words : o / 8 ≡ n * (blockSize g / 8)
-  count-words =
-      ap (λ (z : ℕ). z / 8) (e ∙ ap (λ (z : ℕ). n * z) (sym (whole g (limits g (h .0)) .in-words)) ∙ sym (mul-assoc n (blockSize g / 8) 8))
-      ∙ mul-div-cancel (n * (blockSize g / 8)) (omega arith)
-
-  pub count-is : o / 8 + 4 * n + 1 ≡ n * (blockSize g / 8 + 4) + 1
-  count-is = omega (arith, count-words, mul-add n (blockSize g / 8) 4)
-
 -- ---- what the checks have passed
 
-module _ (c : List ℕ) (m : Map) (ns bs : List ℕ) (s : Saving) (x : Prepared c m ns bs s) where
+module _ (c : List ℕ) (m : Map) (ns bs : List ℕ) (s : Saving) (x : Prepared c m ns (length bs) s) where
+  refusal-is : s .refusal ≡ commitRefusal c m ns bs
+  refusal-is = x .refusal-is bs refl
+
   pub commit-refused : (a : ℕ) (r : Stored) → (s .refusal ≡ 0 → ⊥)
       → (r .answer ≡ Refused (s .refusal)) × (r .map ≡ handedOn (Refused (s .refusal)) m m) → Committed c m ns bs a r c
   unfolding commitWork handedOn
   commit-refused a r h e = record {
-    answers = e .0 ∙ refused-answer (commitWork c m ns bs) a (s .refusal) (x .refusal-is) h;
-    hands = e .1 ∙ refused-map (commitWork c m ns bs) a (s .refusal) c m (x .refusal-is) h;
-    leaves = refused-after (commitWork c m ns bs) a card (s .refusal) c (x .refusal-is) h;
+    answers = e .0 ∙ refused-answer (commitWork c m ns bs) a (s .refusal) refusal-is h;
+    hands = e .1 ∙ refused-map (commitWork c m ns bs) a (s .refusal) c m refusal-is h;
+    leaves = refused-after (commitWork c m ns bs) a card (s .refusal) c refusal-is h;
   }
 
   module _ (z : s .refusal ≡ 0) where
     pub commit-passed : Passed (geometryOf c) c ns bs
-    commit-passed = passed c m ns bs (sym (x .refusal-is) ∙ z)
+    commit-passed = passed c m ns bs (sym refusal-is ∙ z)
 
     pub commit-long : 128 ≤ length c
     commit-long = fitted-long (geometryOf c) c (commit-passed .fitted)
@@ -197,13 +142,13 @@ module _ (c : List ℕ) (m : Map) (ns bs : List ℕ) (s : Saving) (x : Prepared 
         let g₀ = geometryOf c in
         let p = x .planned z in
         let answered =
-        made-answer (commitWork c m ns bs) a (s .refusal) (x .refusal-is) z n y
+        made-answer (commitWork c m ns bs) a (s .refusal) refusal-is z n y
         (k ∙ ap (λ (v : Geometry). length ns * (blockSize v / 8 + 4) + 1) e ∙ sym (runs-count g₀ c ns bs)) w in
-        let left = p .map-is ∙ sym (commit-map c m ns bs (sym (x .refusal-is) ∙ z)) in
+        let left = p .map-is ∙ sym (commit-map c m ns bs (sym refusal-is ∙ z)) in
         record {
           answers = o .0 ∙ answered;
-          hands = o .1 ∙ made-map (commitWork c m ns bs) a (s .refusal) (x .refusal-is) z y c m (s .plan .map) answered left;
+          hands = o .1 ∙ made-map (commitWork c m ns bs) a (s .refusal) refusal-is z y c m (s .plan .map) answered left;
           leaves =
-              made-after (commitWork c m ns bs) a (s .refusal) (x .refusal-is) z
+              made-after (commitWork c m ns bs) a (s .refusal) refusal-is z
               (did-same ((λ i. flat (plannedRuns (e i) (s .plan) (q i) ns bs)) ∙ ap flat (runs-same g₀ c ns bs (s .plan) p)) made);
         }

@@ -7,11 +7,10 @@ use protocol::Map;
 use protocol::Stored;
 ghost use mathlib.Core.Path.{_≡_};
 ghost use mathlib.Core.List.{[], _∷_};
-ghost use mathlib.Core.Bool.{true};
-ghost use Prim.Native.Nat.{_+_, _*_, _/_, _≤_, _<_};
+ghost use Prim.Native.Nat.{_+_, _*_, _≤_, _<_};
 ghost use lib.ListN.{length};
 ghost use Rattle.protocol.specs.Below.{eachBelow, around};
-ghost use Rattle.protocol.specs.Layout.{goodGeometry, blockSize};
+ghost use Rattle.protocol.specs.Layout.{blockSize};
 ghost use Rattle.protocol.specs.Entry.{entryOf, switched};
 ghost use Rattle.protocol.specs.Store.{Medium, flat, slotStore, headStore};
 ghost use Rattle.ring.specs.Fitted.{Fitted};
@@ -138,20 +137,12 @@ fn make_plan(
     stores::make_word(card, 72, end as u64, b)
 }
 
-// m, the count of stores of a commit of n blocks.
-fn count_of(g: Geometry, n: usize) -> u64
-    requires { ⌜ (goodGeometry g ≡ true) × (n < g .slots) ⌝ }
-    ensures { λ r. ⌜ r ≡ n * (blockSize g / 8 + 4) + 1 ⌝ }
-{
-    codec::block_offset(g, n as u64) / 8 + 4 * n as u64 + 1
-}
-
 // Saves the blocks `numbers`, with their bytes side by side in `data`, as one commit. `allowance` stores still happen. Refused before any
 // store: 1, 2, 4 to 11, 14 and 15. Done hands on the map of the card that is left.
 pub fn commit(card: &mut [u8], map: Map, numbers: &[u64], data: &[u8], allowance: u64) -> Stored
     ensures { λ r. ⌜ Committed (now (card .entry)) map (now (numbers .entry)) (now («data» .entry)) allowance r (now (card .exit)) ⌝ }
 {
-    let s = plan::prepare(card, map, numbers, data);
+    let s = plan::prepare(card, map, numbers, data.len());
     if s.refusal != 0 {
         return stores::hand_on(Answer::Refused(s.refusal), map, map);
     }
@@ -159,6 +150,6 @@ pub fn commit(card: &mut [u8], map: Map, numbers: &[u64], data: &[u8], allowance
     let head = ring::head_of(card) as usize;
     let p = s.plan;
     make_plan(g, card, p, numbers, data, head, allowance);
-    let answer = stores::answer(count_of(g, numbers.len()), allowance);
+    let answer = stores::answer(plan::count_of(g, numbers.len()), allowance);
     stores::hand_on(answer, map, p.map)
 }

@@ -1,8 +1,8 @@
 -- What is found among the keys of a card's entries is what document 01's search for unused entries finds on the card: the tests agree at each
 -- place, so the walks are the same. Assumes nothing.
-use Prim.Native.Nat.{ℕ, zero, suc, _%_, _≤_, _<_}
-use mathlib.Core.List.{List, _++_}
-use mathlib.Core.Bool.{Bool, true, false, not, _&&_}
+use Prim.Native.Nat.{ℕ, _%_, _<_}
+use mathlib.Core.List.{List}
+use mathlib.Core.Bool.{Bool, true, false, not}
 use mathlib.Core.Path.{_≡_, refl, ap, _∙_}
 use native.Mathlib.Nat.{mod-lt}
 use native.Mathlib.Omega.{arith}
@@ -10,16 +10,16 @@ use lib.ListN.{length, getD}
 use lib.Dec.{leb, eqb}
 use borrow.Author.Tests.{ne-eqb}
 use Rattle.protocol.specs.declared.Geometry.{Geometry}
-use Rattle.protocol.specs.Below.{anyBelow, eachBelow, keep, around, walked}
+use Rattle.protocol.specs.Below.{walked}
 use Rattle.protocol.specs.Entry.{entryAt}
 use Rattle.protocol.specs.Ring.{headOf, usedAt}
 use Rattle.protocol.specs.Check.{goodEntryAt, entriesFit}
-use Rattle.protocol.specs.Search.{takenBy, isFree, unusedAt, searchStart}
-use Rattle.protocol.proofs.Below.{all-at, any-cong, around-below}
+use Rattle.protocol.specs.Search.{unusedAt, searchStart}
+use Rattle.protocol.proofs.Below.{all-at}
 use Rattle.protocol.proofs.Checks.{Limits, limits}
 use Rattle.protocol.proofs.Allowed.{Bounded, bounded}
 use Rattle.ring.specs.Fitted.{Fitted}
-use Rattle.checks.specs.Keys.{NONE, key, keyed, keyAt, numberKey, currentKey, Lists}
+use Rattle.checks.specs.Keys.{NONE, key, keyed, keyAt, numberKey, Lists}
 use Rattle.freemap.proofs.Search.{walked-same}
 use Rattle.plan.specs.declared.Places.{Places}
 use Rattle.plan.specs.Searched.{Searched}

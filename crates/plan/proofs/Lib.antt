@@ -7,3 +7,4 @@ pub mod Room
 pub mod Released
 pub mod Order
 pub mod Bounds
+pub mod Count

@@ -4,7 +4,7 @@ use mathlib.Core.List.{List}
 use mathlib.Core.Bool.{Bool, true, false, not, _&&_, _||_}
 use mathlib.Core.Path.{_≡_, refl, sym, ap, subst, _∙_}
 use native.Mathlib.Omega.{arith}
-use lib.ListN.{length, getD}
+use lib.ListN.{length}
 use lib.Dec.{eqb}
 use borrow.Author.Tests.{not-true, not-false}
 use Rattle.protocol.specs.declared.Geometry.{Geometry}
@@ -14,7 +14,7 @@ use Rattle.protocol.specs.Check.{refuse, _orElse_, ringFits, entriesFit, fitRef
 use Rattle.protocol.specs.Search.{searchStart}
 use Rattle.protocol.specs.Map.{mapBy, isMarked, mapOf, freeCount, sameMap, mapRefusal}
 use Rattle.protocol.specs.Below.{anyBelow}
-use Rattle.protocol.specs.Commit.{newBlock, countFits, dataFits, numbersFit, roomFor, saveRefusal, commitRefusal}
+use Rattle.protocol.specs.Commit.{newBlock, countFits, dataFits, numbersFit, numbersApart, roomFor, saveRefusal, commitRefusal}
 use Rattle.protocol.proofs.Checks.{refuse-passed, refuse-failed, orElse-first, orElse-next, orElse-none, refuse-none}
 use Rattle.protocol.proofs.Below.{any-cong}
 use Rattle.protocol.proofs.Words.{map-cong}
@@ -27,7 +27,7 @@ use Rattle.checks.specs.Passed.{CurrentMarks, Inspected}
 use Rattle.checks.proofs.Order.{card-damaged, card-settled, card-unsettled}
 use Rattle.plan.specs.declared.Homes.{Homes}
 use Rattle.plan.specs.declared.Saving.{Saving}
-use Rattle.plan.specs.Request.{requestRefusal}
+use Rattle.plan.specs.Request.{sizeFits, requestRefusal, sizedRefusal}
 use Rattle.plan.proofs.Room.{no-room, room, taken-block, taken-map}
 use Rattle.plan.specs.Planned.{released, Keyed, AllHoused, Planned, Saved, Examined, Prepared}
 
@@ -37,19 +37,25 @@ unfolding _orElse_
 orElse-assoc zero b c = refl
 orElse-assoc (suc a) b c = refl
 
--- 8 to 11, then 14
-save-splits : (g : Geometry) (c ns bs : List ℕ) → requestRefusal g ns bs orElse refuse 14 (roomFor g c (length ns)) ≡ saveRefusal g c ns bs
-unfolding requestRefusal saveRefusal
-save-splits g c ns bs =
+-- of data so long the refusals are commit's own
+sized-is : (g : Geometry) (c ns bs : List ℕ) (size : ℕ) → length bs ≡ size → sizedRefusal g c ns size ≡ saveRefusal g c ns bs
+unfolding requestRefusal sizedRefusal saveRefusal dataFits sizeFits
+sized-is g c ns bs size l =
     orElse-assoc (refuse 8 (countFits g ns)) _ _
     ∙ ap (λ (r : ℕ). refuse 8 (countFits g ns) orElse r)
-    (orElse-assoc (refuse 9 (dataFits g ns bs)) _ _
-    ∙ ap (λ (r : ℕ). refuse 9 (dataFits g ns bs) orElse r) (orElse-assoc (refuse 10 (numbersFit g ns)) _ _))
+    (orElse-assoc (refuse 9 (sizeFits g ns size)) _ _
+    ∙ ap (λ (r : ℕ). refuse 9 (sizeFits g ns size) orElse r) (orElse-assoc (refuse 10 (numbersFit g ns)) _ _)
+    ∙ (λ t.
+    refuse 9 (sizeFits g ns (sym l t))
+    orElse refuse 10 (numbersFit g ns)
+    orElse refuse 11 (numbersApart ns)
+    orElse refuse 14 (roomFor g c (length ns))))
 
-module _ (g : Geometry) (c ns bs : List ℕ) (r : ℕ) (e : r ≡ requestRefusal g ns bs) where
-  pub saved-request : (u : Saving) → (r ≡ 0 → ⊥) → u .refusal ≡ r → Saved g c ns bs u
+module _ (g : Geometry) (c ns : List ℕ) (size r : ℕ) (e : r ≡ requestRefusal g ns size) where
+  pub saved-request : (u : Saving) → (r ≡ 0 → ⊥) → u .refusal ≡ r → Saved g c ns size u
+  unfolding sizedRefusal
   saved-request u h q =
-      let s : u .refusal ≡ saveRefusal g c ns bs = q ∙ orElse-first r (requestRefusal g ns bs) _ e h ∙ save-splits g c ns bs in
+      let s : u .refusal ≡ sizedRefusal g c ns size = q ∙ orElse-first r (requestRefusal g ns size) _ e h in
       record { refusal-is = s; planned = λ z. absurd (h (sym q ∙ z)) }
 
   module _ (z : r ≡ 0) where
@@ -57,14 +63,15 @@ module _ (g : Geometry) (c ns bs : List ℕ) (r : ℕ) (e : r ≡ requestRefusal
     unfolding requestRefusal
     passed-numbers =
         let a = orElse-none (refuse 8 (countFits g ns)) _ (sym e ∙ z) .1 in
-        let b = orElse-none (refuse 9 (dataFits g ns bs)) _ a .1 in
+        let b = orElse-none (refuse 9 (sizeFits g ns size)) _ a .1 in
         refuse-none 10 (numbersFit g ns) (omega arith) (orElse-none (refuse 10 (numbersFit g ns)) _ b .0)
 
-    past-request : (q : ℕ) → q ≡ refuse 14 (roomFor g c (length ns)) → q ≡ saveRefusal g c ns bs
-    past-request q h = orElse-next q (requestRefusal g ns bs) _ (sym z ∙ e) h ∙ save-splits g c ns bs
+    past-request : (q : ℕ) → q ≡ refuse 14 (roomFor g c (length ns)) → q ≡ sizedRefusal g c ns size
+    unfolding sizedRefusal
+    past-request q h = orElse-next q (requestRefusal g ns size) _ (sym z ∙ e) h
 
     module _ (good : goodGeometry g ≡ true) (m : Map) (q : m ≡ mapBy (isMarked g c)) (free : ℕ) (f : free ≡ freeCount m) where
-      pub saved-full : (u : Saving) → free < length ns → u .refusal ≡ 14 → Saved g c ns bs u
+      pub saved-full : (u : Saving) → free < length ns → u .refusal ≡ 14 → Saved g c ns size u
       saved-full u l k =
           record {
             refusal-is = k ∙ past-request 14 (refuse-failed 14 (roomFor g c (length ns)) (no-room g c good m q free f (length ns) l));
@@ -74,7 +81,7 @@ module _ (g : Geometry) (c ns bs : List ℕ) (r : ℕ) (e : r ≡ requestRefusal
       pub saved-planned : length ns ≤ free → (start : ℕ) → (start ≡ searchStart g c) × (start < g .blocks) → (t : Taken) (h : Homes) (y : Map)
           → Took m start (length ns) t → AllHoused g c ns h
           → ((p : ℕ → Bool) → t .map ≡ mapBy p → y ≡ mapBy (released p (h .previous) (length ns)))
-          → Saved g c ns bs (record { refusal = 0; plan = record { entries = h .entries; previous = h .previous; blocks = t .blocks; map = y } })
+          → Saved g c ns size (record { refusal = 0; plan = record { entries = h .entries; previous = h .previous; blocks = t .blocks; map = y } })
       unfolding keyAt released
       saved-planned l start b t h y x a r =
           record {
@@ -111,8 +118,8 @@ examined-keyed g c ids currents v h z f =
       blocks = h .currents z;
     }
 
-module _ (g : Geometry) (c ids currents : List ℕ) (m : Map) (ns bs : List ℕ) (v : Verdict) (h : Inspected g c ids currents v) where
-  pub examined-damaged : (u : Saving) → (v .refusal ≡ 0 → ⊥) → u .refusal ≡ v .refusal → Examined g c m ns bs u
+module _ (g : Geometry) (c ids currents : List ℕ) (m : Map) (ns : List ℕ) (size : ℕ) (v : Verdict) (h : Inspected g c ids currents v) where
+  pub examined-damaged : (u : Saving) → (v .refusal ≡ 0 → ⊥) → u .refusal ≡ v .refusal → Examined g c m ns size u
   examined-damaged u o q =
       record {
         refusal-is = q ∙ orElse-first (v .refusal) (cardRefusal g c) _ (card-damaged g c ids currents v h o) o;
@@ -120,7 +127,7 @@ module _ (g : Geometry) (c ids currents : List ℕ) (m : Map) (ns bs : List ℕ)
       }
 
   module _ (z : v .refusal ≡ 0) where
-    pub examined-unsettled : (u : Saving) → not (v .settled) ≡ true → u .refusal ≡ 7 → Examined g c m ns bs u
+    pub examined-unsettled : (u : Saving) → not (v .settled) ≡ true → u .refusal ≡ 7 → Examined g c m ns size u
     examined-unsettled u o q =
         record {
           refusal-is =
@@ -134,11 +141,11 @@ module _ (g : Geometry) (c ids currents : List ℕ) (m : Map) (ns bs : List ℕ)
         same-is : sameMap m (mapBy (isMarked g c)) ≡ t
         same-is = ap (sameMap m) (sym (w c (h .marks-are z))) ∙ sym e
 
-        past-card : (r : ℕ) → r ≡ refuse 15 (sameMap m (mapBy (isMarked g c))) orElse saveRefusal g c ns bs
-            → r ≡ cardRefusal g c orElse refuse 15 (sameMap m (mapBy (isMarked g c))) orElse saveRefusal g c ns bs
+        past-card : (r : ℕ) → r ≡ refuse 15 (sameMap m (mapBy (isMarked g c))) orElse sizedRefusal g c ns size
+            → r ≡ cardRefusal g c orElse refuse 15 (sameMap m (mapBy (isMarked g c))) orElse sizedRefusal g c ns size
         past-card r q = orElse-next r (cardRefusal g c) _ (card-settled g c ids currents v h z (not-false (v .settled) o)) q
 
-        pub examined-other : (u : Saving) → not t ≡ true → u .refusal ≡ 15 → Examined g c m ns bs u
+        pub examined-other : (u : Saving) → not t ≡ true → u .refusal ≡ 15 → Examined g c m ns size u
         examined-other u k q =
             record {
               refusal-is =
@@ -146,29 +153,29 @@ module _ (g : Geometry) (c ids currents : List ℕ) (m : Map) (ns bs : List ℕ)
               planned = unplanned-first g c ns u 15 (omega arith) q;
             }
 
-        pub examined-saved : (u : Saving) → not t ≡ false → Saved g c ns bs u → Examined g c m ns bs u
+        pub examined-saved : (u : Saving) → not t ≡ false → Saved g c ns size u → Examined g c m ns size u
         examined-saved u k s =
             record {
               refusal-is = past-card (u .refusal) (orElse-next (u .refusal) _ _ (refuse-passed 15 _ (same-is ∙ not-false t k)) (s .refusal-is));
               planned = s .planned;
             }
 
-module _ (c : List ℕ) (m : Map) (ns bs : List ℕ) (r : ℕ) (e : r ≡ fitRefusal c) where
-  pub prepared-misfit : (u : Saving) → (r ≡ 0 → ⊥) → u .refusal ≡ r → Prepared c m ns bs u
+module _ (c : List ℕ) (m : Map) (ns : List ℕ) (size r : ℕ) (e : r ≡ fitRefusal c) where
+  pub prepared-misfit : (u : Saving) → (r ≡ 0 → ⊥) → u .refusal ≡ r → Prepared c m ns size u
   unfolding commitRefusal
   prepared-misfit u o q =
       record {
-        refusal-is = q ∙ orElse-first r (fitRefusal c) _ e o;
+        refusal-is = λ bs l. q ∙ orElse-first r (fitRefusal c) _ e o;
         planned = unplanned-first (geometryOf c) c ns u r (omega arith) q;
       }
 
-  pub prepared-examined : (g : Geometry) (u : Saving) → r ≡ 0 → g ≡ geometryOf c → Examined g c m ns bs u → Prepared c m ns bs u
+  pub prepared-examined : (g : Geometry) (u : Saving) → r ≡ 0 → g ≡ geometryOf c → Examined g c m ns size u → Prepared c m ns size u
   unfolding commitRefusal mapRefusal mapOf
   prepared-examined g u z q x =
       record {
-        refusal-is =
+        refusal-is = λ bs l.
             orElse-next (u .refusal) (fitRefusal c) _ (sym z ∙ e)
             (x .refusal-is
-            ∙ ap (λ (y : Geometry). cardRefusal y c orElse refuse 15 (sameMap m (mapBy (isMarked y c))) orElse saveRefusal y c ns bs) q);
+            ∙ (λ t. cardRefusal (q t) c orElse refuse 15 (sameMap m (mapBy (isMarked (q t) c))) orElse sized-is (q t) c ns bs size l t));
         planned = λ w. subst (λ (y : Geometry). Planned y c ns (u .plan)) q (x .planned w);
       }

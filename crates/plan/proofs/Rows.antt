@@ -2,7 +2,7 @@
 -- steps the list is the walk of j steps, with which the whole walk begins. Assumes nothing.
 use Prim.Native.Nat.{ℕ, zero, suc, _+_, _-_, _≤_, _<_}
 use mathlib.Core.List.{List, [], _∷_, _++_, append-nil, append-assoc}
-use mathlib.Core.Bool.{Bool, true, false, not}
+use mathlib.Core.Bool.{Bool, true, false}
 use mathlib.Core.Path.{_≡_, refl, sym, ap, subst, _∙_}
 use mathlib.Core.Logic.{_⊎_, inl, inr, ⊎-elim}
 use native.Mathlib.Nat.{add-zero, add-suc}
@@ -10,10 +10,10 @@ use native.Mathlib.Numerals.{add-one}
 use native.Mathlib.Omega.{arith}
 use lib.ListN.{length, getD, set, replicate, length-set, length-replicate, getD-replicate, length-append, List·getD-append, List·getD-eq-default}
 use lib.Seq.{getD-set-same, getD-set-other, getD-append-seam}
-use lib.Dec.{leb, eqb}
+use lib.Dec.{leb}
 use borrow.Author.Tests.{eq-eqb, ne-eqb, lt-ltb, le-leb}
-use Rattle.protocol.specs.Below.{anyBelow, eachBelow, keep, around, walked}
-use Rattle.protocol.proofs.Below.{same-or-other, below-or-above, any-hit, any-miss, around-below, around-next}
+use Rattle.protocol.specs.Below.{eachBelow, keep, around, walked}
+use Rattle.protocol.proofs.Below.{same-or-other, below-or-above, around-below, around-next}
 use Rattle.checks.specs.Keys.{NONE, keyed, keyAt}
 use Rattle.plan.specs.Searched.{Searched}
 

@@ -12,13 +12,14 @@ use Rattle.protocol.specs.Entry.{FRESH}
 use Rattle.protocol.specs.Layout.{geometryOf}
 use Rattle.protocol.specs.Check.{refuse, _orElse_, entriesFit, cardRefusal}
 use Rattle.protocol.specs.Map.{mapBy, isMarked, sameMap}
-use Rattle.protocol.specs.Commit.{newBlock, entryFound, oldBlock, saveRefusal, commitRefusal}
+use Rattle.protocol.specs.Commit.{newBlock, entryFound, oldBlock, commitRefusal}
 use Rattle.ring.specs.Fitted.{Fitted}
 use Rattle.checks.specs.Keys.{keyed, keyAt, numberKey, currentKey, Lists}
 use Rattle.plan.specs.declared.Home.{Home}
 use Rattle.plan.specs.declared.Homes.{Homes}
 use Rattle.plan.specs.declared.Plan.{Plan}
 use Rattle.plan.specs.declared.Saving.{Saving}
+use Rattle.plan.specs.Request.{sizedRefusal}
 
 -- what a plan starts from: a card that passed checks 1, 2 and 5, and the keys of its entries
 pub record Keyed (g : Geometry) (c ids currents : List ℕ) : Type 0 where
@@ -56,16 +57,16 @@ pub record Planned (g : Geometry) (c ns : List ℕ) (p : Plan) : Type 0 where
       (isMarked g c x || anyBelow (λ k. eqb (newBlock g c k) x) (length ns)) && not (anyBelow (λ k. eqb (oldBlock g c ns k) x) (length ns)))
 
 -- commit's own refusal, and where there is none the plan
-pub record Saved (g : Geometry) (c ns bs : List ℕ) (r : Saving) : Type 0 where
-  pub refusal-is : r .refusal ≡ saveRefusal g c ns bs
+pub record Saved (g : Geometry) (c ns : List ℕ) (size : ℕ) (r : Saving) : Type 0 where
+  pub refusal-is : r .refusal ≡ sizedRefusal g c ns size
   pub planned : r .refusal ≡ 0 → Planned g c ns (r .plan)
 
 -- the refusals of the card's contents and of the map before commit's own
-pub record Examined (g : Geometry) (c : List ℕ) (m : Map) (ns bs : List ℕ) (r : Saving) : Type 0 where
-  pub refusal-is : r .refusal ≡ cardRefusal g c orElse refuse 15 (sameMap m (mapBy (isMarked g c))) orElse saveRefusal g c ns bs
+pub record Examined (g : Geometry) (c : List ℕ) (m : Map) (ns : List ℕ) (size : ℕ) (r : Saving) : Type 0 where
+  pub refusal-is : r .refusal ≡ cardRefusal g c orElse refuse 15 (sameMap m (mapBy (isMarked g c))) orElse sizedRefusal g c ns size
   pub planned : r .refusal ≡ 0 → Planned g c ns (r .plan)
 
--- all of commit's refusals, and where there is none the plan
-pub record Prepared (c : List ℕ) (m : Map) (ns bs : List ℕ) (r : Saving) : Type 0 where
-  pub refusal-is : r .refusal ≡ commitRefusal c m ns bs
+-- all of commit's refusals, whatever the bytes of the data are, and where there is none the plan
+pub record Prepared (c : List ℕ) (m : Map) (ns : List ℕ) (size : ℕ) (r : Saving) : Type 0 where
+  pub refusal-is : (bs : List ℕ) → length bs ≡ size → r .refusal ≡ commitRefusal c m ns bs
   pub planned : r .refusal ≡ 0 → Planned (geometryOf c) c ns (r .plan)

@@ -4,10 +4,10 @@ use protocol::Geometry;
 use protocol::Map;
 ghost use mathlib.Core.Path.{_≡_};
 ghost use mathlib.Core.Bool.{Bool, true};
-ghost use Prim.Native.Nat.{ℕ, _≤_, _<_};
+ghost use Prim.Native.Nat.{ℕ, _+_, _*_, _/_, _≤_, _<_};
 ghost use lib.ListN.{length};
 ghost use Rattle.protocol.specs.Below.{around};
-ghost use Rattle.protocol.specs.Layout.{goodGeometry};
+ghost use Rattle.protocol.specs.Layout.{goodGeometry, blockSize};
 ghost use Rattle.protocol.specs.Search.{unusedAt, searchStart};
 ghost use Rattle.protocol.specs.Map.{mapBy, isMarked};
 ghost use Rattle.protocol.specs.Check.{entriesFit};
@@ -64,10 +64,10 @@ fn numbers_apart(numbers: &[u64]) -> bool
     true
 }
 
-// 8 to 11, which the numbers and the data decide alone. Nothing is shifted before the count has passed: n·B then fits a word.
-fn request_refusal(g: Geometry, numbers: &[u64], data: &[u8]) -> u8
+// 8 to 11, which the numbers and the data's length decide alone. Nothing is shifted before the count has passed: n·B then fits a word.
+fn request_refusal(g: Geometry, numbers: &[u64], size: usize) -> u8
     requires { ⌜ goodGeometry g ≡ true ⌝ }
-    ensures { λ r. ⌜ r ≡ requestRefusal g (now (numbers .entry)) (now («data» .entry)) ⌝ }
+    ensures { λ r. ⌜ r ≡ requestRefusal g (now (numbers .entry)) size ⌝ }
 {
     let n = numbers.len() as u64;
     if n == 0 {
@@ -76,7 +76,7 @@ fn request_refusal(g: Geometry, numbers: &[u64], data: &[u8]) -> u8
     if g.slots - 1 < n {
         return 8;
     }
-    if data.len() as u64 != codec::block_offset(g, n) {
+    if size as u64 != codec::block_offset(g, n) {
         return 9;
     }
     if !numbers_fit(g, numbers) {
@@ -285,12 +285,12 @@ pub fn save(
     currents: &[u32; 128],
     map: Map,
     numbers: &[u64],
-    data: &[u8],
+    size: usize,
 ) -> Saving
     requires { ⌜ Keyed g (now card) (now ids) (now currents) × (map ≡ mapBy (isMarked g (now card))) ⌝ }
-    ensures { λ r. ⌜ Saved g (now (card .entry)) (now (numbers .entry)) (now («data» .entry)) r ⌝ }
+    ensures { λ r. ⌜ Saved g (now (card .entry)) (now (numbers .entry)) size r ⌝ }
 {
-    let refusal = request_refusal(g, numbers, data);
+    let refusal = request_refusal(g, numbers, size);
     if refusal != 0 {
         return unplanned(refusal);
     }
@@ -315,9 +315,9 @@ pub fn save(
 }
 
 // 4 to 15 of a card that fits, and where none of them is given the plan. Each entry is decoded once, for the checks and for the plan.
-fn examine(g: Geometry, card: &[u8], map: Map, numbers: &[u64], data: &[u8]) -> Saving
+fn examine(g: Geometry, card: &[u8], map: Map, numbers: &[u64], size: usize) -> Saving
     requires { ⌜ Fitted g (now card) ⌝ }
-    ensures { λ r. ⌜ Examined g (now (card .entry)) map (now (numbers .entry)) (now («data» .entry)) r ⌝ }
+    ensures { λ r. ⌜ Examined g (now (card .entry)) map (now (numbers .entry)) size r ⌝ }
 {
     let mut ids = [0u32; 128];
     let mut currents = [0u32; 128];
@@ -333,16 +333,24 @@ fn examine(g: Geometry, card: &[u8], map: Map, numbers: &[u64], data: &[u8]) -> 
     if !freemap::same(map, own) {
         return unplanned(15);
     }
-    save(g, card, &ids, &currents, own, numbers, data)
+    save(g, card, &ids, &currents, own, numbers, size)
 }
 
-// What a commit comes to on the card at entry: its refusal, and where there is none its plan.
-pub fn prepare(card: &[u8], map: Map, numbers: &[u64], data: &[u8]) -> Saving
-    ensures { λ r. ⌜ Prepared (now (card .entry)) map (now (numbers .entry)) (now («data» .entry)) r ⌝ }
+// What a commit of `size` bytes comes to on the card at entry: its refusal, and where there is none its plan.
+pub fn prepare(card: &[u8], map: Map, numbers: &[u64], size: usize) -> Saving
+    ensures { λ r. ⌜ Prepared (now (card .entry)) map (now (numbers .entry)) size r ⌝ }
 {
     let misfit = ring::fit_refusal(card);
     if misfit != 0 {
         return unplanned(misfit);
     }
-    examine(ring::geometry_of(card), card, map, numbers, data)
+    examine(ring::geometry_of(card), card, map, numbers, size)
+}
+
+// m, the count of stores of a commit of n blocks.
+pub fn count_of(g: Geometry, n: usize) -> u64
+    requires { ⌜ (goodGeometry g ≡ true) × (n < g .slots) ⌝ }
+    ensures { λ r. ⌜ r ≡ n * (blockSize g / 8 + 4) + 1 ⌝ }
+{
+    codec::block_offset(g, n as u64) / 8 + 4 * n as u64 + 1
 }

@@ -25,7 +25,7 @@ map-of-requires c κs =
     let e = c .before .before .before .before in
     let i = e .before .before in
     let x = i .inspect .ensures in
-    (i .before .before .before .before .before .before .pre .good, current-bytes _ _ (i .inspect .result .marks) (x .marks-are (e .if1 .left)))
+    (i .before .before .before .before .before .pre .good, current-bytes _ _ (i .inspect .result .marks) (x .marks-are (e .if1 .left)))
 
 same-requires : tie.Need-same-requires
 same-requires c κs = search needs
@@ -42,7 +42,7 @@ save-requires c κs =
     let e = w .before .before .before .before .before in
     let i = e .before .before in
     let x = i .inspect .ensures in
-    (examined-keyed _ _ _ _ _ x (e .if1 .left) (i .before .before .before .before .before .before .pre), w .map-of .ensures _ (x .marks-are (e .if1 .left)))
+    (examined-keyed _ _ _ _ _ x (e .if1 .left) (i .before .before .before .before .before .pre), w .map-of .ensures _ (x .marks-are (e .if1 .left)))
 
 returns-4 : tie.Need-returns-4
 returns-4 c = search (examined-saved, needs)

@@ -29,7 +29,7 @@ search-start-requires c κs = search needs
 take-requires : tie.Need-take-requires
 take-requires c κs =
     let f = c .before .before in
-    let s = f .before .before .before .before .before .before in
+    let s = f .before .before .before .before .before in
     take-ready _ _ (s .pre .0 .fitted .good) _ (s .pre .1) _ (f .free-count .ensures) _ (c .before .if2 .left) _ (c .search-start .ensures)
 
 homes-of-requires : tie.Need-homes-of-requires
@@ -45,7 +45,7 @@ returns-3 c =
     let u = t .before in
     let f = u .before .before in
     let q = f .before .before in
-    let s = q .before .before .before .before in
+    let s = q .before .before .before in
     saved-planned _ _ _ _ _ (q .request-refusal .ensures) (f .before .if1 .left) (s .pre .0 .fitted .good) _ (s .pre .1) _ (f .free-count .ensures)
     (u .before .if2 .left) _ (u .search-start .ensures) _ _ _ (t .take .ensures) (h .homes-of .ensures) (c .release .ensures)
 

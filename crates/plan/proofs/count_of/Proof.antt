@@ -1,10 +1,10 @@
 -- `count_of` answers how many stores a commit has.
 use Rattle.protocol.proofs.Checks.{limits}
-use Rattle.commit.proofs.Whole.{count-small, count-is}
+use Rattle.plan.proofs.Count.{count-small, count-is}
 use native.Mathlib.Omega.{arith}
 use borrow.Author.Needs.{needs}
-use Rattle.commit.proofs.count_of.Statement.{statement}
-use Rattle.commit.proofs.count_of.Tie as tie
+use Rattle.plan.proofs.count_of.Statement.{statement}
+use Rattle.plan.proofs.count_of.Tie as tie
 
 block-offset-requires : tie.Need-block-offset-requires
 block-offset-requires c κs = let l = limits (c .args .g) (c .pre .0) in (search needs, omega arith)
