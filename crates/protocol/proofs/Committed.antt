@@ -903,10 +903,11 @@ module _ {g : Geometry} {row : ℕ → List ℕ} {c d : List ℕ} (ns bs : List 
       last : List Store
       last = tailStore (headAfter g c (length ns)) ∷ []
 
-  -- the entries as they stand then: those of the plan switched, the others as they were
+  -- the entries as they stand then: those of the plan switched, the others as they were; and the data blocks of the plan
   pub record Entries (c′ : List ℕ) : Type 0 where
     pub others : (i : ℕ) → i < g .blocks → ((j : ℕ) → j < length ns → entryFound g c ns j ≡ i → ⊥) → entryAt g c′ i ≡ entryAt g c i
     pub planned : (j : ℕ) → j < length ns → entryAt g c′ (entryFound g c ns j) ≡ switched (logEntry g c ns j)
+    pub filled : (j : ℕ) → j < length ns → blockAt g c′ (newBlock g c j) ≡ dataOf g bs j
 
   pub commit-entries : Entries (madeOn card (flat (commitRuns g c ns bs)) c)
   unfolding madeOn
@@ -915,6 +916,7 @@ module _ {g : Geometry} {row : ℕ → List ℕ} {c d : List ℕ} (ns bs : List 
       (record {
         others = λ i l un. entry-kept ch i l (λ a b. omega arith) ∙ m .others i l un;
         planned = λ j l. entry-kept ch (entryFound g c ns j) (e-below j l) (λ a b. omega arith) ∙ m .switcheds j l;
+        filled = λ j l. block-kept ch (newBlock g c j) (q-below j l) (λ a b. omega arith) ∙ m .blocks j l;
       })
     where
       m : Mid (length ns) (length ns) (length ns) (madeOn card front c) (madeOn disk front d)

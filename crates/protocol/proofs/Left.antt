@@ -83,7 +83,7 @@ module _ {g : Geometry} {c : List ℕ} (c′ : List ℕ) (w : Intact g c) (i : �
 -- ---- what the checks have passed
 
 module _ (c : List ℕ) (fit : fitRefusal c ≡ 0) where
-  card-intact : cardRefusal (geometryOf c) c ≡ 0 → Intact (geometryOf c) c × (isSettled (geometryOf c) c ≡ true)
+  pub card-intact : cardRefusal (geometryOf c) c ≡ 0 → Intact (geometryOf c) c × (isSettled (geometryOf c) c ≡ true)
   unfolding cardRefusal
   card-intact z =
       let (damage, seven) = orElse-none (damageRefusal (geometryOf c) c) _ z in
@@ -217,7 +217,7 @@ module _ {g : Geometry} {row : ℕ → List ℕ} {c d : List ℕ} (ns bs : List 
       go (fresh h n q o) = absurd (omega arith)
       go (again h q k r) = k .used
 
-  new-used : (j : ℕ) → j < length ns → (usedAt g after (entryFound g c ns j) ≡ true) × (entryAt g after (entryFound g c ns j) .current ≡ newBlock g c j)
+  pub new-used : (j : ℕ) → j < length ns → (usedAt g after (entryFound g c ns j) ≡ true) × (entryAt g after (entryFound g c ns j) .current ≡ newBlock g c j)
   unfolding usedAt switched logEntry
   new-used j l = (
     ap inUse (left .planned j l) ∙ kept-used (numberOf ns j) (oldBlock g c ns j) (newBlock g c j),

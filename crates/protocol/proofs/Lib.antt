@@ -17,6 +17,7 @@ pub mod Made
 pub mod Maps
 pub mod Passed
 pub mod Planned
+pub mod Previewed
 pub mod Recovered
 pub mod Region
 pub mod Searches

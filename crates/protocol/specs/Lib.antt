@@ -9,6 +9,7 @@ pub mod Format
 pub mod Search
 pub mod Map
 pub mod Commit
+pub mod Preview
 pub mod Load
 pub mod Recover
 pub mod Read

@@ -1,0 +1,53 @@
+// The preview of a commit: what it would answer, and into which data block it would put each of its blocks. Nothing is stored.
+use protocol::Answer;
+use protocol::Map;
+ghost use mathlib.Core.Path.{_≡_};
+ghost use mathlib.Core.Bool.{cond};
+ghost use Prim.Native.Nat.{_≤_};
+ghost use lib.ListN.{length};
+ghost use lib.Dec.{eqb};
+ghost use Rattle.protocol.specs.Preview.{previewAnswer, blocksAfter};
+ghost use Rattle.preview.specs.Told.{Told};
+
+fn wide(x: u8) -> u32
+    ensures { λ r. ⌜ r ≡ x ⌝ }
+{
+    x as u32
+}
+
+// Tells the planned data blocks, each as a number of its own.
+fn tell(planned: &[u8; 128], blocks: &mut [u32])
+    requires { ⌜ length (now blocks) ≤ 128 ⌝ }
+    ensures { λ _. ⌜ Told (now (planned .entry)) (now (blocks .entry)) (now (blocks .exit)) ⌝ }
+{
+    let mut i: usize = 0;
+    while i < blocks.len() {
+        blocks[i] = wide(planned[i]);
+        i += 1;
+    }
+}
+
+// The data's length, but where the output has not n numbers that of no n blocks, so that it is refused with 9 in its turn: 8 has then seen to it
+// that there are numbers.
+fn asked(n: usize, told: usize, long: usize) -> usize
+    ensures { λ r. ⌜ r ≡ cond (eqb told n) long 0 ⌝ }
+{
+    if told == n { long } else { 0 }
+}
+
+// What a commit with ample allowance would answer: done with the count of its stores, and then each number's data block in `blocks`; or
+// refused with 1, 2, 4 to 11, 14 and 15, and then `blocks` is left.
+pub fn preview(card: &[u8], map: Map, numbers: &[u64], data: &[u8], blocks: &mut [u32]) -> Answer
+    ensures answer { λ r. ⌜ r ≡ previewAnswer (now (card .entry)) map (now (numbers .entry)) (now («data» .entry)) (now (blocks .entry)) ⌝ }
+    ensures blocks { λ r. ⌜ now (blocks .exit) ≡ blocksAfter (now (card .entry)) map (now (numbers .entry)) (now («data» .entry)) (now (blocks .entry)) ⌝ }
+{
+    let n = numbers.len();
+    let s = plan::prepare(card, map, numbers, asked(n, blocks.len(), data.len()));
+    if s.refusal != 0 {
+        return Answer::Refused(s.refusal);
+    }
+    let p = s.plan;
+    let planned = p.blocks;
+    tell(&planned, blocks);
+    Answer::Done(plan::count_of(ring::geometry_of(card), n))
+}
