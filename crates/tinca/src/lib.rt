@@ -15,6 +15,7 @@ ghost use Rattle.protocol.specs.Store.{card as onCard, disk as onDisk, answerOf
 ghost use Rattle.protocol.specs.Format.{outcomeOf, formatRefusal, afterFormat};
 ghost use Rattle.protocol.specs.Map.{freeCount, madeMap, mapAfter};
 ghost use Rattle.protocol.specs.Commit.{commitWork};
+ghost use Rattle.protocol.specs.Preview.{previewAnswer, blocksAfter};
 ghost use Rattle.protocol.specs.Load.{loadWork, evictWork};
 ghost use Rattle.protocol.specs.Recover.{recoverWork};
 ghost use Rattle.protocol.specs.Read.{outputAfter, stateOf};
@@ -339,6 +340,21 @@ pub extern "C" fn tinca_commit(
 {
     let m = lent(card, map);
     handed(map, commit::commit(card, m, numbers, bytes, allowance))
+}
+
+#[no_mangle]
+pub extern "C" fn tinca_preview(
+    card: &[u8],
+    map: &[u64],
+    numbers: &[u64],
+    bytes: &[u8],
+    blocks: &mut [u32],
+) -> TincaAnswer
+    ensures answer { λ r. ⌜ r ≡ plainAnswer (previewAnswer (now (card .entry)) (lentMap (now (card .entry)) (now (map .entry))) (now (numbers .entry)) (now (bytes .entry)) (now (blocks .entry))) ⌝ }
+    ensures blocks { λ r. ⌜ now (blocks .exit) ≡ blocksAfter (now (card .entry)) (lentMap (now (card .entry)) (now (map .entry))) (now (numbers .entry)) (now (bytes .entry)) (now (blocks .entry)) ⌝ }
+{
+    let m = lent(card, map);
+    answer(preview::preview(card, m, numbers, bytes, blocks))
 }
 
 #[no_mangle]
