@@ -35,13 +35,16 @@
  *     refused      the map is as it was, and still the card's; but after 15 it must be made again
  *     cut          the map is as it was; the card may have changed, so it must be made again
  *
- * Each storing call compares the map with the card and refuses a wrong one, with 15, before any store.
+ * Each storing call compares the map with the card and refuses a wrong one, with 15, before any store. So does the preview,
+ * which leaves the map as it is.
  *
- * Slices. A pointer and a length in bytes, but for `map` and `numbers`, whose lengths count words of 64 bits. A pointer may be
- * null where its length is 0; a null with another length is used as an address wherever its bytes are looked at, and nothing
- * is promised. `map` and `numbers` are aligned as a uint64_t is. All others may lie at any address; a card that units must
- * reach whole lies at a multiple of 16 (docs/ORDER.md). Slices that a call only reads may overlap. One that it writes (card,
- * disk, map, out, where they are not const) may overlap no other: the proofs then say nothing of the bytes that it leaves.
+ * Slices. A pointer and a length in bytes, but for `map` and `numbers`, whose lengths count words of 64 bits, and `blocks`, whose
+ * length counts numbers of 32 bits. A pointer may be null where its length is 0; a null with another length is used as an
+ * address wherever its bytes are looked at, and nothing is promised. `map` and `numbers` are aligned as a uint64_t is, `blocks`
+ * as a uint32_t. All others may lie at any address; a card that units must reach whole lies at a multiple of 16
+ * (docs/ORDER.md). The outputs, `out` and `blocks`, are written where the call is not refused, and only then. Slices that a
+ * call only reads may overlap. One that it writes (card, disk, map, out, blocks, where they are not const) may overlap no
+ * other: the proofs then say nothing of the bytes that it leaves.
  *
  * Threads. Nothing here locks or keeps anything between calls: one thread a card at a time, with its disk and its map.
  * Different cards are independent.
@@ -56,7 +59,7 @@
 #include <stdint.h>
 
 /* Of this header and the library beside it. The middle number grows where a call changes. */
-#define TINCA_VERSION "0.2.0"
+#define TINCA_VERSION "0.3.0"
 
 /* Lengths in bytes, as constants where their arguments are: of a block, of a card, of a disk. */
 #define TINCA_BLOCK_LENGTH(k) ((size_t)1 << (k))
@@ -125,7 +128,7 @@ static inline const char *tinca_refusal_text(uint32_t number)
     case TINCA_BAD_COUNT:
         return "a commit of no block or of more than S - 1";
     case TINCA_BAD_LENGTH:
-        return "the data is not B bytes for each number, or the output is not B bytes";
+        return "the data is not B bytes for each number, or the output is not B bytes (preview: not one number for each)";
     case TINCA_BAD_NUMBER:
         return "a block number is not below D";
     case TINCA_NUMBER_TWICE:
@@ -143,8 +146,8 @@ static inline const char *tinca_refusal_text(uint32_t number)
     }
 }
 
-/* TINCA_DONE: stores is m, the count of the call's stores (format: 0). TINCA_CUT: the allowance was below m; as many stores
- * were made as it said, and `stores` is 0. TINCA_REFUSED: refusal is the number. */
+/* TINCA_DONE: stores is m, the count of the call's stores (format: 0; preview: the commit's). TINCA_CUT: the allowance was
+ * below m; as many stores were made as it said, and `stores` is 0. TINCA_REFUSED: refusal is the number. */
 typedef struct {
     uint32_t kind;
     uint32_t refusal;
@@ -207,6 +210,13 @@ uint64_t tinca_free_count(uint64_t low, uint64_t high);
  * Done, cut, or refused with 1, 2, 4 to 7, 15, 8 to 11 or 14. */
 tinca_answer tinca_commit(uint8_t *card, size_t card_len, uint64_t *map, size_t map_words, const uint64_t *numbers, size_t count,
                           const uint8_t *data, size_t data_len, uint64_t allowance);
+
+/* Tells what a commit of the same map, numbers and data would answer if all its stores happened, and makes none of them: a
+ * warning before a save. Done, with the commit's m: `blocks`, `count` numbers, then has the data block that each number would
+ * go to, in turn (data block p begins at byte 128 + 8 * S + 16 * N + p * B of the card). Refused with 1, 2, 4 to 7, 15, 8 to 11
+ * or 14, as the commit would be, and with 9 also where `blocks_len` is not `count`; `blocks` is then untouched. Never cut. */
+tinca_answer tinca_preview(const uint8_t *card, size_t card_len, const uint64_t *map, size_t map_words, const uint64_t *numbers, size_t count,
+                           const uint8_t *data, size_t data_len, uint32_t *blocks, size_t blocks_len);
 
 /* Caches a disk block. m = B/8 + 1. Done, cut, or refused with 1 to 7, 15, 10, 12 or 14. */
 tinca_answer tinca_load(uint8_t *card, size_t card_len, const uint8_t *disk, size_t disk_len, uint64_t *map, size_t map_words, uint64_t block,

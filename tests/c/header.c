@@ -44,6 +44,13 @@ SAME(offsetof(tinca_entry, modified), 16);
 SAME(offsetof(tinca_map, low), 8);
 SAME(offsetof(tinca_map, high), 16);
 
+/* a declaration once more, as the library has it: one with another const would not compile */
+#ifdef __cplusplus
+extern "C"
+#endif
+tinca_answer tinca_preview(const uint8_t *card, size_t card_len, const uint64_t *map, size_t map_words, const uint64_t *numbers, size_t count,
+                           const uint8_t *data, size_t data_len, uint32_t *blocks, size_t blocks_len);
+
 int main(void)
 {
     const char *none = tinca_refusal_text(TINCA_WRONG_MAP + 1);
