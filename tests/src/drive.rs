@@ -1,17 +1,33 @@
 //! Two implementations side by side: each call is made on both, then the answers and every byte of card, disk, output and map are
-//! compared. The map is handed on as a station does, and storing calls are also tried with wrong ones.
+//! compared. The map is handed on as a station does, and the calls that take one are also tried with wrong ones. A preview is held to the
+//! commits of the same numbers and data.
 
-use crate::model::{map_of, Card, Model, MAP_BITS};
+use crate::model::{commit_stores, map_of, Card, Model, MAP_BITS};
 use crate::random::{mix, Random};
 use crate::{Answer, Cached, Calls, FreeMap, Geometry, Place, State};
 use std::collections::HashMap;
 
-pub const CALLS: [&str; 11] =
-    ["format", "commit", "load", "evict", "recover", "read", "look", "state", "cached", "make map", "free count"];
+pub const CALLS: [&str; 12] =
+    ["format", "commit", "preview", "load", "evict", "recover", "read", "look", "state", "cached", "make map", "free count"];
+
+/// The places of the calls in `CALLS`.
+const FORMAT: usize = 0;
+const COMMIT: usize = 1;
+const PREVIEW: usize = 2;
+const LOAD: usize = 3;
+const EVICT: usize = 4;
+const RECOVER: usize = 5;
+const READ: usize = 6;
+const LOOK: usize = 7;
+const STATE: usize = 8;
+const CACHED: usize = 9;
+const MAKE_MAP: usize = 10;
+const FREE_COUNT: usize = 11;
 
 /// The refusals that each call may give, in the order of `CALLS`; those of a call in the order in which it asks.
-pub const REFUSALS: [&[usize]; 11] = [
+pub const REFUSALS: [&[usize]; CALLS.len()] = [
     &[1, 2],
+    &[1, 2, 4, 5, 6, 7, 15, 8, 9, 10, 11, 14],
     &[1, 2, 4, 5, 6, 7, 15, 8, 9, 10, 11, 14],
     &[1, 2, 3, 4, 5, 6, 7, 15, 10, 12, 14],
     &[1, 2, 3, 4, 5, 6, 7, 15, 10, 13],
@@ -24,12 +40,44 @@ pub const REFUSALS: [&[usize]; 11] = [
     &[],
 ];
 
-/// Commit, load, evict and recover: the calls that take a map.
-const TAKE_A_MAP: std::ops::RangeInclusive<usize> = 1..=4;
+const TAKE_A_MAP: [usize; 5] = [COMMIT, PREVIEW, LOAD, EVICT, RECOVER];
 
-/// Format, make map and free count have one kind of answer besides a refusal.
+/// Format, preview, make map and free count have one kind of answer besides a refusal.
 fn has_second_kind(call: usize) -> bool {
-    (1..=8).contains(&call)
+    ![FORMAT, PREVIEW, MAKE_MAP, FREE_COUNT].contains(&call)
+}
+
+/// How long a preview's output is. One that is as long as the count of the numbers after all is whole.
+#[derive(Clone, Copy, Debug, PartialEq, Eq)]
+pub enum Output {
+    Whole,
+    Empty,
+    OneLess,
+    OneMore,
+    Double,
+}
+
+const WRONG_OUTPUTS: [Output; 4] = [Output::Empty, Output::OneLess, Output::OneMore, Output::Double];
+
+impl Output {
+    fn length(self, count: usize) -> usize {
+        match self {
+            Output::Whole => count,
+            Output::Empty => 0,
+            Output::OneLess => count.saturating_sub(1),
+            Output::OneMore => count + 1,
+            Output::Double => 2 * count,
+        }
+    }
+}
+
+/// Every second output is whole.
+fn some_output(random: &mut Random) -> Output {
+    if random.once_in(2) {
+        Output::Whole
+    } else {
+        random.pick(&WRONG_OUTPUTS)
+    }
 }
 
 /// How a map is made wrong. Some of these are the card's own map at times; then they are not tried.
@@ -104,12 +152,17 @@ impl Wrong {
 /// Per call: done (card, settled, in use, made, told), cut (disk, unsettled, unused), then the refusals by number.
 #[derive(Clone, Default, Debug)]
 pub struct Tally {
-    pub first: [u64; 11],
-    pub second: [u64; 11],
-    pub refused: [[u64; 16]; 11],
+    pub first: [u64; CALLS.len()],
+    pub second: [u64; CALLS.len()],
+    pub refused: [[u64; 16]; CALLS.len()],
     /// Of the wrong maps that a call refused with 15: how many of each kind, and the bits that differed, one at a time.
-    pub wrongs: [[u64; WRONG_MAPS.len()]; 11],
-    pub bits: [u128; 11],
+    pub wrongs: [[u64; WRONG_MAPS.len()]; CALLS.len()],
+    pub bits: [u128; CALLS.len()],
+    /// Of the previews refused with 9: how many for each wrong output alone, and how many for the data alone.
+    pub outputs: [u64; WRONG_OUTPUTS.len()],
+    pub odd_data: u64,
+    /// The commits that were foretold and made: in full, or refused as foretold.
+    pub foretold: [u64; 2],
 }
 
 impl Tally {
@@ -130,22 +183,27 @@ impl Tally {
             }
             self.bits[call] |= other.bits[call];
         }
+        self.outputs.iter_mut().zip(other.outputs).for_each(|(count, more)| *count += more);
+        self.foretold.iter_mut().zip(other.foretold).for_each(|(count, more)| *count += more);
+        self.odd_data += other.odd_data;
     }
 
-    /// One line: calls, dones, cuts, where blocks were found, conditions, entries told, maps made, refusals by number.
+    /// One line: calls, dones, cuts, previews, where blocks were found, conditions, entries told, maps made, refusals by number.
     pub fn line(&self) -> String {
+        let stored = [FORMAT, COMMIT, LOAD, EVICT, RECOVER];
         let mut line = format!(
-            "{} calls: {} done, {} cut, {} on card, {} on disk, {} settled, {} unsettled, {} in use, {} unused, {} maps; refused",
+            "{} calls: {} done, {} cut, {} previewed, {} on card, {} on disk, {} settled, {} unsettled, {} in use, {} unused, {} maps; refused",
             self.calls(),
-            self.first[..5].iter().sum::<u64>(),
-            self.second[..5].iter().sum::<u64>(),
-            self.first[5] + self.first[6],
-            self.second[5] + self.second[6],
-            self.first[7],
-            self.second[7],
-            self.first[8],
-            self.second[8],
-            self.first[9]
+            stored.iter().map(|call| self.first[*call]).sum::<u64>(),
+            stored.iter().map(|call| self.second[*call]).sum::<u64>(),
+            self.first[PREVIEW],
+            self.first[READ] + self.first[LOOK],
+            self.second[READ] + self.second[LOOK],
+            self.first[STATE],
+            self.second[STATE],
+            self.first[CACHED],
+            self.second[CACHED],
+            self.first[MAKE_MAP]
         );
         for number in 1..16 {
             let count: u64 = (0..CALLS.len()).map(|call| self.refused[call][number]).sum();
@@ -154,7 +212,8 @@ impl Tally {
         line
     }
 
-    /// Every answer that a call may give has occurred, and no other; each storing call has refused every kind of wrong map with 15.
+    /// Every answer that a call may give has occurred, and no other; each call that takes a map has refused every kind of wrong one
+    /// with 15, and preview every wrong output with 9; commits came out as they were foretold.
     pub fn complete(&self) -> Result<(), String> {
         for call in 0..CALLS.len() {
             let name = CALLS[call];
@@ -177,6 +236,15 @@ impl Tally {
             if let Some(bit) = (0..MAP_BITS).find(|bit| self.bits[call] >> bit & 1 == 0) {
                 return Err(format!("{}: no map that differs in bit {bit} alone", CALLS[call]));
             }
+        }
+        if let Some(output) = WRONG_OUTPUTS.iter().zip(self.outputs).find(|(_, count)| *count == 0) {
+            return Err(format!("preview: no output refused with 9, of the kind {:?}", output.0));
+        }
+        if self.odd_data == 0 {
+            return Err("preview: no data refused with 9".to_string());
+        }
+        if self.foretold.contains(&0) {
+            return Err(format!("commits that were foretold, done and refused: {:?}", self.foretold));
         }
         Ok(())
     }
@@ -220,40 +288,52 @@ impl Buffer {
 
 const GUARD_WORDS: usize = 4;
 
-/// A map with guards around it, aligned as a word is.
-struct Words {
-    words: Vec<u64>,
+trait Word: Copy + PartialEq + std::fmt::UpperHex {
+    const GUARD: Self;
+}
+
+impl Word for u64 {
+    const GUARD: u64 = 0xA5A5_A5A5_A5A5_A5A5;
+}
+
+impl Word for u32 {
+    const GUARD: u32 = 0xA5A5_A5A5;
+}
+
+/// Words with guards around them, aligned as one of them is.
+struct Words<T> {
+    words: Vec<T>,
     from: usize,
 }
 
-impl Words {
-    fn new(contents: &[u64], shift: usize) -> Words {
+impl<T: Word> Words<T> {
+    fn new(contents: &[T], shift: usize) -> Words<T> {
         let from = GUARD_WORDS + shift % 2;
-        let mut words = vec![0xA5A5_A5A5_A5A5_A5A5; from];
+        let mut words = vec![T::GUARD; from];
         words.extend_from_slice(contents);
-        words.extend([0xA5A5_A5A5_A5A5_A5A5; GUARD_WORDS]);
+        words.extend([T::GUARD; GUARD_WORDS]);
         Words { words, from }
     }
 
-    fn set(&mut self, contents: &[u64]) {
+    fn set(&mut self, contents: &[T]) {
         *self = Words::new(contents, self.from - GUARD_WORDS);
     }
 
-    fn get(&self) -> &[u64] {
+    fn get(&self) -> &[T] {
         &self.words[self.from..self.words.len() - GUARD_WORDS]
     }
 
-    fn get_mut(&mut self) -> &mut [u64] {
+    fn get_mut(&mut self) -> &mut [T] {
         let to = self.words.len() - GUARD_WORDS;
         &mut self.words[self.from..to]
     }
 }
 
-fn same_words(a: &Words, b: &Words) -> Result<(), String> {
-    match (0..a.words.len()).find(|at| a.words[*at] != b.words[*at]) {
+fn same_words<T: Word>(what: &str, a: &Words<T>, b: &Words<T>) -> Result<(), String> {
+    match a.words.iter().zip(&b.words).position(|(one, other)| one != other) {
         Some(at) => {
             let place = at as i64 - a.from as i64;
-            Err(format!("map differs at word {place}: {:016X} and {:016X}", a.words[at], b.words[at]))
+            Err(format!("{what} differs at word {place}: {:X} and {:X}", a.words[at], b.words[at]))
         }
         None => Ok(()),
     }
@@ -271,8 +351,24 @@ fn same_bytes(what: &str, a: &Buffer, b: &Buffer) -> Result<(), String> {
 /// Disks up to this length are compared whole after every call; longer ones at every block an evict may write, and whole at times.
 const WHOLE_DISK: usize = 1 << 20;
 
-/// A storing call on one side: the implementation, card, disk and map.
-type Run<'r> = dyn Fn(&dyn Calls, &mut [u8], &mut [u8], &mut [u64]) -> Answer + 'r;
+/// What a preview is lent besides card and map.
+struct Asked {
+    numbers: Words<u64>,
+    data: Buffer,
+    blocks: Words<u32>,
+}
+
+impl Asked {
+    fn new(shift: usize) -> Asked {
+        Asked { numbers: Words::new(&[], shift), data: Buffer::new(&[], shift), blocks: Words::new(&[], shift) }
+    }
+}
+
+/// No number of a data block: what a refused preview must leave in its output.
+const UNTOLD: u32 = 0x5A5A_5A5A;
+
+/// A call that takes a map, on one side: the implementation, card, disk, map, and what a preview is lent.
+type Run<'r> = dyn Fn(&dyn Calls, &mut [u8], &mut [u8], &mut [u64], &mut Asked) -> Answer + 'r;
 
 pub struct Pair<'a> {
     one: &'a dyn Calls,
@@ -280,14 +376,15 @@ pub struct Pair<'a> {
     card: [Buffer; 2],
     disk: [Buffer; 2],
     out: [Buffer; 2],
+    asked: [Asked; 2],
     /// The station's map.
-    map: [Words; 2],
+    map: [Words<u64>; 2],
     /// The map is of another card than the one that is there, or of one before a cut.
     out_of_step: bool,
     /// The map as it was before the last storing call.
     stale: Vec<u64>,
     /// How many wrong maps each call was tried with.
-    turns: [usize; 11],
+    turns: [usize; CALLS.len()],
     pub tally: Tally,
 }
 
@@ -305,10 +402,11 @@ impl<'a> Pair<'a> {
             card: [Buffer::new(card, shift), Buffer::new(card, shift)],
             disk: [Buffer::new(disk, shift), Buffer::new(disk, shift)],
             out: [Buffer::new(&[], shift), Buffer::new(&[], shift)],
+            asked: [Asked::new(shift), Asked::new(shift)],
             map: [Words::new(&[0; 2], shift), Words::new(&[0; 2], shift)],
             out_of_step: true,
             stale: vec![0; 2],
-            turns: [shift; 11],
+            turns: [shift; CALLS.len()],
             tally: Tally::default(),
         }
     }
@@ -361,7 +459,7 @@ impl<'a> Pair<'a> {
         same_bytes("card", &self.card[0], &self.card[1])
             .and_then(|_| if self.disk[0].length <= WHOLE_DISK { self.whole() } else { Ok(()) })
             .and_then(|_| same_bytes("output", &self.out[0], &self.out[1]))
-            .and_then(|_| same_words(&self.map[0], &self.map[1]))
+            .and_then(|_| same_words("map", &self.map[0], &self.map[1]))
             .map_err(|difference| format!("{}: {difference}", what()))
     }
 
@@ -384,7 +482,7 @@ impl<'a> Pair<'a> {
         let b = self.other.format(k, slots, data_blocks, disk_blocks, self.card[1].get_mut());
         let length = self.card[1].length;
         self.out_of_step = true;
-        self.answered(0, a, b, || format!("format({k}, {slots}, {data_blocks}, {disk_blocks}, card of {length})"))
+        self.answered(FORMAT, a, b, || format!("format({k}, {slots}, {data_blocks}, {disk_blocks}, card of {length})"))
     }
 
     pub fn make_map(&mut self) -> Result<FreeMap, String> {
@@ -396,10 +494,10 @@ impl<'a> Pair<'a> {
         self.compared(|| "make map".to_string())?;
         match b {
             FreeMap::Made([low, high]) => {
-                self.tally.first[9] += 1;
+                self.tally.first[MAKE_MAP] += 1;
                 self.free_count(low, high)?;
             }
-            FreeMap::Refused(number) => self.tally.refused[9][number as usize] += 1,
+            FreeMap::Refused(number) => self.tally.refused[MAKE_MAP][number as usize] += 1,
             FreeMap::Malformed(..) => return Err(format!("malformed answer {b:?}")),
         }
         Ok(b)
@@ -410,7 +508,7 @@ impl<'a> Pair<'a> {
         if a != b {
             return Err(format!("free count({low:X}, {high:X}): answers {a} and {b}"));
         }
-        self.tally.first[10] += 1;
+        self.tally.first[FREE_COUNT] += 1;
         Ok(())
     }
 
@@ -424,7 +522,7 @@ impl<'a> Pair<'a> {
         Ok(())
     }
 
-    /// A storing call with a wrong map: refused, and nothing changed.
+    /// A call with a wrong map: refused, and nothing changed.
     fn try_wrong(&mut self, call: usize, run: &Run, what: &dyn Fn() -> String) -> Result<(), String> {
         let turn = self.turns[call];
         self.turns[call] += 1;
@@ -454,9 +552,13 @@ impl<'a> Pair<'a> {
     }
 
     fn both(&mut self, call: usize, run: &Run, what: &dyn Fn() -> String) -> Result<Answer, String> {
-        let a = run(self.one, self.card[0].get_mut(), self.disk[0].get_mut(), self.map[0].get_mut());
-        let b = run(self.other, self.card[1].get_mut(), self.disk[1].get_mut(), self.map[1].get_mut());
-        self.answered(call, a, b, what)
+        let a = run(self.one, self.card[0].get_mut(), self.disk[0].get_mut(), self.map[0].get_mut(), &mut self.asked[0]);
+        let b = run(self.other, self.card[1].get_mut(), self.disk[1].get_mut(), self.map[1].get_mut(), &mut self.asked[1]);
+        let answer = self.answered(call, a, b, what)?;
+        if call == PREVIEW {
+            self.same_asked().map_err(|difference| format!("{}: {difference}", what()))?;
+        }
+        Ok(answer)
     }
 
     /// A storing call, with a wrong map first and then with the station's. After a done call the map must be the one that the card
@@ -483,17 +585,106 @@ impl<'a> Pair<'a> {
 
     pub fn commit(&mut self, numbers: &[u64], data: &[u8], allowance: u64) -> Result<Answer, String> {
         let what = || format!("commit({numbers:?}, data of {}, allowance {allowance})", data.len());
-        self.storing(1, &|calls, card, _, map| calls.commit(card, map, numbers, data, allowance), &what)
+        self.storing(COMMIT, &|calls, card, _, map, _| calls.commit(card, map, numbers, data, allowance), &what)
+    }
+
+    /// A preview, with a wrong map first and then with the station's.
+    pub fn preview(&mut self, numbers: &[u64], data: &[u8], output: Output) -> Result<Answer, String> {
+        if self.out_of_step {
+            self.make_again()?;
+        }
+        let length = output.length(numbers.len());
+        for asked in &mut self.asked {
+            asked.numbers.set(numbers);
+            asked.data.set(data);
+            asked.blocks.set(&vec![UNTOLD; length]);
+        }
+        let what = || format!("preview({numbers:?}, data of {}, output of {length})", data.len());
+        let run: &Run = &|calls, card, _, map, asked| {
+            calls.preview(card, map, asked.numbers.get_mut(), asked.data.get_mut(), asked.blocks.get_mut())
+        };
+        self.try_wrong(PREVIEW, run, &what)?;
+        let answer = self.both(PREVIEW, run, &what)?;
+        if answer == Answer::Refused(9) {
+            self.count_nine(numbers.len(), data.len(), output);
+        }
+        Ok(answer)
+    }
+
+    /// Why a preview was refused with 9, where one thing alone was wrong.
+    fn count_nine(&mut self, count: usize, data_length: usize, output: Output) {
+        let right = Geometry::from_header(self.card()).is_ok_and(|geometry| data_length == count * geometry.block());
+        let kind = WRONG_OUTPUTS.iter().position(|kind| *kind == output && output.length(count) != count);
+        match (right, kind) {
+            (true, Some(kind)) => self.tally.outputs[kind] += 1,
+            (false, None) => self.tally.odd_data += 1,
+            _ => {}
+        }
+    }
+
+    fn same_asked(&self) -> Result<(), String> {
+        let [a, b] = &self.asked;
+        same_words("numbers", &a.numbers, &b.numbers)?;
+        same_bytes("data", &a.data, &b.data)?;
+        same_words("output", &a.blocks, &b.blocks)
+    }
+
+    /// What the last preview told.
+    fn blocks(&self) -> Vec<u32> {
+        self.asked[1].blocks.get().to_vec()
+    }
+
+    /// A preview and then the commit, which must answer as foretold and put the blocks where the preview said.
+    pub fn foretold(&mut self, numbers: &[u64], data: &[u8], allowance: u64) -> Result<Answer, String> {
+        let foretold = self.preview(numbers, data, Output::Whole)?;
+        let answer = self.commit(numbers, data, allowance)?;
+        let awaited = match foretold {
+            Answer::Done(m) if allowance < m => Answer::Cut,
+            _ => foretold,
+        };
+        if answer != awaited {
+            return Err(format!("commit({numbers:?}, allowance {allowance}): {answer:?}, but the preview {foretold:?}"));
+        }
+        match answer {
+            Answer::Done(_) => {
+                self.put_as_told(numbers)?;
+                self.tally.foretold[0] += 1;
+            }
+            Answer::Refused(_) => self.tally.foretold[1] += 1,
+            _ => {}
+        }
+        Ok(answer)
+    }
+
+    /// Each number's entry, and the place that look tells, have the data block of the last preview.
+    fn put_as_told(&mut self, numbers: &[u64]) -> Result<(), String> {
+        let card = Card::open(self.card(), None).map_err(|number| format!("a saved card is refused with {number}"))?;
+        for (number, block) in numbers.iter().zip(self.blocks()) {
+            let current = card.entry_for(*number).map(|index| card.entries[index].unwrap().current);
+            if current != Some(block) {
+                return Err(format!("block {number} is in data block {current:?}, but the preview said {block}"));
+            }
+            let geometry = card.geometry;
+            let place = match self.disk().len() == geometry.disk_length() {
+                true => Place::Card(geometry.block_at(block) as u64, geometry.block() as u64),
+                false => Place::Refused(3),
+            };
+            let looked = self.look(*number)?;
+            if looked != place {
+                return Err(format!("block {number} lies at {looked:?}, but the preview said {place:?}"));
+            }
+        }
+        Ok(())
     }
 
     pub fn load(&mut self, block: u64, allowance: u64) -> Result<Answer, String> {
         let what = || format!("load({block}, allowance {allowance})");
-        self.storing(2, &|calls, card, disk, map| calls.load(card, disk, map, block, allowance), &what)
+        self.storing(LOAD, &|calls, card, disk, map, _| calls.load(card, disk, map, block, allowance), &what)
     }
 
     pub fn evict(&mut self, block: u64, allowance: u64) -> Result<Answer, String> {
         let what = || format!("evict({block}, allowance {allowance})");
-        let answer = self.storing(3, &|calls, card, disk, map| calls.evict(card, disk, map, block, allowance), &what)?;
+        let answer = self.storing(EVICT, &|calls, card, disk, map, _| calls.evict(card, disk, map, block, allowance), &what)?;
         if self.disk[1].length > WHOLE_DISK {
             // the block itself and a block's length to each side
             let size = 1 << self.card[1].get()[5].min(12);
@@ -510,7 +701,7 @@ impl<'a> Pair<'a> {
 
     pub fn recover(&mut self, allowance: u64) -> Result<Answer, String> {
         let what = || format!("recover(allowance {allowance})");
-        self.storing(4, &|calls, card, _, map| calls.recover(card, map, allowance), &what)
+        self.storing(RECOVER, &|calls, card, _, map, _| calls.recover(card, map, allowance), &what)
     }
 
     fn placed(&mut self, call: usize, a: Place, b: Place, what: impl Fn() -> String) -> Result<Place, String> {
@@ -537,13 +728,13 @@ impl<'a> Pair<'a> {
         }
         let a = self.one.read(self.card[0].get(), self.disk[0].get(), block, self.out[0].get_mut());
         let b = self.other.read(self.card[1].get(), self.disk[1].get(), block, self.out[1].get_mut());
-        self.placed(5, a, b, || format!("read({block}, output of {out_length})"))
+        self.placed(READ, a, b, || format!("read({block}, output of {out_length})"))
     }
 
     pub fn look(&mut self, block: u64) -> Result<Place, String> {
         let a = self.one.look(self.card[0].get(), self.disk[0].get(), block);
         let b = self.other.look(self.card[1].get(), self.disk[1].get(), block);
-        self.placed(6, a, b, || format!("look({block})"))
+        self.placed(LOOK, a, b, || format!("look({block})"))
     }
 
     pub fn state(&mut self) -> Result<State, String> {
@@ -554,9 +745,9 @@ impl<'a> Pair<'a> {
         }
         self.compared(|| "state".to_string())?;
         match b {
-            State::Settled { .. } => self.tally.first[7] += 1,
-            State::Unsettled { .. } => self.tally.second[7] += 1,
-            State::Refused(number) => self.tally.refused[7][number as usize] += 1,
+            State::Settled { .. } => self.tally.first[STATE] += 1,
+            State::Unsettled { .. } => self.tally.second[STATE] += 1,
+            State::Refused(number) => self.tally.refused[STATE][number as usize] += 1,
             State::Malformed(..) => return Err(format!("malformed answer {b:?}")),
         }
         Ok(b)
@@ -569,9 +760,9 @@ impl<'a> Pair<'a> {
             return Err(format!("cached({place}): answers {a:?} and {b:?}"));
         }
         match b {
-            Cached::Block { .. } => self.tally.first[8] += 1,
-            Cached::Nothing => self.tally.second[8] += 1,
-            Cached::Refused(number) => self.tally.refused[8][number as usize] += 1,
+            Cached::Block { .. } => self.tally.first[CACHED] += 1,
+            Cached::Nothing => self.tally.second[CACHED] += 1,
+            Cached::Refused(number) => self.tally.refused[CACHED][number as usize] += 1,
             Cached::Malformed(..) => return Err(format!("malformed answer {b:?}")),
         }
         Ok(b)
@@ -699,7 +890,7 @@ fn make(pair: &mut Pair, geometry: Geometry, step: &Step, allowance: u64, row: &
     match step {
         Step::Commit(numbers, seed) => {
             let data = data_of(*seed, numbers.len(), geometry.block());
-            let answer = pair.commit(numbers, &data, allowance)?;
+            let answer = pair.foretold(numbers, &data, allowance)?;
             row.feed(numbers, &data, answer);
             Ok(answer)
         }
@@ -843,7 +1034,10 @@ pub fn random_history<'a>(
                     1 => (m + 1).saturating_sub(random.below(2 * n as u64 + 4)),
                     _ => u64::MAX,
                 };
-                let answer = pair.commit(&numbers, &data, allowance)?;
+                if random.once_in(3) {
+                    pair.preview(&numbers, &data, some_output(&mut random))?;
+                }
+                let answer = pair.foretold(&numbers, &data, allowance)?;
                 row.feed(&numbers, &data, answer);
             }
             6 | 7 => {
@@ -1055,7 +1249,8 @@ fn every_call(pair: &mut Pair, random: &mut Random, geometry: Geometry, from: &S
     let numbers: Vec<u64> = (0..n).map(|_| some(random)).collect();
     let data = data_of(random.next(), n, block);
     let allowance = if random.once_in(3) { random.below((n * (block / 8 + 4) + 2) as u64) } else { u64::MAX };
-    pair.commit(&numbers, &data, allowance)?;
+    pair.preview(&numbers, &data[if random.once_in(8) { n.min(1) } else { 0 }..], some_output(random))?;
+    pair.foretold(&numbers, &data, allowance)?;
     pair.set(from);
     pair.load(some(random), if random.once_in(3) { random.below(block as u64 / 8 + 2) } else { u64::MAX })?;
     pair.set(from);
@@ -1122,7 +1317,7 @@ pub fn arguments<'a>(one: &'a dyn Calls, other: &'a dyn Calls, seed: u64) -> Res
                 pair.load(number, u64::MAX)?;
                 pair.evict(number, allowance)?;
                 pair.evict(number, u64::MAX)?;
-                pair.commit(&[number], &data_of(number, 1, block), allowance)?;
+                pair.foretold(&[number], &data_of(number, 1, block), allowance)?;
                 pair.recover(allowance)?;
             }
             for count in counts {
@@ -1140,7 +1335,13 @@ pub fn arguments<'a>(one: &'a dyn Calls, other: &'a dyn Calls, seed: u64) -> Res
                     let data = data_of(count, count as usize + 1, block);
                     let right = count as usize * block;
                     for length in [right, 0, right.saturating_sub(1), right + 1, right.saturating_sub(block), right + block, right] {
-                        pair.commit(list, &data[..length], random.pick(&allowances))?;
+                        pair.preview(list, &data[..length], some_output(&mut random))?;
+                        let allowance = random.pick(&allowances);
+                        if length == right {
+                            pair.foretold(list, &data[..length], allowance)?;
+                        } else {
+                            pair.commit(list, &data[..length], allowance)?;
+                        }
                         if random.once_in(2) {
                             pair.recover(u64::MAX)?;
                         }
@@ -1164,7 +1365,7 @@ pub fn arguments<'a>(one: &'a dyn Calls, other: &'a dyn Calls, seed: u64) -> Res
         let from = loaded(geometry, cached);
         let mut pair = Pair::new(one, other, &from.card, &from.disk, 4);
         for _ in 0..2 * WRONG_MAPS.len() {
-            pair.commit(&[5], &data_of(5, 1, geometry.block()), u64::MAX)?;
+            pair.foretold(&[5], &data_of(5, 1, geometry.block()), u64::MAX)?;
             pair.set(&from);
             pair.load(5, u64::MAX)?;
             pair.set(&from);
@@ -1219,6 +1420,58 @@ pub fn arguments<'a>(one: &'a dyn Calls, other: &'a dyn Calls, seed: u64) -> Res
     }
     tally.add(&pair.tally);
     Ok(tally)
+}
+
+/// Every list of up to `most` of the numbers from 0 to `last`, repeats among them; and some as long as the ring.
+fn every_list(last: u64, most: u32, slots: u64) -> Vec<Vec<u64>> {
+    let mut lists: Vec<Vec<u64>> = Vec::new();
+    for n in 0..=most {
+        let digits = |code: u64| (0..n).map(|place| code / (last + 1).pow(place) % (last + 1)).collect();
+        lists.extend((0..(last + 1).pow(n)).map(digits));
+    }
+    lists.extend([slots - 1, slots].map(|n| (0..n).rev().collect()));
+    lists
+}
+
+/// Part e: on each card of the script every list of up to `most` numbers, D itself among them: previews with every kind of output and
+/// with data of wrong lengths, then commits with one store less than foretold, with as many, and with all.
+pub fn every_preview<'a>(one: &'a dyn Calls, other: &'a dyn Calls, geometry: Geometry, most: u32) -> Result<Tally, String> {
+    let seed = 23;
+    let disk = first_disk(seed, geometry);
+    let mut pair = Pair::new(one, other, &vec![0; geometry.card_length()], &disk, 1);
+    let mut row = Row::new(seed, geometry);
+    done(pair.format(geometry.k, geometry.slots, geometry.data_blocks, geometry.disk_blocks)?)?;
+    for step in script() {
+        let before = pair.snapshot();
+        for numbers in every_list(geometry.disk_blocks, most, geometry.slots) {
+            let data = data_of(seed, numbers.len() + 1, geometry.block());
+            every_save(&mut pair, &before, &numbers, &data, geometry.block())?;
+        }
+        done(make(&mut pair, geometry, &step, u64::MAX, &mut row)?)?;
+    }
+    Ok(pair.tally)
+}
+
+/// The previews of one list of numbers and the commits that they foretell, from one card, which they leave. `data` has a block more.
+fn every_save(pair: &mut Pair, from: &Snapshot, numbers: &[u64], data: &[u8], block: usize) -> Result<(), String> {
+    let n = numbers.len();
+    let right = &data[..n * block];
+    for output in WRONG_OUTPUTS {
+        let answer = pair.preview(numbers, right, output)?;
+        if output.length(n) != n && !matches!(answer, Answer::Refused(8 | 9)) {
+            return Err(format!("preview({numbers:?}) with an output of {}: {answer:?}", output.length(n)));
+        }
+    }
+    for length in [0, right.len().saturating_sub(1), right.len() + 1, data.len()] {
+        pair.preview(numbers, &data[..length], Output::Whole)?;
+        pair.preview(numbers, &data[..length], Output::OneMore)?;
+    }
+    let m = commit_stores(n as u64, block as u64);
+    for allowance in [m - 1, m, u64::MAX] {
+        pair.foretold(numbers, right, allowance)?;
+        pair.set(from);
+    }
+    Ok(())
 }
 
 /// The drill of document 01 on one implementation.
@@ -1319,6 +1572,7 @@ mod tests {
         tally.add(&random_history(&model, &model, SMALL, 2000, 1).unwrap());
         tally.add(&damaged(&model, &model, SMALL, 3000, 2).unwrap());
         tally.add(&arguments(&model, &model, 3).unwrap());
+        tally.add(&every_preview(&model, &model, SMALL, 2).unwrap());
         tally.complete().unwrap();
         incomplete_is_reported(&tally);
     }
@@ -1345,23 +1599,35 @@ mod tests {
                 reported(&|tally| tally.bits[call] &= !(1 << bit));
             }
         }
+        for output in 0..WRONG_OUTPUTS.len() {
+            reported(&|tally| tally.outputs[output] = 0);
+        }
+        reported(&|tally| tally.odd_data = 0);
+        reported(&|tally| tally.foretold[0] = 0);
+        reported(&|tally| tally.foretold[1] = 0);
     }
 
-    /// Every slip is reported by a part of the comparison.
+    fn is_reported(slip: Slip) {
+        let (right, wrong) = (Model::default(), Model { slip: Some(slip) });
+        let parts = [
+            every_cut(&right, &wrong, SMALL, 6, 16).is_err(),
+            random_history(&right, &wrong, SMALL, 4000, 5).is_err(),
+            damaged(&right, &wrong, SMALL, 4000, 6).is_err(),
+            arguments(&right, &wrong, 7).is_err(),
+            every_preview(&right, &wrong, SMALL, 2).is_err(),
+        ];
+        println!("{slip:?}: {parts:?}");
+        assert!(parts.iter().any(|reported| *reported), "{slip:?} is not reported");
+    }
+
+    /// Every slip is reported by a part of the comparison. The longest test: half of the slips to each of two threads.
     #[test]
     fn a_wrong_model_is_reported() {
-        let right = Model::default();
-        for slip in SLIPS {
-            let wrong = Model { slip: Some(slip) };
-            let parts = [
-                every_cut(&right, &wrong, SMALL, 6, 16).is_err(),
-                random_history(&right, &wrong, SMALL, 4000, 5).is_err(),
-                damaged(&right, &wrong, SMALL, 4000, 6).is_err(),
-                arguments(&right, &wrong, 7).is_err(),
-            ];
-            println!("{slip:?}: {parts:?}");
-            assert!(parts.iter().any(|reported| *reported), "{slip:?} is not reported");
-        }
+        std::thread::scope(|scope| {
+            for half in SLIPS.chunks(SLIPS.len().div_ceil(2)) {
+                scope.spawn(|| half.iter().for_each(|slip| is_reported(*slip)));
+            }
+        });
     }
 
     #[test]
@@ -1381,6 +1647,42 @@ mod tests {
         }
     }
 
+    /// The commit that follows shows what a preview got wrong, without a second model.
+    #[test]
+    fn the_commit_sees_a_wrong_preview() {
+        for slip in [
+            Slip::PreviewBySize,
+            Slip::PreviewOldBlocks,
+            Slip::PreviewEntries,
+            Slip::PreviewCountsNumbers,
+            Slip::PreviewRoomUnasked,
+            Slip::PreviewAnyOutput,
+            Slip::PreviewLongOutput,
+            Slip::PreviewStores,
+            Slip::PreviewHandsMapOn,
+        ] {
+            let wrong = Model { slip: Some(slip) };
+            assert!(every_preview(&wrong, &wrong, SMALL, 2).is_err(), "{slip:?}");
+        }
+    }
+
+    /// Every list of two numbers up to 1, and the two long ones.
+    #[test]
+    fn every_list_is_there() {
+        let short: [&[u64]; 7] = [&[], &[0], &[1], &[0, 0], &[1, 0], &[0, 1], &[1, 1]];
+        let long: [&[u64]; 2] = [&[6, 5, 4, 3, 2, 1, 0], &[7, 6, 5, 4, 3, 2, 1, 0]];
+        assert_eq!(every_list(1, 2, 8), [&short[..], &long[..]].concat());
+    }
+
+    /// Every kind of wrong output is one, but for as few numbers as that it is right.
+    #[test]
+    fn wrong_outputs_are_wrong() {
+        for count in 1..9 {
+            assert_eq!(Output::Whole.length(count), count);
+            assert!(WRONG_OUTPUTS.iter().all(|output| output.length(count) != count));
+        }
+        assert_eq!(WRONG_OUTPUTS.map(|output| output.length(3)), [0, 2, 4, 6]);
+    }
 
     fn hex(text: &str) -> [u8; 16] {
         let digits: Vec<u8> = text.bytes().filter(|digit| *digit != b' ').collect();
@@ -1509,6 +1811,71 @@ mod tests {
         assert_eq!(model.recover(&mut card, &mut wrong, 0), Answer::Refused(6));
         assert_eq!(model.make_map(&card), FreeMap::Refused(6));
         assert_eq!(wrong, [0; 2]);
+    }
+
+    /// Counted by hand from documents 01 and 02, N 4: free data blocks from Head mod N upward and round, in the order of the numbers.
+    #[test]
+    fn previews_by_hand() {
+        for calls in [&Model::default() as &dyn Calls, &Library] {
+            let (mut card, mut disk) = (vec![0; SMALL.card_length()], vec![0; SMALL.disk_length()]);
+            calls.format(SMALL.k, SMALL.slots, SMALL.data_blocks, SMALL.disk_blocks, &mut card);
+            let mut map = calls.fresh_map(&card);
+            let told = |card: &mut [u8], map: &mut [u64], numbers: &[u64]| {
+                let mut blocks = vec![9; numbers.len()];
+                let mut data = vec![1; 512 * numbers.len()];
+                (calls.preview(card, map, &mut numbers.to_vec(), &mut data, &mut blocks), blocks)
+            };
+            assert_eq!(told(&mut card, &mut map, &[5, 3]), (Answer::Done(137), vec![0, 1]));
+            assert_eq!(told(&mut card, &mut map, &[3]), (Answer::Done(69), vec![0]));
+            calls.commit(&mut card, &mut map, &[3], &[7; 512], u64::MAX);
+            // Head 1; block 3 is in data block 0, which is given out again only when it is no longer current
+            assert_eq!(told(&mut card, &mut map, &[3]), (Answer::Done(69), vec![1]));
+            assert_eq!(told(&mut card, &mut map, &[5, 3, 1]), (Answer::Done(205), vec![1, 2, 3]));
+            assert_eq!(told(&mut card, &mut map, &[5, 3, 1, 0]), (Answer::Refused(14), vec![9; 4]));
+            calls.commit(&mut card, &mut map, &[3, 5], &[7; 1024], u64::MAX);
+            // Head 3; data blocks 1 and 2 are taken: 3, then round to 0
+            assert_eq!(told(&mut card, &mut map, &[4, 0]), (Answer::Done(137), vec![3, 0]));
+            assert_eq!(told(&mut card, &mut map, &[0, 0]), (Answer::Refused(11), vec![9; 2]));
+            calls.evict(&mut card, &mut disk, &mut map, 5, u64::MAX);
+            // Head 5 with data block 1 alone taken is fact 12: the next is 2
+            calls.commit(&mut card, &mut map, &[4, 0], &[7; 1024], u64::MAX);
+            calls.evict(&mut card, &mut disk, &mut map, 4, u64::MAX);
+            calls.evict(&mut card, &mut disk, &mut map, 0, u64::MAX);
+            assert_eq!(told(&mut card, &mut map, &[2]), (Answer::Done(69), vec![2]));
+            // cut behind the entry: unsettled
+            assert_eq!(calls.commit(&mut card, &mut map, &[2], &[7; 512], 65), Answer::Cut);
+            assert_eq!(told(&mut card, &mut map, &[2]), (Answer::Refused(7), vec![9]));
+        }
+    }
+
+    /// An output of another length is refused after 8 and before 10, 11 and 14; a refusal writes nothing.
+    #[test]
+    fn where_a_wrong_output_is_refused() {
+        for calls in [&Model::default() as &dyn Calls, &Library] {
+            let mut card = vec![0; SMALL.card_length()];
+            calls.format(SMALL.k, SMALL.slots, SMALL.data_blocks, SMALL.disk_blocks, &mut card);
+            let (before, map) = (card.clone(), calls.fresh_map(&card));
+            let mut refused = |map: &[u64], numbers: &[u64], data: usize, output: usize| {
+                let (mut map, mut numbers, mut data, mut blocks) = (map.to_vec(), numbers.to_vec(), vec![1; data], vec![9; output]);
+                let answer = calls.preview(&mut card, &mut map, &mut numbers, &mut data, &mut blocks);
+                assert_eq!(blocks, vec![9; output]);
+                let Answer::Refused(number) = answer else { panic!("{answer:?}") };
+                number
+            };
+            let (none, all): (&[u64], Vec<u64>) = (&[], (0..8).collect());
+            assert_eq!([0, 1].map(|output| refused(&map, none, 0, output)), [8, 8]);
+            assert_eq!([0, 8].map(|output| refused(&map, &all, 8 * 512, output)), [8, 8]);
+            assert_eq!([0, 2].map(|output| refused(&map, &[3], 512, output)), [9, 9]);
+            assert_eq!([511, 513, 0].map(|data| refused(&map, &[3], data, 1)), [9, 9, 9]);
+            assert_eq!([0, 1, 2].map(|output| refused(&map, &[99], 512, output)), [9, 10, 9]);
+            assert_eq!([1, 2, 3].map(|output| refused(&map, &[3, 3], 1024, output)), [9, 11, 9]);
+            assert_eq!([4, 5, 6].map(|output| refused(&map, &[0, 1, 2, 3, 4], 5 * 512, output)), [9, 14, 9]);
+            for wrong in [&[0; 2][..], &[], &map[..1], &[map[0], map[1], map[1]]] {
+                assert_eq!([0, 1, 2].map(|output| refused(wrong, &[3], 512, output)), [15; 3]);
+                assert_eq!(refused(wrong, none, 0, 0), 15);
+            }
+            assert_eq!(card, before);
+        }
     }
 
     /// The free count is of as many data blocks as the search finds, on cards settled and not.

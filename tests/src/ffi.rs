@@ -63,6 +63,19 @@ extern "C" {
         data_len: usize,
         allowance: u64,
     ) -> RawAnswer;
+    // const in the header but for the last; here of slices lent for writing, so that a library that writes is seen to
+    fn tinca_preview(
+        card: *mut u8,
+        card_len: usize,
+        map: *mut u64,
+        map_words: usize,
+        numbers: *mut u64,
+        count: usize,
+        data: *mut u8,
+        data_len: usize,
+        blocks: *mut u32,
+        blocks_len: usize,
+    ) -> RawAnswer;
     fn tinca_load(
         card: *mut u8,
         card_len: usize,
@@ -175,6 +188,15 @@ impl Calls for Library {
         let (count, data_len) = (numbers.len(), data.len());
         answer(unsafe {
             tinca_commit(lent_mut(card), card_len, lent_mut(map), words, lent(numbers), count, lent(data), data_len, allowance)
+        })
+    }
+
+    fn preview(&self, card: &mut [u8], map: &mut [u64], numbers: &mut [u64], data: &mut [u8], blocks: &mut [u32]) -> Answer {
+        let (card_len, words, count) = (card.len(), map.len(), numbers.len());
+        let (data_len, told) = (data.len(), blocks.len());
+        let (card, map, numbers) = (lent_mut(card), lent_mut(map), lent_mut(numbers));
+        answer(unsafe {
+            tinca_preview(card, card_len, map, words, numbers, count, lent_mut(data), data_len, lent_mut(blocks), told)
         })
     }
 

@@ -18,6 +18,8 @@ pub use model::{Answer, Cached, FreeMap, Geometry, Place, State};
 pub trait Calls {
     fn format(&self, k: u64, slots: u64, data_blocks: u64, disk_blocks: u64, card: &mut [u8]) -> Answer;
     fn commit(&self, card: &mut [u8], map: &mut [u64], numbers: &[u64], data: &[u8], allowance: u64) -> Answer;
+    /// In the header all but `blocks` is const. Here all is lent for writing, so that a preview that writes to it is seen.
+    fn preview(&self, card: &mut [u8], map: &mut [u64], numbers: &mut [u64], data: &mut [u8], blocks: &mut [u32]) -> Answer;
     fn load(&self, card: &mut [u8], disk: &[u8], map: &mut [u64], block: u64, allowance: u64) -> Answer;
     fn evict(&self, card: &mut [u8], disk: &mut [u8], map: &mut [u64], block: u64, allowance: u64) -> Answer;
     fn recover(&self, card: &mut [u8], map: &mut [u64], allowance: u64) -> Answer;

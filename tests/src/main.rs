@@ -1,7 +1,7 @@
 //! Drives library and model side by side. One line for each part; the first difference ends the run with status 1.
 
 use std::time::Instant;
-use tinca_tests::drive::{arguments, damaged, drill, every_cut, random_history, Tally, DRILL};
+use tinca_tests::drive::{arguments, damaged, drill, every_cut, every_preview, random_history, Tally, DRILL};
 use tinca_tests::ffi::Library;
 use tinca_tests::model::Model;
 use tinca_tests::Geometry;
@@ -55,6 +55,8 @@ fn run() -> Result<Tally, String> {
         part(&name, &|| damaged(&library, &model, geometry(k, slots, data_blocks, disk_blocks), cards, 77 + k))?;
     }
     part("d arguments", &|| arguments(&library, &model, 5))?;
+    part("e previews, k 9", &|| every_preview(&library, &model, geometry(9, 8, 4, 6), 3))?;
+    part("e previews, k 12", &|| every_preview(&library, &model, geometry(12, 8, 8, 6), 2))?;
     Ok(total)
 }
 

@@ -420,9 +420,35 @@ pub enum Slip {
     OldBlocksStayTaken,
     /// Recover clears and sets bits entry by entry: a block that one entry gets back and a later one gives up is lost.
     BitsMovedInTurn,
+    /// Preview gives the data blocks out by the numbers' size, not by their order.
+    PreviewBySize,
+    /// Preview tells where a cached number lies now.
+    PreviewOldBlocks,
+    /// Preview tells the place of the entry, on a fresh card the same number as the data block's.
+    PreviewEntries,
+    /// Preview's done has the count of the numbers.
+    PreviewCountsNumbers,
+    /// Preview says done where the data blocks do not suffice.
+    PreviewRoomUnasked,
+    PreviewMapUnasked,
+    /// Preview does not ask how long its output is, and fills what there is.
+    PreviewAnyOutput,
+    /// Preview takes the first numbers of a longer output.
+    PreviewLongOutput,
+    /// Preview asks for its output's length before all else, before 8, or after 14.
+    PreviewOutputFirst,
+    PreviewOutputBeforeCount,
+    PreviewOutputLast,
+    PreviewWritesRefused,
+    /// Preview makes the commit's stores, or hands on the map of the card that they would leave.
+    PreviewStores,
+    PreviewHandsMapOn,
+    /// Preview sorts the numbers in place, to find one that stands twice.
+    PreviewSortsNumbers,
+    PreviewWritesData,
 }
 
-pub const SLIPS: [Slip; 38] = [
+pub const SLIPS: [Slip; 54] = [
     Slip::CleanUndo,
     Slip::FreshAtSwitch,
     Slip::FreshAtUndo,
@@ -461,6 +487,22 @@ pub const SLIPS: [Slip; 38] = [
     Slip::OldMapAfterRecover,
     Slip::OldBlocksStayTaken,
     Slip::BitsMovedInTurn,
+    Slip::PreviewBySize,
+    Slip::PreviewOldBlocks,
+    Slip::PreviewEntries,
+    Slip::PreviewCountsNumbers,
+    Slip::PreviewRoomUnasked,
+    Slip::PreviewMapUnasked,
+    Slip::PreviewAnyOutput,
+    Slip::PreviewLongOutput,
+    Slip::PreviewOutputFirst,
+    Slip::PreviewOutputBeforeCount,
+    Slip::PreviewOutputLast,
+    Slip::PreviewWritesRefused,
+    Slip::PreviewStores,
+    Slip::PreviewHandsMapOn,
+    Slip::PreviewSortsNumbers,
+    Slip::PreviewWritesData,
 ];
 
 /// The model; with a slip, a deliberately wrong one.
@@ -722,6 +764,52 @@ impl Model {
         }
     }
 
+    /// A commit with ample allowance, made on a copy of the card: its m and each number's data block, or its refusal. An output of
+    /// another length is refused where wrong data is, after 8 and before 10.
+    fn previewed(&self, card: &[u8], map: &[u64], numbers: &[u64], data: &[u8], output: usize) -> Result<(u64, Vec<u32>), u32> {
+        let longer = output > numbers.len() && self.slips(Slip::PreviewLongOutput);
+        let fits = output == numbers.len() || longer || self.slips(Slip::PreviewAnyOutput);
+        if !fits && self.slips(Slip::PreviewOutputFirst) {
+            return Err(9);
+        }
+        let mut after = card.to_vec();
+        let mut map = if self.slips(Slip::PreviewMapUnasked) { map_of(card).to_vec() } else { map.to_vec() };
+        let answer = self.commit(&mut after, &mut map, numbers, data, u64::MAX);
+        let before_output = |number: u32| match number {
+            10 | 11 | 14 => self.slips(Slip::PreviewOutputLast),
+            8 => !self.slips(Slip::PreviewOutputBeforeCount),
+            _ => true,
+        };
+        match answer {
+            Answer::Refused(14) if fits && self.slips(Slip::PreviewRoomUnasked) => Ok((commit_stores(numbers.len() as u64, 1 << card[5]), vec![])),
+            Answer::Refused(number) if fits || before_output(number) => Err(number),
+            Answer::Done(_) if fits && self.slips(Slip::PreviewCountsNumbers) => Ok((numbers.len() as u64, self.told(card, &after, numbers))),
+            Answer::Done(m) if fits => Ok((m, self.told(card, &after, numbers))),
+            _ => Err(9),
+        }
+    }
+
+    /// Where a commit put each number, by the card after it. A wrong model may have left a card without the number.
+    fn told(&self, before: &[u8], after: &[u8], numbers: &[u64]) -> Vec<u32> {
+        let block_of = |bytes: &[u8], number: u64| {
+            let card = Card::decoded(bytes, None).ok()?;
+            card.entry_for(number).map(|index| card.entries[index].unwrap().current)
+        };
+        let mut told: Vec<u32> = numbers.iter().map(|number| block_of(after, *number).unwrap_or(FRESH)).collect();
+        if self.slips(Slip::PreviewBySize) {
+            let smaller = |number: &u64| numbers.iter().filter(|other| *other < number).count();
+            told = numbers.iter().map(|number| told[smaller(number)]).collect();
+        }
+        if self.slips(Slip::PreviewOldBlocks) {
+            told.iter_mut().zip(numbers).for_each(|(block, number)| *block = block_of(before, *number).unwrap_or(*block));
+        }
+        if self.slips(Slip::PreviewEntries) {
+            let card = Card::decoded(after, None).unwrap();
+            told = numbers.iter().map(|number| card.entry_for(*number).unwrap() as u32).collect();
+        }
+        told
+    }
+
     fn place(&self, card: &[u8], disk: &[u8], block: u64, out_length: Option<usize>) -> Result<Place, u32> {
         let opened = Card::open_settled(card, Some(disk.len()))?;
         let geometry = opened.geometry;
@@ -764,6 +852,25 @@ impl Calls for Model {
         let answer = self.make(list, allowance, card, &mut [], map);
         if self.slips(Slip::OldBlocksStayTaken) {
             map.iter_mut().zip(before).for_each(|(word, old)| *word |= old);
+        }
+        answer
+    }
+
+    fn preview(&self, card: &mut [u8], map: &mut [u64], numbers: &mut [u64], data: &mut [u8], blocks: &mut [u32]) -> Answer {
+        let answer = match self.previewed(card, map, numbers, data, blocks.len()) {
+            Ok((m, told)) => {
+                blocks.iter_mut().zip(told).for_each(|(block, new)| *block = new);
+                Answer::Done(m)
+            }
+            Err(number) => Answer::Refused(number),
+        };
+        match (self.slip, answer) {
+            (Some(Slip::PreviewWritesRefused), Answer::Refused(_)) => blocks.fill(0),
+            (Some(Slip::PreviewStores), Answer::Done(_)) => drop(self.commit(card, &mut map.to_vec(), numbers, data, u64::MAX)),
+            (Some(Slip::PreviewHandsMapOn), Answer::Done(_)) => drop(self.commit(&mut card.to_vec(), map, numbers, data, u64::MAX)),
+            (Some(Slip::PreviewSortsNumbers), _) => numbers.sort(),
+            (Some(Slip::PreviewWritesData), Answer::Done(_)) => data.fill(0),
+            _ => {}
         }
         answer
     }
