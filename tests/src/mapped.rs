@@ -82,7 +82,7 @@ pub fn numbers(group: u64) -> Vec<u64> {
 }
 
 /// The notes, 8 bytes each: the last save that was acknowledged, the last of each group, the save that was begun last; then the
-/// storing call under way (0 none) with its block or group.
+/// storing call or preview under way (0 none) with its block or group.
 pub const ACKNOWLEDGED: usize = 0;
 pub const BEGUN: usize = 1 + GROUPS as usize;
 pub const CALL: usize = BEGUN + 1;
@@ -91,6 +91,7 @@ pub const NOTES: usize = 8 * (BEGUN + 3);
 pub const COMMIT: u64 = 1;
 pub const LOAD: u64 = 2;
 pub const EVICT: u64 = 3;
+pub const PREVIEW: u64 = 4;
 
 /// What a save writes.
 pub fn saved(sequence: u64, group: u64) -> Vec<u8> {

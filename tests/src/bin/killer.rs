@@ -1,6 +1,7 @@
 //! Starts a station, kills it at a random instant, and looks at what it left:
 //!
 //! 1. card and disk hold exactly the first stores of the call under way, as the model lists them, with at most one unit half made;
+//!    a preview has none;
 //! 2. after a recovery every save is whole, and none that was acknowledged is lost.
 //!
 //! Then it starts the station again on the same card, so that the cuts of all kills add up.
@@ -91,7 +92,7 @@ fn run(kills: u64, seed: u64) -> Result<String, String> {
     let (library, model) = (Library, Model::default());
     let units = std::env::args().any(|word| word == "--units");
     let as_left = std::env::args().any(|word| word == "--as-left");
-    let (mut inside, mut between, mut half) = (0, 0, [0u64; 6]);
+    let (mut inside, mut between, mut previewing, mut half) = (0, 0, 0, [0u64; 6]);
     let start = Instant::now();
     let (mut unsettled, mut undone_stores, mut newer, mut acknowledged_last, mut undoable_most) = (0, 0, 0, 0, 0);
     let mut left_to_station = 0;
@@ -128,7 +129,9 @@ fn run(kills: u64, seed: u64) -> Result<String, String> {
         // how far did the call under way come?
         let (was, disk_was) = before.bytes().split_at(CARD);
         let argument = notes.number(ARGUMENT);
-        let list = match notes.number(CALL) {
+        let call = notes.number(CALL);
+        let list = match call {
+            PREVIEW => Ok(vec![]),
             COMMIT => model.commit_list(was, &numbers(argument), &saved(notes.number(BEGUN), argument)),
             LOAD => model.load_list(was, disk_was, argument),
             EVICT => model.evict_list(was, DISK, argument),
@@ -137,7 +140,11 @@ fn run(kills: u64, seed: u64) -> Result<String, String> {
         if let Ok(list) = list {
             let found = [card.bytes(), disk.bytes()].concat();
             let (made, torn) = how_far(&list, before.bytes(), &found).map_err(|error| format!("kill {kill}: {error}"))?;
-            inside += 1;
+            if call == PREVIEW {
+                previewing += 1;
+            } else {
+                inside += 1;
+            }
             between += (made > 0 && made < list.len()) as u64;
             if torn {
                 half[kind(&list[made])] += 1;
@@ -196,8 +203,9 @@ fn run(kills: u64, seed: u64) -> Result<String, String> {
     let torn: Vec<String> = KINDS.iter().zip(half).map(|(kind, count)| format!("{kind} {count}")).collect();
     Ok(format!(
         "{kills} kills in {:.1} s: {acknowledged_last} saves acknowledged; {inside} kills in a storing call, {between} between its first store and its \
-         last, each after exactly the first stores of its list; units half made: {}; {unsettled} cards unsettled (at most {undoable_most} entries to undo, \
-         {left_to_station} left to the station), {undone_stores} stores of recoveries, {newer} whole saves not yet noted; no save torn or lost",
+         last, each after exactly the first stores of its list; {previewing} in a preview, without a store; units half made: {}; {unsettled} cards \
+         unsettled (at most {undoable_most} entries to undo, {left_to_station} left to the station), {undone_stores} stores of recoveries, {newer} \
+         whole saves not yet noted; no save torn or lost",
         start.elapsed().as_secs_f64(),
         torn.join(", ")
     ))

@@ -1,6 +1,6 @@
-//! A station on mapped files: saves without end, with evicts and loads between, and notes each save that was answered with done.
-//! Before each storing call it copies card and disk aside and notes the call, so that `killer`, which starts and kills it, can tell
-//! how far the call came.
+//! A station on mapped files: saves without end, with evicts and loads between, and notes each save that was answered with done. A
+//! preview tells it when to make room. Before each storing call and preview it copies card and disk aside and notes the call, so that
+//! `killer`, which starts and kills it, can tell how far the call came.
 //!
 //!     station FOLDER SEED [format] [units]
 //!
@@ -44,11 +44,15 @@ fn put_unit(_: &mut [u8], _: usize, _: &[u8]) {
 }
 
 impl Station {
-    fn noted(&mut self, call: u64, argument: u64, run: impl Fn(&mut [u8], &mut [u8], &mut [u64], u64) -> Answer) -> Answer {
+    fn note(&mut self, call: u64, argument: u64) {
         self.before.bytes_mut()[..CARD].copy_from_slice(self.card.bytes());
         self.before.bytes_mut()[CARD..].copy_from_slice(self.disk.bytes());
         self.notes.set_number(ARGUMENT, argument);
         self.notes.set_number(CALL, call);
+    }
+
+    fn noted(&mut self, call: u64, argument: u64, run: impl Fn(&mut [u8], &mut [u8], &mut [u64], u64) -> Answer) -> Answer {
+        self.note(call, argument);
         let answer = if self.units {
             self.by_units(run)
         } else {
@@ -79,6 +83,28 @@ impl Station {
             assert!(self.card.bytes() == card && self.disk.bytes() == disk, "more than one unit");
         }
         answer
+    }
+
+    /// Straight on the mapped card, by units too: a preview has none.
+    fn preview(&mut self, group: u64, numbers: &mut [u64], data: &mut [u8]) -> Answer {
+        let mut blocks = vec![0; numbers.len()];
+        self.note(PREVIEW, group);
+        let answer = Library.preview(self.card.bytes_mut(), &mut self.map, numbers, data, &mut blocks);
+        self.notes.set_number(CALL, 0);
+        answer
+    }
+
+    /// Makes room until the save is foretold, and then makes it.
+    fn save(&mut self, random: &mut Random, sequence: u64, group: u64) {
+        let (mut numbers, mut data) = (numbers(group), saved(sequence, group));
+        let foretold = loop {
+            match self.preview(group, &mut numbers, &mut data) {
+                Answer::Refused(14) => self.evict(random.below(DISK_BLOCKS)),
+                other => break other,
+            }
+        };
+        let answer = self.noted(COMMIT, group, |card, _, map, allowance| Library.commit(card, map, &numbers, &data, allowance));
+        assert!(matches!(answer, Answer::Done(_)) && answer == foretold, "commit {answer:?}, preview {foretold:?}");
     }
 
     fn evict(&mut self, block: u64) {
@@ -120,15 +146,8 @@ fn main() {
     loop {
         sequence += 1;
         let group = random.below(GROUPS);
-        let (numbers, data) = (numbers(group), saved(sequence, group));
         station.notes.set_number(BEGUN, sequence);
-        loop {
-            match station.noted(COMMIT, group, |card, _, map, allowance| Library.commit(card, map, &numbers, &data, allowance)) {
-                Answer::Done(_) => break,
-                Answer::Refused(14) => station.evict(random.below(DISK_BLOCKS)),
-                other => panic!("commit {other:?}"),
-            }
-        }
+        station.save(&mut random, sequence, group);
         station.notes.set_number(1 + group as usize, sequence);
         station.notes.set_number(ACKNOWLEDGED, sequence);
         match random.below(4) {
