@@ -1,4 +1,4 @@
-/* Formats a card, saves two blocks, loses the power in the next save, recovers, reads and drains the card. */
+/* Formats a card, saves two blocks, loses the power in the next save, recovers, reads, is warned of a save without room and drains the card. */
 #include <inttypes.h>
 #include <stdio.h>
 #include <stdlib.h>
@@ -53,6 +53,16 @@ static void make_map(void)
     map[1] = made.high;
 }
 
+/* Tells what a save of two blocks would do, without a store: a warning in time where it would be refused. */
+static void preview(const char *save, const uint64_t *numbers, const uint8_t *data)
+{
+    uint32_t blocks[2];
+    tinca_answer answer = tinca_preview(card, sizeof card, map, 2, numbers, 2, data, 2 * BLOCK_BYTES, blocks, 2);
+    told(save, answer);
+    if (answer.kind == TINCA_DONE)
+        printf("  into data blocks %" PRIu32 " and %" PRIu32 "\n", blocks[0], blocks[1]);
+}
+
 /* Evicts all that is cached, so that the disk alone has every block. */
 static void drain(void)
 {
@@ -75,6 +85,7 @@ int main(void)
     told("format", tinca_format(K, SLOTS, DATA_BLOCKS, DISK_BLOCKS, card, sizeof card));
     make_map();
     memset(data, 7, sizeof data);
+    preview("preview of the first save", numbers, data);
     told("first save of 3 and 5", tinca_commit(card, sizeof card, map, 2, numbers, 2, data, sizeof data, UINT64_MAX));
     printf("free data blocks: %" PRIu64 "\n", tinca_free_count(map[0], map[1]));
     told("evict 5", tinca_evict(card, sizeof card, disk, sizeof disk, map, 2, 5, UINT64_MAX));
@@ -100,6 +111,7 @@ int main(void)
     show(5);
 
     told("load 9", tinca_load(card, sizeof card, disk, sizeof disk, map, 2, 9, UINT64_MAX));
+    preview("preview of a third save", numbers, data);
     drain();
     state();
     show(3);

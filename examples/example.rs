@@ -1,4 +1,4 @@
-//! Formats a card, saves two blocks, loses the power in the next save, recovers, reads and drains the card.
+//! Formats a card, saves two blocks, loses the power in the next save, recovers, reads, is warned of a save without room and drains the card.
 
 use tinca_tests::ffi::Library;
 use tinca_tests::{Answer, Cached, Calls, Place, State};
@@ -10,6 +10,7 @@ fn text(number: u32) -> &'static str {
     match number {
         7 => "the card is not settled and must be recovered first",
         11 => "a commit has the same number twice",
+        14 => "there are too few free data blocks",
         _ => unreachable!(),
     }
 }
@@ -42,6 +43,16 @@ fn state(card: &[u8]) {
     }
 }
 
+/// Tells what a save of blocks 3 and 5 would do, without a store: a warning in time where it would be refused.
+fn preview(save: &str, card: &mut [u8], map: &mut [u64], data: &mut [u8]) {
+    let mut blocks = [0; 2];
+    let answer = Library.preview(card, map, &mut [3, 5], data, &mut blocks);
+    told(save, answer);
+    if let Answer::Done(_) = answer {
+        println!("  into data blocks {} and {}", blocks[0], blocks[1]);
+    }
+}
+
 /// Evicts all that is cached, so that the disk alone has every block.
 fn drain(card: &mut [u8], disk: &mut [u8], map: &mut [u64], data_blocks: u64) {
     for place in 0..data_blocks {
@@ -58,14 +69,16 @@ fn main() {
     told("format", Library.format(9, 8, 4, 16, &mut card));
     // at start; done calls then keep it in step with the card, and refused ones leave it
     let mut map = Library.fresh_map(&card);
-    told("first save of 3 and 5", Library.commit(&mut card, &mut map, &[3, 5], &[7; 2 * BLOCK_BYTES], u64::MAX));
+    let mut first = [7; 2 * BLOCK_BYTES];
+    preview("preview of the first save", &mut card, &mut map, &mut first);
+    told("first save of 3 and 5", Library.commit(&mut card, &mut map, &[3, 5], &first, u64::MAX));
     println!("free data blocks: {}", Library.free_count(map[0], map[1]));
     told("evict 5", Library.evict(&mut card, &mut disk, &mut map, 5, u64::MAX));
     show(&card, &disk, 3);
     show(&card, &disk, 5);
 
     told("a save of 3 twice", Library.commit(&mut card, &mut map, &[3, 3], &[8; 2 * BLOCK_BYTES], u64::MAX));
-    let second = [8; 2 * BLOCK_BYTES];
+    let mut second = [8; 2 * BLOCK_BYTES];
     told("second save, power lost before its last store", Library.commit(&mut card, &mut map, &[3, 5], &second, 136));
     state(&card);
     show(&card, &disk, 3);
@@ -83,6 +96,7 @@ fn main() {
     show(&card, &disk, 5);
 
     told("load 9", Library.load(&mut card, &disk, &mut map, 9, u64::MAX));
+    preview("preview of a third save", &mut card, &mut map, &mut second);
     drain(&mut card, &mut disk, &mut map, 4);
     state(&card);
     show(&card, &disk, 3);
