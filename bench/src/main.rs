@@ -64,6 +64,18 @@ extern "C" {
         data_length: usize,
         allowance: u64,
     ) -> RawAnswer;
+    fn tinca_preview(
+        card: *const u8,
+        length: usize,
+        map: *const u64,
+        map_words: usize,
+        numbers: *const u64,
+        count: usize,
+        data: *const u8,
+        data_length: usize,
+        blocks: *mut u32,
+        blocks_length: usize,
+    ) -> RawAnswer;
     fn tinca_load(
         card: *mut u8,
         length: usize,
@@ -302,7 +314,7 @@ fn others(k: u64, rounds: usize) -> Vec<(&'static str, f64)> {
     }
     let mut out = vec![0u8; block];
     let (card, disk, map) = (card.as_mut_ptr(), disk.as_mut_ptr(), words.as_mut_ptr());
-    let mut times = vec![Vec::new(); 10];
+    let mut times = vec![Vec::new(); 11];
     let mut time = |index: usize, run: &mut dyn FnMut(usize)| {
         let start = Instant::now();
         for turn in 0..32 {
@@ -342,6 +354,11 @@ fn others(k: u64, rounds: usize) -> Vec<(&'static str, f64)> {
             assert_eq!((made.kind, made.refusal), (0, 0));
             black_box((made.low, made.high));
         });
+        time(10, &mut |turn| {
+            let (numbers, mut blocks) = (cached[turn..turn + 4].as_ptr(), [0; 4]);
+            done(unsafe { tinca_preview(card, length, map, 2, numbers, 4, data.as_ptr(), 4 * block, blocks.as_mut_ptr(), 4) });
+            black_box(blocks);
+        });
     }
     // recovery of a commit of 16 that was cut before its last store
     let mut cut = before.clone();
@@ -369,6 +386,7 @@ fn others(k: u64, rounds: usize) -> Vec<(&'static str, f64)> {
         "state",
         "cached",
         "make map",
+        "preview, 4 blocks",
     ];
     names.into_iter().zip(times.into_iter().map(median)).collect()
 }
