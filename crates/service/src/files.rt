@@ -1,6 +1,12 @@
 // The commands on their files.
+use cardfile::err;
+use cardfile::fetch;
+use cardfile::is_long_enough;
+use cardfile::is_special;
+use cardfile::load;
+use cardfile::open;
+use cardfile::refuse;
 use faults::Fault;
-use image::Got;
 use image::Repair;
 use libc::STDERR_FILENO;
 use libc::STDOUT_FILENO;
@@ -13,59 +19,6 @@ ghost use mathlib.Core.Bool.{true};
 ghost use Prim.Native.Nat.{_≤_, _<_};
 ghost use lib.ListN.{length};
 ghost use Rattle.io.specs.Counts.{Counts};
-
-fn err(s: &[u8]) {
-    say(STDERR_FILENO, s);
-}
-
-// Whether the path leads to what is no regular file; says so. Such a thing is never opened: a FIFO would keep the program waiting.
-fn is_special(path: &[u8]) -> bool {
-    if !kind::is_special(path) {
-        return false;
-    }
-    err(path);
-    err(b": not a regular file\n");
-    true
-}
-
-// The file, open for reading; or -1, and it is said why.
-fn open(path: &[u8]) -> i32 {
-    if is_special(path) {
-        return -1;
-    }
-    let fd = os::open_read(path);
-    if fd < 0 {
-        os::fail(path);
-    }
-    fd
-}
-
-// Reads the file behind fd, and says what went wrong.
-fn load(path: &[u8], fd: i32, buf: &mut [u8]) -> Got
-    ensures { λ r. ⌜ Counts (r .count) (now (buf .exit)) ⌝ }
-{
-    let got = image::read(fd, buf);
-    if got.failed {
-        os::fail(path);
-    }
-    got
-}
-
-// Says so where no card has this length.
-fn is_long_enough(path: &[u8], n: usize) -> bool {
-    if (2304 <= n) & (n <= 528512) {
-        return true;
-    }
-    err(path);
-    if n < 2304 {
-        err(b": ");
-        count(STDERR_FILENO, n as u64, 0);
-        err(b" bytes, and the smallest card has 2,304\n");
-    } else {
-        err(b": longer than the largest card, which has 528,512 bytes\n");
-    }
-    false
-}
 
 // Says so where the file is not as long as its header asks.
 fn match_header(path: &[u8], card: &[u8]) {
@@ -82,25 +35,9 @@ fn match_header(path: &[u8], card: &[u8]) {
     }
 }
 
-// A refusal on standard error, behind the file's name: the card's fault, or what lies with the disk, an earlier cut or the number asked for.
-fn refuse(path: &[u8], card: &[u8], r: u8) {
-    err(path);
-    err(b": ");
-    if (r == 3) | (7 <= r) {
-        report::refusal(STDERR_FILENO, r);
-    } else {
-        report::fault(STDERR_FILENO, r, faults::fault_of(card));
-    }
-}
-
 pub fn show(path: &[u8]) {
-    let fd = open(path);
-    if fd < 0 {
-        return;
-    }
     let mut buf = image::buffer();
-    let got = load(path, fd, &mut buf);
-    libc::close(fd);
+    let got = fetch(path, &mut buf);
     if got.failed {
         return;
     }
@@ -193,13 +130,8 @@ fn over_disk(name: &[u8], card: &[u8], path: &[u8], b: u64) {
 }
 
 pub fn block(path: &[u8], disk: &[u8], b: u64) {
-    let fd = open(path);
-    if fd < 0 {
-        return;
-    }
     let mut buf = image::buffer();
-    let got = load(path, fd, &mut buf);
-    libc::close(fd);
+    let got = fetch(path, &mut buf);
     if got.failed {
         return;
     }
@@ -290,7 +222,7 @@ fn make(path: &[u8], g: Geometry, card: &mut [u8]) {
 fn misfit(path: &[u8], g: Geometry) {
     err(path);
     err(b": ");
-    report::fault(STDERR_FILENO, 1, faults::geometry_fault(g));
+    sentence::fault(STDERR_FILENO, 1, faults::geometry_fault(g));
 }
 
 pub fn format(path: &[u8], g: Geometry) {

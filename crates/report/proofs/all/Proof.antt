@@ -1,8 +1,8 @@
 -- `all` ends: the place goes up to 128.
 use Prim.Native.Nat.{_≤_, _-_}
 use borrow.Author.Needs.{needs}
-use Rattle.report.proofs.show.all.Statement.{statement}
-use Rattle.report.proofs.show.all.Tie as tie
+use Rattle.report.proofs.all.Statement.{statement}
+use Rattle.report.proofs.all.Tie as tie
 
 abbrev Inv-loop : tie.InvT-loop
 Inv-loop card blocks any₀ i₀ any i = i ≤ 128

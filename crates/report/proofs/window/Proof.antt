@@ -1,8 +1,8 @@
 -- `window` ends: the slot goes up to 256.
 use Prim.Native.Nat.{_≤_, _-_}
 use borrow.Author.Needs.{needs}
-use Rattle.report.proofs.show.window.Statement.{statement}
-use Rattle.report.proofs.show.window.Tie as tie
+use Rattle.report.proofs.window.Statement.{statement}
+use Rattle.report.proofs.window.Tie as tie
 
 abbrev Inv-loop : tie.InvT-loop
 Inv-loop card j₀ j = j ≤ 256
