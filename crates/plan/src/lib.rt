@@ -263,7 +263,7 @@ pub struct Saving {
     pub plan: Plan,
 }
 
-fn unplanned(refusal: u8) -> Saving
+pub fn unplanned(refusal: u8) -> Saving
     ensures { λ r. ⌜ r .refusal ≡ refusal ⌝ }
 {
     Saving {

@@ -101,15 +101,21 @@ pub fn fault(fd: i32, number: u8, f: Fault) {
     cause(fd, number);
 }
 
-// A refusal that is no fault of the card by itself: 3, 7 or 10.
+// What is asked for and cannot be.
+fn asked(fd: i32, number: u8) {
+    match number {
+        3 => say(fd, b"the disk's length is not D times B"),
+        7 => say(fd, b"the card is not settled and must be recovered first"),
+        8 => say(fd, b"a commit of no block or of more than S - 1"),
+        11 => say(fd, b"a commit has the same number twice"),
+        14 => say(fd, b"there are too few free data blocks"),
+        _ => say(fd, b"the block number is not below D"),
+    }
+}
+
+// A refusal that is no fault of the card by itself: 3, 7, 8, 10, 11 or 14.
 pub fn refusal(fd: i32, number: u8) {
     lead(fd, number);
-    if number == 3 {
-        say(fd, b"the disk's length is not D times B");
-    } else if number == 7 {
-        say(fd, b"the card is not settled and must be recovered first");
-    } else {
-        say(fd, b"the block number is not below D");
-    }
+    asked(fd, number);
     cause(fd, number);
 }

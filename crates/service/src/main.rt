@@ -1,4 +1,4 @@
-// Shows a card image, reads a block of it, recovers it, makes a new one. Files, arguments and their errors are here; what is told and stored
+// Shows a card image, reads a block of it, foresees a save to it, recovers it, makes a new one. Files, arguments and their errors are here; what is told and stored
 // comes from functions with contracts.
 mod files;
 mod words;
@@ -9,6 +9,7 @@ use words::Word;
 fn usage() {
     listing::say(STDERR_FILENO, b"usage: service show CARD\n");
     listing::say(STDERR_FILENO, b"       service block CARD DISK NUMBER\n");
+    listing::say(STDERR_FILENO, b"       service preview CARD NUMBER...\n");
     listing::say(STDERR_FILENO, b"       service recover CARD [ALLOWANCE]\n");
     listing::say(STDERR_FILENO, b"       service format CARD K S N D\n");
     listing::say(
@@ -22,6 +23,7 @@ fn run(word: Word, count: usize) -> bool {
     match word {
         Word::Show => (count == 3) && words::show(),
         Word::Block => (count == 5) && words::block(),
+        Word::Preview => (3 <= count) && words::preview(count),
         Word::Recover => (count == 3 || count == 4) && words::recover(count),
         Word::Format => (count == 7) && words::format(),
         Word::Other => false,

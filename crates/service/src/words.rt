@@ -1,5 +1,7 @@
 // The program's arguments. Each command answers whether its arguments could be read.
 use crate::files;
+use arguments::is_whole;
+use arguments::number;
 use protocol::Geometry;
 use text::Parsed;
 
@@ -7,6 +9,7 @@ use text::Parsed;
 pub enum Word {
     Show,
     Block,
+    Preview,
     Recover,
     Format,
     Other,
@@ -18,6 +21,9 @@ fn spoken(s: &[u8]) -> Word {
     }
     if text::same(s, b"block") {
         return Word::Block;
+    }
+    if text::same(s, b"preview") {
+        return Word::Preview;
     }
     if text::same(s, b"recover") {
         return Word::Recover;
@@ -32,22 +38,6 @@ pub fn command() -> Word {
     let mut buf = io::buffer();
     let n = os::arg(1, &mut buf);
     spoken(&buf[..n])
-}
-
-// Argument i as a number.
-fn number(i: usize) -> Parsed {
-    let mut buf = io::buffer();
-    let n = os::arg(i, &mut buf);
-    text::parse(&buf[..n])
-}
-
-// Whether the argument just read was whole; says so where it was not.
-fn is_whole(what: &[u8]) -> bool {
-    if os::errno() == 0 {
-        return true;
-    }
-    os::fail(what);
-    false
 }
 
 pub fn show() -> bool {
@@ -72,6 +62,21 @@ pub fn block() -> bool {
     let d = os::arg(3, &mut disk);
     if is_whole(b"DISK") {
         files::block(&card[..c], &disk[..d], b);
+    }
+    true
+}
+
+pub fn preview(count: usize) -> bool {
+    let s = arguments::numbers(count);
+    if !s.all {
+        return false;
+    }
+    let mut path = io::buffer();
+    let n = os::arg(2, &mut path);
+    let list = s.list;
+    let k = s.count;
+    if is_whole(b"CARD") {
+        outlook::preview(&path[..n], &list[..k]);
     }
     true
 }
