@@ -17,6 +17,7 @@ const ENTRIES_TITLE: &str = "entries: V in use, M modified, R log role";
 const WINDOW: &str = "slot number";
 const ENTRIES: &str = "place bytes flags number previous current undoable settled";
 const STORES: &str = "store byte bytes what";
+const SAVE: &str = "number data block entry replaces";
 
 #[derive(Clone, Debug, PartialEq, Eq)]
 pub enum Verdict {
@@ -396,6 +397,46 @@ pub fn list_rows(card: &[u8], list: &[Store]) -> Vec<Row> {
     list.iter().enumerate().map(row).collect()
 }
 
+/// What `preview` prints of a save: how many blocks it has, a row for each, and the count of its stores.
+#[derive(Clone, Debug, PartialEq, Eq)]
+pub struct Previewed {
+    pub blocks: u64,
+    pub rows: Vec<Row>,
+    pub stores: u64,
+}
+
+pub fn parse_previewed(text: &str) -> Result<Previewed, String> {
+    let lines: Vec<&str> = text.lines().collect();
+    let [title, list @ .., stores] = &lines[..] else {
+        return Err(format!("too few lines: {text:?}"));
+    };
+    let blocks = title.strip_prefix("save of ").and_then(|rest| rest.split_once(" block")).map(|(count, _)| count);
+    Ok(Previewed {
+        blocks: number(blocks, title)?,
+        rows: rows(list, SAVE, "")?,
+        stores: number(stores.strip_prefix("stores "), stores)?,
+    })
+}
+
+/// What `preview` must say of a save of these numbers: each block's place is told by the entry with which the model
+/// logs it.
+pub fn previewed_of(model: &Model, card: &[u8], numbers: &[u64]) -> Result<Previewed, u32> {
+    let geometry = Geometry::from_header(card)?;
+    let list = model.commit_list(card, numbers, &vec![0; numbers.len() * geometry.block()])?;
+    let logged = |store: &Store| match store {
+        Store::Entry(at, bytes) => Some((*at, read_entry(bytes, geometry.data_blocks, geometry.disk_blocks))),
+        _ => None,
+    };
+    let row = |(at, entry): (usize, Result<Option<Entry>, u32>)| {
+        let entry = entry.unwrap().unwrap();
+        let replaced = entry.previous.map_or("none".to_string(), |block| block.to_string());
+        let place = (at - geometry.entry_at(0)) / 16;
+        vec![entry.number.to_string(), entry.current.to_string(), place.to_string(), replaced]
+    };
+    let rows = list.iter().filter_map(logged).take(numbers.len()).map(row).collect();
+    Ok(Previewed { blocks: numbers.len() as u64, rows, stores: list.len() as u64 })
+}
+
 #[cfg(test)]
 mod tests {
     use super::*;
@@ -622,6 +663,38 @@ condition  unsettled, undoable entries 1, slots in the window 1
             assert_ne!(parse_told(&text.replacen(right, other, 1)).unwrap().list, told.list, "{right}");
         }
         assert!(parse_told(&text.replace("what", "")).is_err());
+    }
+
+    /// Every number and every word counts, and the order of the rows.
+    #[test]
+    fn a_preview_is_told() {
+        let model = Model::default();
+        let mut card = card();
+        let mut map = model.fresh_map(&card);
+        model.recover(&mut card, &mut map, u64::MAX);
+        let text = "\
+save of 2 blocks
+  number  data block  entry  replaces
+       3           2      0         0
+       9           3      2      none
+stores 137
+";
+        let wanted = previewed_of(&model, &card, &[3, 9]).unwrap();
+        assert_eq!(parse_previewed(text), Ok(wanted.clone()));
+        for (at, mark) in text.char_indices().filter(|(_, mark)| mark.is_ascii_digit()) {
+            let other = if mark == '7' { "8" } else { "7" };
+            let wrong = format!("{}{other}{}", &text[..at], &text[at + 1..]);
+            assert_ne!(parse_previewed(&wrong), Ok(wanted.clone()), "{wrong}");
+        }
+        let lines: Vec<&str> = text.lines().collect();
+        for line in &lines {
+            assert_ne!(parse_previewed(&text.replace(&format!("{line}\n"), "")), Ok(wanted.clone()), "{line}");
+        }
+        let swapped = [lines[0], lines[1], lines[3], lines[2], lines[4]].join("\n");
+        assert_ne!(parse_previewed(&swapped), Ok(wanted.clone()));
+        assert_ne!(parse_previewed(&text.replace("none", "1")), Ok(wanted));
+        assert_eq!(previewed_of(&model, &card, &[3, 3]), Err(11));
+        assert_eq!(previewed_of(&model, &card[..100], &[3]), Err(1));
     }
 
     #[test]

@@ -21,6 +21,8 @@ use tinca_tests::{Calls, Geometry, Place};
 const DISK: &str = "disk.img";
 /// Lists up to this length are stopped at each of their stores.
 const SHORT_LIST: usize = 4;
+/// What the program can refuse with.
+const REFUSALS: [usize; 11] = [1, 2, 3, 4, 5, 6, 7, 8, 10, 11, 14];
 
 /// What a run of the program came to.
 #[derive(Default)]
@@ -42,22 +44,26 @@ struct Tally {
     stores: u64,
     longest: usize,
     stops: [u64; Stop::KINDS.len()],
-    refused: [u64; 11],
+    refused: [u64; 15],
     /// Files shorter and longer than any card, and such as their header does not ask for.
     lengths: [u64; 3],
     shown: u64,
     on_card: u64,
     on_disk: u64,
+    /// Saves that were foreseen, and their blocks: on the card already, and new.
+    previews: u64,
+    replaced: u64,
+    added: u64,
     formats: u64,
 }
 
 impl Tally {
     fn line(&self) -> String {
-        let refused: Vec<String> = (1..11).map(|number| format!("{number}:{}", self.refused[number])).collect();
+        let refused = REFUSALS.map(|number| format!("{number}:{}", self.refused[number]));
         format!(
             "{} cards, {} runs: {} stores made in their order, the longest list {}; {} recoveries stopped or \
-             held up and run again; {} cards shown; blocks {} on card, {} on disk; {} geometries formatted; \
-             {} too short, {} too long, {} not as long as asked; refused {}",
+             held up and run again; {} cards shown; blocks {} on card, {} on disk; {} saves foreseen, of {} blocks \
+             on card and {} new; {} geometries formatted; {} too short, {} too long, {} not as long as asked; refused {}",
             self.cards,
             self.runs,
             self.stores,
@@ -66,6 +72,9 @@ impl Tally {
             self.shown,
             self.on_card,
             self.on_disk,
+            self.previews,
+            self.replaced,
+            self.added,
             self.formats,
             self.lengths[0],
             self.lengths[1],
@@ -76,8 +85,9 @@ impl Tally {
 
     /// Nothing that the desk is there to see may be missing.
     fn complete(&self) -> Result<(), String> {
-        let refusals = [1, 2, 3, 4, 5, 6, 7, 10].iter().all(|number| self.refused[*number] > 0);
-        let rest = [self.stores, self.shown, self.on_card, self.on_disk, self.formats].iter().all(|count| *count > 0);
+        let refusals = REFUSALS.iter().all(|number| self.refused[*number] > 0);
+        let rest = [self.stores, self.shown, self.on_card, self.on_disk, self.previews, self.replaced, self.added];
+        let rest = rest.iter().chain([&self.formats]).all(|count| *count > 0);
         let kinds = self.stops.iter().chain(&self.lengths).all(|count| *count > 0);
         if refusals && rest && kinds && self.longest > 20 {
             Ok(())
@@ -315,7 +325,37 @@ impl Desk {
         numbers.iter().try_for_each(|number| self.lists(at, *number))
     }
 
-    /// A card in its history: shown, recovered in every way, its blocks read before and after.
+    /// A save of these numbers, foreseen on the card that now is in the file.
+    fn previews(&mut self, card: &[u8], numbers: &[u64]) -> Result<(), String> {
+        let numbers_as_words: Vec<String> = numbers.iter().map(|number| number.to_string()).collect();
+        let words: Vec<&str> =
+            ["preview", CARD].into_iter().chain(numbers_as_words.iter().map(|word| &word[..])).collect();
+        let wanted = match previewed_of(&self.model, card, numbers) {
+            Ok(wanted) => wanted,
+            Err(number) => return self.refuses(&words, card, number),
+        };
+        let ran = self.run(&words, &[])?;
+        same_log(&ran.log, &[])?;
+        same_file(&ran.file, card)?;
+        let added = wanted.rows.iter().filter(|row| row[3] == "none").count() as u64;
+        self.tally.previews += 1;
+        self.tally.added += added;
+        self.tally.replaced += wanted.blocks - added;
+        equal("preview", parse_previewed(&ran.out)?, wanted)?;
+        equal("standard error", &ran.err[..], "")
+    }
+
+    /// Saves on a card that is settled.
+    fn saves(&mut self, random: &mut Random, card: &[u8]) -> Result<(), String> {
+        self.put(CARD, card)?;
+        let opened = Card::open_settled(card, None).map_err(|number| format!("refused with {number}"))?;
+        for numbers in asked(random, &opened) {
+            self.previews(card, &numbers).map_err(|error| format!("preview {numbers:?}: {error}"))?;
+        }
+        Ok(())
+    }
+
+    /// A card in its history: shown, recovered in every way, its blocks read before and after, saves to it foreseen.
     fn card(&mut self, random: &mut Random, at: &Snapshot) -> Result<(), String> {
         let list = self.model.recover_list(&at.card).map_err(|number| format!("refused with {number}"))?;
         let m = list.len();
@@ -338,8 +378,11 @@ impl Desk {
             self.put(DISK, &at.disk)?;
             self.put(CARD, &at.card)?;
             self.lists(at, random.below(3))?;
+            self.previews(&at.card, &[random.below(3)])?;
         }
-        self.blocks(random, &Snapshot { card: after(&at.card, &list), disk: at.disk.clone() })
+        let recovered = Snapshot { card: after(&at.card, &list), disk: at.disk.clone() };
+        self.saves(random, &recovered.card)?;
+        self.blocks(random, &recovered)
     }
 
     /// A card that is damaged, or a disk of a wrong length: shown, refused, not changed.
@@ -348,6 +391,7 @@ impl Desk {
         self.shows(&at.card)?;
         self.put(DISK, &at.disk)?;
         self.lists(at, 0)?;
+        self.previews(&at.card, &[0])?;
         match self.model.recover_list(&at.card) {
             Ok(list) => self.recovers(&at.card, &list, None),
             Err(number) => self.refuses(&["recover", CARD], &at.card, number),
@@ -418,6 +462,44 @@ fn geometry(k: u64, slots: u64, data_blocks: u64, disk_blocks: u64) -> Geometry 
     Geometry { k, slots, data_blocks, disk_blocks }
 }
 
+/// Different numbers, as many as a save may have and more where the disk has them, in any order: those on the card
+/// and others.
+fn different(random: &mut Random, card: &Card) -> Vec<u64> {
+    let blocks = card.geometry.disk_blocks;
+    let mut numbers: Vec<u64> = card.in_use().map(|entry| entry.number).collect();
+    let start = random.below(blocks);
+    let others = (0..blocks).map(|i| (start + i) % blocks).filter(|number| card.entry_for(*number).is_none());
+    numbers.extend(others.take(card.geometry.slots as usize));
+    for i in 1..numbers.len() {
+        numbers.swap(i, random.below(i as u64 + 1) as usize);
+    }
+    numbers
+}
+
+/// Saves to be foreseen: small ones, as large as there is room for, larger ones; and wrong in one way or in two.
+fn asked(random: &mut Random, card: &Card) -> Vec<Vec<u64>> {
+    let (blocks, slots) = (card.geometry.disk_blocks, card.geometry.slots as usize);
+    let numbers = different(random, card);
+    let room = card.free_blocks().len().min(slots - 1).min(numbers.len());
+    let few = &numbers[..(1 + random.below(3) as usize).min(numbers.len())];
+    let with = |list: &[u64], more: u64| [list, &[more]].concat();
+    vec![
+        Vec::new(),
+        numbers[..1].to_vec(),
+        few.to_vec(),
+        numbers[..room].to_vec(),
+        numbers[..(room + 1).min(numbers.len())].to_vec(),
+        with(few, few[0]),
+        with(&numbers[..room], numbers[0]),
+        with(few, blocks + random.below(2)),
+        with(&with(few, few[0]), blocks),
+        vec![u64::MAX],
+        vec![blocks; slots],
+        vec![numbers[0]; slots - 1],
+        vec![numbers[0]; 256 + random.below(2) as usize],
+    ]
+}
+
 /// A card that its history made and then something damaged, or one drawn at random.
 fn some_damaged(random: &mut Random, geometry: Geometry) -> Snapshot {
     let mut at = if random.once_in(4) { drawn(random, geometry) } else { history(random, geometry, 3) };
@@ -459,7 +541,7 @@ fn right(desk: &mut Desk, seed: u64) -> Result<(), String> {
 }
 
 /// What a wrong program's run of a command might look like. Where a run has nothing of the kind, it stays as it is.
-const TAMPERS: [Tamper; 36] = [
+const TAMPERS: [Tamper; 46] = [
     ("recover", "a store is not made durable", |ran| ran.log.retain(|line| !line.starts_with("fdatasync"))),
     ("recover", "a store is made twice", |ran| ran.log.extend(ran.log.first().cloned())),
     ("recover", "stores change places", |ran| ran.log.reverse()),
@@ -508,6 +590,16 @@ const TAMPERS: [Tamper; 36] = [
     ("block", "a file too long is refused", |ran| {
         ran.err = ran.err.replace("longer than the largest card, which has", "refused with 2: longer than")
     }),
+    ("preview", "data block and entry change places", |ran| in_rows(ran, |row| row.swap(1, 2))),
+    ("preview", "a block that is replaced is not told", |ran| in_rows(ran, |row| row[3] = "none".to_string())),
+    ("preview", "a new block replaces one", |ran| ran.out = ran.out.replace("none", "0")),
+    ("preview", "a block is left out", |ran| in_lines(ran, |lines| drop(lines.remove(2)))),
+    ("preview", "blocks change places", |ran| in_lines(ran, |lines| lines[2..].reverse())),
+    ("preview", "blocks are miscounted", |ran| ran.out = ran.out.replacen("save of ", "save of 1", 1)),
+    ("preview", "stores are miscounted", |ran| ran.out = ran.out.replace("stores ", "stores 1")),
+    ("preview", "another refusal is told", |ran| ran.err = ran.err.replace("refused with 14", "refused with 8")),
+    ("preview", "the save is made", |ran| ran.log.push("pwrite card.img 72 0000000000000000 8".to_string())),
+    ("preview", "a card is changed", |ran| change(&mut ran.file)),
     ("format", "a new card is another one", |ran| change(&mut ran.file)),
     ("format", "a new card is not durable", |ran| drop(ran.log.pop())),
     ("format", "a broken file is left", |ran| ran.file = ran.file.take().or(Some(Vec::new()))),
@@ -541,15 +633,46 @@ fn with_second_line_as_first(listing: &str) -> String {
     lines.concat()
 }
 
+/// Changes the lines of a save that is foreseen: its title, the names of its columns and its rows.
+fn in_lines(ran: &mut Ran, change: fn(&mut Vec<String>)) {
+    let mut lines: Vec<String> = ran.out.lines().map(|line| format!("{line}\n")).collect();
+    if let Some(stores) = lines.pop() {
+        change(&mut lines);
+        ran.out = lines.concat() + &stores;
+    }
+}
+
+/// Changes the words of each row of a save that is foreseen.
+fn in_rows(ran: &mut Ran, change: fn(&mut Vec<String>)) {
+    let lines: Vec<&str> = ran.out.lines().collect();
+    let last = lines.len().saturating_sub(1);
+    let changed = lines.iter().enumerate().map(|(at, line)| {
+        let mut words: Vec<String> = line.split_whitespace().map(|word| word.to_string()).collect();
+        if (2..last).contains(&at) {
+            change(&mut words);
+        }
+        format!("{}\n", words.join(" "))
+    });
+    ran.out = changed.collect();
+}
+
 fn push_if(ran: &mut Ran, said: &str, line: &str) {
     if ran.err.contains(said) {
         ran.log.push(line.to_string());
     }
 }
 
-/// Slips of a recovery or of a state: the program differs from such a model.
-const WRONG_MODELS: [Slip; 5] =
-    [Slip::CleanUndo, Slip::FreshAtUndo, Slip::WindowAlone, Slip::UnchangedCounted, Slip::CountsEveryEntry];
+/// Slips of a recovery, of a state or of a save: the program differs from such a model.
+const WRONG_MODELS: [Slip; 8] = [
+    Slip::CleanUndo,
+    Slip::FreshAtUndo,
+    Slip::WindowAlone,
+    Slip::UnchangedCounted,
+    Slip::CountsEveryEntry,
+    Slip::RepeatsLetBy,
+    Slip::SearchFromZero,
+    Slip::OldBlockGivenOut,
+];
 
 fn reported(desk: &mut Desk, name: &str, seed: u64) -> Result<(), String> {
     match part(desk, seed, geometry(9, 8, 4, 16), 40, 100) {
