@@ -1,6 +1,8 @@
 // The program's arguments as numbers, and whether one came whole.
 use text::Parsed;
-ghost use Prim.Native.Nat.{_≤_};
+ghost use mathlib.Core.Path.{_≡_};
+ghost use mathlib.Core.Bool.{true};
+ghost use Prim.Native.Nat.{_-_, _≤_, min};
 ghost use Rattle.io.specs.Counts.{Counts};
 
 // Argument i as a number.
@@ -29,7 +31,7 @@ pub struct Given {
 // The numbers from argument 3 up to `end`. The first 256 are kept: no card takes a save of more than 255, and one that refuses 256 for their
 // count refuses more of them with the same number.
 pub fn numbers(end: usize) -> Given
-    ensures { λ r. ⌜ (r .count ≤ 256) × Counts (r .count) (r .list) ⌝ }
+    ensures { λ r. ⌜ (r .count ≤ 256) × Counts (r .count) (r .list) × (r .all ≡ true → r .count ≡ min (end - 3) 256) ⌝ }
 {
     let mut list = [0u64; 256];
     let mut kept: usize = 0;

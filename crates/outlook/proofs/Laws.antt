@@ -10,56 +10,55 @@ use lib.Dec.{eqb}
 use borrow.Author.Tests.{eqb-true, eqb-false}
 use Rattle.protocol.specs.declared.Geometry.{Geometry}
 use Rattle.protocol.specs.declared.Map.{Map}
-use Rattle.protocol.specs.declared.Mapped.{Mapped}
 use Rattle.protocol.specs.declared.Mapped.the-variants.{Is, Refused}
 use Rattle.protocol.specs.Layout.{goodGeometry, geometryOf, blockSize}
 use Rattle.protocol.specs.Check.{_orElse_, fitRefusal, damageRefusal, cardRefusal}
 use Rattle.protocol.specs.Map.{mapOf, makeRefusal, madeMap}
 use Rattle.protocol.specs.Commit.{commitRefusal}
 use Rattle.protocol.proofs.Checks.{Limits, limits, orElse-none}
-use Rattle.ring.specs.Fitted.{Fitted}
 use Rattle.ring.proofs.Laws.{fit-long, fit-fitted, fitted-long}
 use Rattle.plan.specs.declared.Saving.{Saving}
 use Rattle.plan.specs.Planned.{Prepared}
 use Rattle.plan.proofs.Bounds.{Passed, passed, few-numbers}
 use Rattle.outlook.specs.Foreseen.{Foreseen}
 
--- what stands first of three refusals stands first of more
+-- what stands first of two refusals stands first of more
 first-stands : (r f d x y : ℕ) → r ≡ f orElse d → (r ≡ 0 → ⊥) → r ≡ f orElse ((d orElse x) orElse y)
 unfolding _orElse_
 first-stands r zero zero x y e h = absurd (h e)
 first-stands r zero (suc d) x y e h = e
 first-stands r (suc f) d x y e h = e
 
--- a refusal to make the map, or the map and that there was none
-record Told (c : List ℕ) (m : Map) : Type 0 where
+-- what a map that was made says of its card
+record Made (c : List ℕ) (m : Map) : Type 0 where
   own : m ≡ mapOf c
   passes : makeRefusal c ≡ 0
 
-told : (c : List ℕ) (m : Map) → madeMap c ≡ Is m → Told c m
+made : (c : List ℕ) (m : Map) → madeMap c ≡ Is m → Made c m
 unfolding madeMap
-told c m e = go (eqb (makeRefusal c) 0) refl e
+made c m e = go (eqb (makeRefusal c) 0) refl e
   where
-    go : (b : Bool) → eqb (makeRefusal c) 0 ≡ b → cond b (Is (mapOf c)) (Refused (makeRefusal c)) ≡ Is m → Told c m
+    go : (b : Bool) → eqb (makeRefusal c) 0 ≡ b → cond b (Is (mapOf c)) (Refused (makeRefusal c)) ≡ Is m → Made c m
     go true q h = record { own = cc; passes = eqb-true _ _ q }
     go false q h = let z : _≡_ {A = ℕ} 0 1 = cc in absurd (omega arith)
 
-record Told-refused (c : List ℕ) (r : ℕ) : Type 0 where
+-- what the refusal to make one says
+record Unmade (c : List ℕ) (r : ℕ) : Type 0 where
   is : r ≡ makeRefusal c
   refuses : r ≡ 0 → ⊥
 
-told-refused : (c : List ℕ) (r : ℕ) → madeMap c ≡ Refused r → Told-refused c r
+unmade : (c : List ℕ) (r : ℕ) → madeMap c ≡ Refused r → Unmade c r
 unfolding madeMap
-told-refused c r e = go (eqb (makeRefusal c) 0) refl e
+unmade c r e = go (eqb (makeRefusal c) 0) refl e
   where
-    go : (b : Bool) → eqb (makeRefusal c) 0 ≡ b → cond b (Is (mapOf c)) (Refused (makeRefusal c)) ≡ Refused r → Told-refused c r
+    go : (b : Bool) → eqb (makeRefusal c) 0 ≡ b → cond b (Is (mapOf c)) (Refused (makeRefusal c)) ≡ Refused r → Unmade c r
     go true q h = let z : _≡_ {A = ℕ} 0 1 = cc in absurd (omega arith)
     go false q h = let i : r ≡ makeRefusal c = cc in record { is = i; refuses = λ z. eqb-false (makeRefusal c) 0 q (sym i ∙ z) }
 
 module _ (c : List ℕ) (m : Map) (e : Is m ≡ madeMap c) where
   fit-passed : 0 ≡ fitRefusal c
   unfolding makeRefusal
-  fit-passed = sym (orElse-none (fitRefusal c) _ (told c m (sym e) .passes) .0)
+  fit-passed = sym (orElse-none (fitRefusal c) _ (made c m (sym e) .passes) .0)
 
   pub made-long : 128 ≤ length c
   made-long = fit-long c 0 fit-passed refl
@@ -72,14 +71,14 @@ module _ (c : List ℕ) (m : Map) (e : Is m ≡ madeMap c) where
   foreseen-planned ns g size r q s h =
       record {
         prepared =
-            subst (λ (y : Map). Prepared c y ns (length ns * blockSize (geometryOf c)) r) (told c m (sym e) .own)
+            subst (λ (y : Map). Prepared c y ns (length ns * blockSize (geometryOf c)) r) (made c m (sym e) .own)
             (subst (λ (k : ℕ). Prepared c m ns k r) (s ∙ ap (λ (y : Geometry). length ns * blockSize y) q) h);
       }
 
 pub foreseen-refused : (c ns : List ℕ) (n : ℕ) (r : Saving) → Refused n ≡ madeMap c → r .refusal ≡ n → Foreseen c ns r
 unfolding makeRefusal commitRefusal cardRefusal
 foreseen-refused c ns n r e q =
-    let t = told-refused c n (sym e) in
+    let t = unmade c n (sym e) in
     record {
       prepared =
           record {

@@ -15,10 +15,7 @@ use listing::say;
 use lookup::Found;
 use protocol::Geometry;
 use protocol::Outcome;
-ghost use mathlib.Core.Bool.{true};
 ghost use Prim.Native.Nat.{_≤_, _<_};
-ghost use lib.ListN.{length};
-ghost use Rattle.io.specs.Counts.{Counts};
 
 // Says so where the file is not as long as its header asks.
 fn match_header(path: &[u8], card: &[u8]) {

@@ -1,6 +1,5 @@
 -- `planned` answers the refusal of a card that gives no map, and else what `plan::prepare` makes of the card's own map.
 use mathlib.Core.Path.{sym, _∙_}
-use native.Mathlib.Omega.{arith}
 use borrow.Author.Needs.{needs}
 use Rattle.outlook.proofs.Laws.{made-long, made-good, foreseen-refused, foreseen-planned}
 use Rattle.outlook.proofs.planned.Statement.{statement}
