@@ -3,46 +3,46 @@
 use Prim.Native.Nat.{ℕ, zero, suc, _+_, _≤_, _<_}
 use mathlib.Core.List.{List, [], _∷_, _++_}
 use mathlib.Core.Bool.{Bool, true, false, cond, not, _&&_, _||_}
-use mathlib.Core.Option.{Option, none, some}
+use mathlib.Core.Option.{none, some}
 use mathlib.Core.Path.{_≡_, refl, sym, ap, subst, _∙_}
-use mathlib.Core.Logic.{_⊎_, inl, inr, ⊎-elim}
+use mathlib.Core.Logic.{_⊎_, inr, ⊎-elim}
 use native.Mathlib.Omega.{arith}
 use lib.ListN.{length, getD}
 use lib.Seq.{take-length}
 use lib.Dec.{eqb, leb}
-use borrow.Author.Tests.{eq-eqb, eqb-true, eqb-false, ne-eqb, leb-true, ltb-true, not-true}
+use borrow.Author.Tests.{eq-eqb, eqb-true, eqb-false, leb-true, ltb-true}
 use Rattle.numbers.specs.Bytes.{part}
 use Rattle.protocol.specs.declared.Entry.{Entry}
 use Rattle.protocol.specs.declared.Geometry.{Geometry}
 use Rattle.protocol.specs.declared.Map.{Map}
 use Rattle.protocol.specs.Below.{anyBelow, eachBelow}
-use Rattle.protocol.specs.Layout.{goodGeometry, geometryOf, cardLength, blockAt, diskBlock, entryPlace}
+use Rattle.protocol.specs.Layout.{geometryOf, blockAt, diskBlock, entryPlace}
 use Rattle.protocol.specs.Entry.{FRESH, entryOf, unused, entryBytes, entryIn, entryAt, inUse, isModified, goodEntry, switched, undone}
 use Rattle.protocol.specs.Ring.{headOf, usedAt, undoableAt, isSettled, findEntry, cached, currentOf}
 use Rattle.protocol.specs.Check.{refuse, _orElse_, goodEntryAt, entriesFit, fitRefusal, diskRefusal, damageRefusal, cardRefusal}
 use Rattle.protocol.specs.Store.{card, Store, Run, storedOn, madeOn, flat, single, words, sectors, entryStore, tailStore}
 use Rattle.protocol.specs.Search.{freeBlocks, unusedEntries}
 use Rattle.protocol.specs.Map.{mapBy, isMarked, mapOf, mapRefusal, makeRefusal}
-use Rattle.protocol.specs.Commit.{numberOf, newBlock, entryFound, oldBlock, logEntry, roomFor, saveRefusal, commitRuns, commitRefusal}
+use Rattle.protocol.specs.Commit.{numberOf, newBlock, entryFound, oldBlock, logEntry, roomFor, commitRuns, commitRefusal}
 use Rattle.protocol.specs.Load.{pairRefusal, blockRefusal, cleanEntry, loadRuns, loadRefusal, writeBack, evictRuns, evictRefusal}
 use Rattle.protocol.specs.Recover.{sameBytes, ifChanging, undoRuns, recoverRuns, recoverRefusal}
 use Rattle.protocol.proofs.Allowed.{UsedEntry, clean, used-good, used-entry, unused-good, unused-used, clean-used, kept-used}
-use Rattle.protocol.proofs.Below.{either, absurd-bool, same-or-other, last-or-before, and-left, and-right, and-both, or-left, or-none, all-at, any-found, any-at, any-witness}
+use Rattle.protocol.proofs.Below.{either, absurd-bool, last-or-before, and-left, and-right, and-both, or-none, all-at, any-found, any-witness}
 use Rattle.protocol.proofs.Checks.{Limits, limits, orElse-none, refuse-none}
 use Rattle.protocol.proofs.Codec.{EntryFits, geometry-same, entry-of-part, entry-of-bytes, length-entry}
-use Rattle.protocol.proofs.Committed.{Entered, fresh, again, entered, e-below, q-below, q-free, Entries, commit-entries, commit-done}
+use Rattle.protocol.proofs.Committed.{Entered, fresh, again, entered, e-below, q-free, Entries, commit-entries, commit-done}
 use Rattle.protocol.proofs.Holds.{used-current, geometry-is}
 use Rattle.protocol.proofs.Invariant.{kindCurrent}
 use Rattle.protocol.proofs.Lawful.{Intact, intact, lawful}
 use Rattle.protocol.proofs.Loaded.{cached-entry}
 use Rattle.protocol.proofs.Made.{entry-changed, entry-stored, tail-changed, words-changed-all, sectors-elsewhere}
-use Rattle.protocol.proofs.Maps.{Has, Moves, map-moves, marked-below}
-use Rattle.protocol.proofs.Passed.{CommitPassed, LoadPassed, EvictPassed, commit-passed, load-passed, evict-passed}
+use Rattle.protocol.proofs.Maps.{Moves, map-moves}
+use Rattle.protocol.proofs.Passed.{CommitPassed, commit-passed}
 use Rattle.protocol.proofs.Planned.{new-below, unused-below, unused-is, enough-unused}
 use Rattle.protocol.proofs.Recovered.{entry-fits, same-bytes, Undone, emptied, restored, undo-cases, undone-good}
-use Rattle.protocol.proofs.Region.{entry, tail, block}
-use Rattle.protocol.proofs.Shape.{Changed, header-kept, entry-kept, Inv}
-use Rattle.protocol.proofs.Stores.{flat-append, flat-single, made-append}
+use Rattle.protocol.proofs.Region.{entry, block}
+use Rattle.protocol.proofs.Shape.{header-kept, entry-kept, Inv}
+use Rattle.protocol.proofs.Stores.{flat-append, made-append}
 use Rattle.protocol.proofs.Words.{map-cong}
 
 -- ---- one entry changes

@@ -24,11 +24,10 @@ returns c =
     let p = c .before .before .before in
     let l = p .before .before in
     let x = l .before .before .before .before .before .before .args in
-    let e = p .preview .ensures in
-    (
+    let e = p .preview .ensures in (
       c .answer .ensures
-      ∙ ap plainAnswer
-      (e .0 ∙ ap (λ (m : Map). previewAnswer (x .card .now) m (x .numbers .now) (x .bytes .now) (x .blocks .now)) (l .lent .ensures)),
+          ∙ ap plainAnswer
+          (e .0 ∙ ap (λ (m : Map). previewAnswer (x .card .now) m (x .numbers .now) (x .bytes .now) (x .blocks .now)) (l .lent .ensures)),
       e .1 ∙ ap (λ (m : Map). blocksAfter (x .card .now) m (x .numbers .now) (x .bytes .now) (x .blocks .now)) (l .lent .ensures),
     )
 
