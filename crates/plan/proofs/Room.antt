@@ -7,7 +7,7 @@ use mathlib.Core.Path.{_≡_, ap, subst, _∙_}
 use native.Mathlib.Omega.{arith}
 use lib.ListN.{length}
 use lib.Dec.{eqb}
-use borrow.Author.Tests.{le-leb, lt-leb}
+use borrow.Author.Tests.{le-leb, lt-leb, leb-true}
 use Rattle.protocol.specs.declared.Geometry.{Geometry}
 use Rattle.protocol.specs.declared.Map.{Map}
 use Rattle.protocol.specs.Below.{anyBelow}
@@ -21,6 +21,11 @@ use Rattle.protocol.proofs.Searches.{walk-finds}
 use Rattle.freemap.specs.Bits.{takenMap, takenAt}
 use Rattle.freemap.proofs.Search.{search-block, search-map, search-count}
 use Rattle.plan.proofs.Rows.{walk-few}
+
+pub enough-free : (g : Geometry) (c : List ℕ) → goodGeometry g ≡ true → (m : Map) → m ≡ mapBy (isMarked g c) → (n : ℕ) → roomFor g c n ≡ true
+    → n ≤ freeCount m
+unfolding roomFor
+enough-free g c good m q n h = omega (arith, ap freeCount q ∙ search-count g c good, leb-true n _ h)
 
 module _ (g : Geometry) (c : List ℕ) (good : goodGeometry g ≡ true) (m : Map) (q : m ≡ mapBy (isMarked g c)) (free : ℕ) (f : free ≡ freeCount m)
     (n : ℕ) where

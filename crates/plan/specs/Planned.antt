@@ -15,6 +15,7 @@ use Rattle.protocol.specs.Map.{mapBy, isMarked, sameMap}
 use Rattle.protocol.specs.Commit.{newBlock, entryFound, oldBlock, commitRefusal}
 use Rattle.ring.specs.Fitted.{Fitted}
 use Rattle.checks.specs.Keys.{keyed, keyAt, numberKey, currentKey, Lists}
+use Rattle.plan.specs.declared.Admitted.{Admitted}
 use Rattle.plan.specs.declared.Home.{Home}
 use Rattle.plan.specs.declared.Homes.{Homes}
 use Rattle.plan.specs.declared.Plan.{Plan}
@@ -56,17 +57,19 @@ pub record Planned (g : Geometry) (c ns : List ℕ) (p : Plan) : Type 0 where
       ≡ mapBy (λ x.
       (isMarked g c x || anyBelow (λ k. eqb (newBlock g c k) x) (length ns)) && not (anyBelow (λ k. eqb (oldBlock g c ns k) x) (length ns)))
 
--- commit's own refusal, and where there is none the plan
-pub record Saved (g : Geometry) (c ns : List ℕ) (size : ℕ) (r : Saving) : Type 0 where
-  pub refusal-is : r .refusal ≡ sizedRefusal g c ns size
-  pub planned : r .refusal ≡ 0 → Planned g c ns (r .plan)
-
--- the refusals of the card's contents and of the map before commit's own
-pub record Examined (g : Geometry) (c : List ℕ) (m : Map) (ns : List ℕ) (size : ℕ) (r : Saving) : Type 0 where
+-- the refusals of the card's contents and of the map before commit's own; and where there is none the keys and the map of the card
+pub record Examined (g : Geometry) (c : List ℕ) (m : Map) (ns : List ℕ) (size : ℕ) (ids currents : List ℕ) (r : Admitted) : Type 0 where
   pub refusal-is : r .refusal ≡ cardRefusal g c orElse refuse 15 (sameMap m (mapBy (isMarked g c))) orElse sizedRefusal g c ns size
-  pub planned : r .refusal ≡ 0 → Planned g c ns (r .plan)
+  pub keyed : r .refusal ≡ 0 → Keyed g c ids currents
+  pub map-is : r .refusal ≡ 0 → r .map ≡ mapBy (isMarked g c)
 
--- all of commit's refusals, whatever the bytes of the data are, and where there is none the plan
+-- all of commit's refusals, whatever the bytes of the data are; and where there is none the keys and the map of the card
+pub record Admission (c : List ℕ) (m : Map) (ns : List ℕ) (size : ℕ) (ids currents : List ℕ) (r : Admitted) : Type 0 where
+  pub refusal-is : (bs : List ℕ) → length bs ≡ size → r .refusal ≡ commitRefusal c m ns bs
+  pub keyed : r .refusal ≡ 0 → Keyed (geometryOf c) c ids currents
+  pub map-is : r .refusal ≡ 0 → r .map ≡ mapBy (isMarked (geometryOf c) c)
+
+-- the same, and where there is no refusal the plan
 pub record Prepared (c : List ℕ) (m : Map) (ns : List ℕ) (size : ℕ) (r : Saving) : Type 0 where
   pub refusal-is : (bs : List ℕ) → length bs ≡ size → r .refusal ≡ commitRefusal c m ns bs
   pub planned : r .refusal ≡ 0 → Planned (geometryOf c) c ns (r .plan)

@@ -4,6 +4,7 @@ use protocol::Geometry;
 use protocol::Map;
 ghost use mathlib.Core.Path.{_≡_};
 ghost use mathlib.Core.Bool.{Bool, true};
+ghost use mathlib.Core.List.{List};
 ghost use Prim.Native.Nat.{ℕ, _+_, _*_, _/_, _≤_, _<_};
 ghost use lib.ListN.{length};
 ghost use Rattle.protocol.specs.Below.{around};
@@ -11,12 +12,12 @@ ghost use Rattle.protocol.specs.Layout.{goodGeometry, blockSize};
 ghost use Rattle.protocol.specs.Search.{unusedAt, searchStart};
 ghost use Rattle.protocol.specs.Map.{mapBy, isMarked};
 ghost use Rattle.protocol.specs.Check.{entriesFit};
-ghost use Rattle.protocol.specs.Commit.{numbersFit, newNumber, numbersApart};
-ghost use Rattle.plan.specs.Request.{requestRefusal};
+ghost use Rattle.protocol.specs.Commit.{numbersFit, newNumber, numbersApart, roomFor};
+ghost use Rattle.plan.specs.Request.{requestRefusal, sizedRefusal};
 ghost use Rattle.ring.specs.Fitted.{Fitted};
 ghost use Rattle.checks.specs.Keys.{NONE, keyed, keyAt, numberKey, Lists};
 ghost use Rattle.plan.specs.Searched.{Searched};
-ghost use Rattle.plan.specs.Planned.{released, Keyed, Housed, AllHoused, Saved, Examined, Prepared};
+ghost use Rattle.plan.specs.Planned.{released, Keyed, Housed, AllHoused, Planned, Examined, Admission, Prepared};
 
 // The key of an unused entry: no disk block has this number.
 const NOTHING: u32 = 65536;
@@ -257,7 +258,122 @@ fn release(map: Map, previous: &[u32; 128], n: usize) -> Map
     left
 }
 
-// What a commit asks of a card that is not damaged and settled: refused, or planned.
+// 8 to 14. Free blocks are counted by the card's map.
+fn save_refusal(g: Geometry, map: Map, numbers: &[u64], size: usize) -> u8
+    requires { ⌜ goodGeometry g ≡ true ⌝ }
+    ensures { λ r. ⌜ ((c : List ℕ) → map ≡ mapBy (isMarked g c) → r ≡ sizedRefusal g c (now (numbers .entry)) size) ⌝ }
+{
+    let refusal = request_refusal(g, numbers, size);
+    if refusal != 0 {
+        return refusal;
+    }
+    if freemap::free_count(map) < numbers.len() as u64 {
+        14
+    } else {
+        0
+    }
+}
+
+// What a commit is told before it is planned: its refusal, and where there is none the card's map.
+pub struct Admitted {
+    pub refusal: u8,
+    pub map: Map,
+}
+
+fn turned_away(refusal: u8) -> Admitted
+    ensures { λ r. ⌜ r .refusal ≡ refusal ⌝ }
+{
+    Admitted {
+        refusal: refusal,
+        map: Map { low: 0, high: 0 },
+    }
+}
+
+// 4 to 15 of a card that fits, and the keys of its entries. Each entry is decoded once, for the checks and for the plan.
+fn examine(
+    g: Geometry,
+    card: &[u8],
+    map: Map,
+    numbers: &[u64],
+    size: usize,
+    ids: &mut [u32; 128],
+    currents: &mut [u32; 128],
+) -> Admitted
+    requires { ⌜ Fitted g (now card) × (length (now ids) ≡ 128) × (length (now currents) ≡ 128) ⌝ }
+    ensures { λ r. ⌜ Examined g (now (card .entry)) map (now (numbers .entry)) size (now (ids .exit)) (now (currents .exit)) r ⌝ }
+{
+    let v = checks::inspect(g, card, ids, currents);
+    if v.refusal != 0 {
+        return turned_away(v.refusal);
+    }
+    if !v.settled {
+        return turned_away(7);
+    }
+    let marks = v.marks;
+    let own = checks::map_of(g, &marks);
+    if !freemap::same(map, own) {
+        return turned_away(15);
+    }
+    Admitted {
+        refusal: save_refusal(g, own, numbers, size),
+        map: own,
+    }
+}
+
+// All of the refusals of a commit of `size` bytes, and where there is none the card's map and the keys of its entries, for the plan.
+pub fn admit(
+    card: &[u8],
+    map: Map,
+    numbers: &[u64],
+    size: usize,
+    ids: &mut [u32; 128],
+    currents: &mut [u32; 128],
+) -> Admitted
+    requires { ⌜ (length (now ids) ≡ 128) × (length (now currents) ≡ 128) ⌝ }
+    ensures { λ r. ⌜ Admission (now (card .entry)) map (now (numbers .entry)) size (now (ids .exit)) (now (currents .exit)) r ⌝ }
+{
+    let misfit = ring::fit_refusal(card);
+    if misfit != 0 {
+        return turned_away(misfit);
+    }
+    examine(
+        ring::geometry_of(card),
+        card,
+        map,
+        numbers,
+        size,
+        ids,
+        currents,
+    )
+}
+
+// The plan of a commit that is not refused.
+fn plan_of(
+    g: Geometry,
+    card: &[u8],
+    ids: &[u32; 128],
+    currents: &[u32; 128],
+    map: Map,
+    numbers: &[u64],
+) -> Plan
+    requires { ⌜ Keyed g (now card) (now ids) (now currents) × (map ≡ mapBy (isMarked g (now card))) × (numbersFit g (now numbers) ≡ true) × (roomFor g (now card) (length (now numbers)) ≡ true) ⌝ }
+    ensures { λ r. ⌜ Planned g (now (card .entry)) (now (numbers .entry)) r ⌝ }
+{
+    let free = freemap::take(map, search_start(g, card), numbers.len());
+    let h = homes_of(g, card, ids, currents, numbers);
+    let entries = h.entries;
+    let previous = h.previous;
+    let blocks = free.blocks;
+    let after = release(free.map, &previous, numbers.len());
+    Plan {
+        entries: entries,
+        previous: previous,
+        blocks: blocks,
+        map: after,
+    }
+}
+
+// What a commit comes to: refused, or planned.
 pub struct Saving {
     pub refusal: u8,
     pub plan: Plan,
@@ -277,74 +393,22 @@ pub fn unplanned(refusal: u8) -> Saving
     }
 }
 
-// 8 to 14, and where none of them is given the plan. Free blocks are counted and searched by the card's map.
-pub fn save(
-    g: Geometry,
-    card: &[u8],
-    ids: &[u32; 128],
-    currents: &[u32; 128],
-    map: Map,
-    numbers: &[u64],
-    size: usize,
-) -> Saving
-    requires { ⌜ Keyed g (now card) (now ids) (now currents) × (map ≡ mapBy (isMarked g (now card))) ⌝ }
-    ensures { λ r. ⌜ Saved g (now (card .entry)) (now (numbers .entry)) size r ⌝ }
-{
-    let refusal = request_refusal(g, numbers, size);
-    if refusal != 0 {
-        return unplanned(refusal);
-    }
-    if freemap::free_count(map) < numbers.len() as u64 {
-        return unplanned(14);
-    }
-    let free = freemap::take(map, search_start(g, card), numbers.len());
-    let h = homes_of(g, card, ids, currents, numbers);
-    let entries = h.entries;
-    let previous = h.previous;
-    let blocks = free.blocks;
-    let after = release(free.map, &previous, numbers.len());
-    Saving {
-        refusal: 0,
-        plan: Plan {
-            entries: entries,
-            previous: previous,
-            blocks: blocks,
-            map: after,
-        },
-    }
-}
-
-// 4 to 15 of a card that fits, and where none of them is given the plan. Each entry is decoded once, for the checks and for the plan.
-fn examine(g: Geometry, card: &[u8], map: Map, numbers: &[u64], size: usize) -> Saving
-    requires { ⌜ Fitted g (now card) ⌝ }
-    ensures { λ r. ⌜ Examined g (now (card .entry)) map (now (numbers .entry)) size r ⌝ }
-{
-    let mut ids = [0u32; 128];
-    let mut currents = [0u32; 128];
-    let v = checks::inspect(g, card, &mut ids, &mut currents);
-    if v.refusal != 0 {
-        return unplanned(v.refusal);
-    }
-    if !v.settled {
-        return unplanned(7);
-    }
-    let marks = v.marks;
-    let own = checks::map_of(g, &marks);
-    if !freemap::same(map, own) {
-        return unplanned(15);
-    }
-    save(g, card, &ids, &currents, own, numbers, size)
-}
-
 // What a commit of `size` bytes comes to on the card at entry: its refusal, and where there is none its plan.
 pub fn prepare(card: &[u8], map: Map, numbers: &[u64], size: usize) -> Saving
     ensures { λ r. ⌜ Prepared (now (card .entry)) map (now (numbers .entry)) size r ⌝ }
 {
-    let misfit = ring::fit_refusal(card);
-    if misfit != 0 {
-        return unplanned(misfit);
+    let mut ids = [0u32; 128];
+    let mut currents = [0u32; 128];
+    let a = admit(card, map, numbers, size, &mut ids, &mut currents);
+    if a.refusal != 0 {
+        return unplanned(a.refusal);
     }
-    examine(ring::geometry_of(card), card, map, numbers, size)
+    let g = ring::geometry_of(card);
+    let p = plan_of(g, card, &ids, &currents, a.map, numbers);
+    Saving {
+        refusal: 0,
+        plan: p,
+    }
 }
 
 // m, the count of stores of a commit of n blocks.

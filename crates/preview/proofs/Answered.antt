@@ -1,8 +1,8 @@
--- What a preview answers and tells, from what the plan comes to. Assumes nothing.
+-- What a preview answers and tells, from what a commit is told before it is planned. Assumes nothing.
 use Prim.Native.Nat.{ℕ, _+_, _*_, _/_, _≤_, _<_}
 use mathlib.Core.List.{List, []}
 use mathlib.Core.Bool.{Bool, true, cond}
-use mathlib.Core.Path.{_≡_, sym, ap, _∙_}
+use mathlib.Core.Path.{_≡_, refl, sym, ap, _∙_}
 use mathlib.Core.Logic.{⊎-elim}
 use native.Mathlib.Omega.{arith}
 use lib.ListN.{length, getD, set}
@@ -13,18 +13,24 @@ use Rattle.protocol.specs.declared.Answer.the-variants.{Done, Refused}
 use Rattle.protocol.specs.declared.Geometry.{Geometry}
 use Rattle.protocol.specs.declared.Map.{Map}
 use Rattle.protocol.specs.Layout.{goodGeometry, geometryOf, blockSize}
+use Rattle.protocol.specs.Search.{searchStart}
 use Rattle.protocol.specs.Store.{storesOf}
-use Rattle.protocol.specs.Commit.{commitWork}
+use Rattle.protocol.specs.Map.{mapBy, isMarked, freeCount}
+use Rattle.protocol.specs.Commit.{roomFor, commitWork}
 use Rattle.protocol.specs.Preview.{previewRefusal, previewAnswer, blocksOf, blocksAfter}
 use Rattle.protocol.proofs.Below.{either, same-or-other}
 use Rattle.protocol.proofs.Checks.{Limits, limits}
 use Rattle.protocol.proofs.Previewed.{length-told, told-at, refusal-same, refusal-nine, passed-length}
-use Rattle.ring.proofs.Laws.{fitted-long}
-use Rattle.checks.specs.Keys.{keyAt}
-use Rattle.plan.specs.declared.Saving.{Saving}
-use Rattle.plan.specs.Planned.{Prepared}
+use Rattle.freemap.specs.declared.Taken.{Taken}
+use Rattle.freemap.specs.Bits.{takenAt}
+use Rattle.freemap.specs.Taken.{Took}
+use Rattle.ring.specs.Fitted.{Fitted}
+use Rattle.plan.specs.declared.Admitted.{Admitted}
+use Rattle.plan.specs.Planned.{Admission}
 use Rattle.plan.proofs.Bounds.{Passed, passed, few-numbers}
 use Rattle.plan.proofs.Count.{runs-count}
+use Rattle.plan.proofs.Order.{plan-ready, admitted-long, admitted-keyed, admitted-map, admitted-room}
+use Rattle.plan.proofs.Room.{enough-free, taken-block}
 use Rattle.preview.specs.Told.{Told}
 
 pub tell-start : (ps xs : List ℕ) (k : ℕ) → k < 0 → getD xs k 0 ≡ getD ps k 0
@@ -49,21 +55,21 @@ module _ (n told long : ℕ) where
   pub asked-not : (told ≡ n → ⊥) → 0 ≡ cond (eqb told n) long 0
   asked-not h = rw (ne-eqb told n h)
 
-module _ (c : List ℕ) (m : Map) (ns bs out : List ℕ) (size : ℕ) (e : size ≡ cond (eqb (length out) (length ns)) (length bs) 0) (s : Saving)
-    (x : Prepared c m ns size s) where
-  refusal-is : s .refusal ≡ previewRefusal c m ns bs out
+module _ (c : List ℕ) (m : Map) (ns bs out : List ℕ) (size : ℕ) (e : size ≡ cond (eqb (length out) (length ns)) (length bs) 0) (ids currents : List ℕ)
+    (a : Admitted) (x : Admission c m ns size ids currents a) where
+  refusal-is : a .refusal ≡ previewRefusal c m ns bs out
   refusal-is = ⊎-elim
       (λ h. x .refusal-is bs (sym (e ∙ rw h)) ∙ sym (refusal-same c m ns bs out (eqb-true _ _ h)))
       (λ h. x .refusal-is [] (sym (e ∙ rw h)) ∙ sym (refusal-nine c m ns bs out (eqb-false _ _ h)))
       (either (eqb (length out) (length ns)))
 
-  pub preview-refused : (s .refusal ≡ 0 → ⊥) → (Refused (s .refusal) ≡ previewAnswer c m ns bs out) × (out ≡ blocksAfter c m ns bs out)
+  pub preview-refused : (a .refusal ≡ 0 → ⊥) → (Refused (a .refusal) ≡ previewAnswer c m ns bs out) × (out ≡ blocksAfter c m ns bs out)
   unfolding previewAnswer blocksAfter
   preview-refused h =
       let t : eqb (previewRefusal c m ns bs out) 0 ≡ Bool.false = ne-eqb _ _ (λ z. h (refusal-is ∙ z)) in
       (rw t (ap Refused refusal-is), rw t)
 
-  module _ (z : s .refusal ≡ 0) where
+  module _ (z : a .refusal ≡ 0) where
     none : previewRefusal c m ns bs out ≡ 0
     none = sym refusal-is ∙ z
 
@@ -77,25 +83,42 @@ module _ (c : List ℕ) (m : Map) (ns bs out : List ℕ) (size : ℕ) (e : size 
     preview-few = omega (arith, told-length, few-numbers preview-passed)
 
     pub preview-long : 128 ≤ length c
-    preview-long = fitted-long (geometryOf c) c (preview-passed .fitted)
+    preview-long = admitted-long c m ns size ids currents a x z
 
-    pub preview-counts : (g : Geometry) → g ≡ geometryOf c → (goodGeometry g ≡ true) × (length ns < g .slots)
-    preview-counts g q =
-        let v = preview-passed in
-        let l : Limits (geometryOf c) = limits (geometryOf c) (v .fitted .good) in
-        rw q (v .fitted .good, omega (arith, v .count))
+    module _ (g : Geometry) (q : g ≡ geometryOf c) where
+      pub preview-fitted : Fitted g c
+      preview-fitted = admitted-keyed c m ns size ids currents a x z g q .fitted
 
-    pub preview-done : (g : Geometry) (n : ℕ) (told : List ℕ) → g ≡ geometryOf c → n ≡ length ns * (blockSize g / 8 + 4) + 1
-        → Told (s .plan .blocks) out told
-        → (Done n ≡ previewAnswer c m ns bs out) × (told ≡ blocksAfter c m ns bs out)
-    unfolding previewAnswer blocksAfter commitWork storesOf keyAt
-    preview-done g n told q k h =
-        let g₀ = geometryOf c in
-        let t = eq-eqb _ _ none in
-        let count = k ∙ ap (λ (y : Geometry). length ns * (blockSize y / 8 + 4) + 1) q ∙ sym (runs-count g₀ c ns bs) in
-        let blocks : told ≡ blocksOf g₀ c (length ns) =
-        ext-getD 0 _ _ (h .sized ∙ told-length ∙ sym (length-told g₀ c (length ns)))
-        (λ i j.
-        let b : i < length ns = omega (arith, h .sized, told-length) in
-        h .listed i (omega (arith, told-length)) ∙ x .planned z .blocks i b ∙ sym (told-at g₀ c (length ns) i b)) in
-        (rw t (ap Done count), rw t blocks)
+      pub preview-counts : (goodGeometry g ≡ true) × (length ns < g .slots)
+      preview-counts =
+          let v = preview-passed in
+          let l : Limits (geometryOf c) = limits (geometryOf c) (v .fitted .good) in
+          rw q (v .fitted .good, omega (arith, v .count))
+
+      module _ (start : ℕ) (b : (start ≡ searchStart g c) × (start < g .blocks)) where
+        own : a .map ≡ mapBy (isMarked g c)
+        own = admitted-map c m ns size ids currents a x z g q
+
+        room : roomFor g c (length ns) ≡ true
+        room = admitted-room c m ns size ids currents a x z g q
+
+        pub preview-ready : (start < 128) × (length ns ≤ 128) × ((i : ℕ) → i < length ns → takenAt (a .map) start i < 128)
+        preview-ready = plan-ready g c ns (preview-fitted .good) (a .map) own room start b
+
+        pub preview-done : (n : ℕ) (t : Taken) (told : List ℕ) → n ≡ length ns * (blockSize g / 8 + 4) + 1 → Took (a .map) start (length ns) t
+            → Told (t .blocks) out told → (Done n ≡ previewAnswer c m ns bs out) × (told ≡ blocksAfter c m ns bs out)
+        unfolding previewAnswer blocksAfter commitWork storesOf
+        preview-done n t told k w h =
+            let f = eq-eqb _ _ none in
+            let long = length ns in
+            let enough = enough-free g c (preview-fitted .good) (a .map) own long room in
+            let count = k ∙ ap (λ (y : Geometry). long * (blockSize y / 8 + 4) + 1) q ∙ sym (runs-count (geometryOf c) c ns bs) in
+            let blocks : told ≡ blocksOf g c long =
+            ext-getD 0 _ _ (h .sized ∙ told-length ∙ sym (length-told g c long))
+            (λ i j.
+            let l : i < long = omega (arith, h .sized, told-length) in
+            h .listed i (omega (arith, told-length))
+            ∙ w .blocks i l
+            ∙ taken-block g c (preview-fitted .good) (a .map) own (freeCount (a .map)) refl long enough start b i l
+            ∙ sym (told-at g c long i l)) in
+            (rw f (ap Done count), rw f (blocks ∙ ap (λ (y : Geometry). blocksOf y c long) q))

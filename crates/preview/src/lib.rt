@@ -15,14 +15,14 @@ fn wide(x: u8) -> u32
     x as u32
 }
 
-// Tells the planned data blocks, each as a number of its own.
-fn tell(planned: &[u8; 128], blocks: &mut [u32])
+// Tells the data blocks that were found, each as a number of its own.
+fn tell(found: &[u8; 128], blocks: &mut [u32])
     requires { ⌜ length (now blocks) ≤ 128 ⌝ }
-    ensures { λ _. ⌜ Told (now (planned .entry)) (now (blocks .entry)) (now (blocks .exit)) ⌝ }
+    ensures { λ _. ⌜ Told (now (found .entry)) (now (blocks .entry)) (now (blocks .exit)) ⌝ }
 {
     let mut i: usize = 0;
     while i < blocks.len() {
-        blocks[i] = wide(planned[i]);
+        blocks[i] = wide(found[i]);
         i += 1;
     }
 }
@@ -42,12 +42,16 @@ pub fn preview(card: &[u8], map: Map, numbers: &[u64], data: &[u8], blocks: &mut
     ensures blocks { λ r. ⌜ now (blocks .exit) ≡ blocksAfter (now (card .entry)) map (now (numbers .entry)) (now («data» .entry)) (now (blocks .entry)) ⌝ }
 {
     let n = numbers.len();
-    let s = plan::prepare(card, map, numbers, asked(n, blocks.len(), data.len()));
-    if s.refusal != 0 {
-        return Answer::Refused(s.refusal);
+    let size = asked(n, blocks.len(), data.len());
+    let mut ids = [0u32; 128];
+    let mut currents = [0u32; 128];
+    let a = plan::admit(card, map, numbers, size, &mut ids, &mut currents);
+    if a.refusal != 0 {
+        return Answer::Refused(a.refusal);
     }
-    let p = s.plan;
-    let planned = p.blocks;
-    tell(&planned, blocks);
-    Answer::Done(plan::count_of(ring::geometry_of(card), n))
+    let g = ring::geometry_of(card);
+    let free = freemap::take(a.map, plan::search_start(g, card), n);
+    let found = free.blocks;
+    tell(&found, blocks);
+    Answer::Done(plan::count_of(g, n))
 }

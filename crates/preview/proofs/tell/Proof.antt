@@ -1,4 +1,4 @@
--- `tell` puts each planned block into the same place of the output. The loop's invariant: the first i places have theirs.
+-- `tell` puts each block that was found into the same place of the output. The loop's invariant: the first i places have theirs.
 use mathlib.Core.Path.{_≡_}
 use Prim.Native.Nat.{ℕ, _≤_, _<_, _-_}
 use lib.ListN.{length, getD}
@@ -8,11 +8,11 @@ use Rattle.preview.proofs.tell.Statement.{statement}
 use Rattle.preview.proofs.tell.Tie as tie
 
 abbrev Inv-loop : tie.InvT-loop
-Inv-loop planned blocks₀ i₀ blocks i =
-    (i ≤ length blocks₀) × (length blocks ≡ length blocks₀) × ((k : ℕ) → k < i → getD blocks k 0 ≡ getD planned k 0)
+Inv-loop found blocks₀ i₀ blocks i =
+    (i ≤ length blocks₀) × (length blocks ≡ length blocks₀) × ((k : ℕ) → k < i → getD blocks k 0 ≡ getD found k 0)
 
 abbrev μ-loop : tie.MeasureT-loop
-μ-loop planned blocks₀ i₀ blocks i = length blocks₀ - i
+μ-loop found blocks₀ i₀ blocks i = length blocks₀ - i
 
 loop-holds : tie.Need-loop-holds Inv-loop μ-loop
 loop-holds c = search (tell-start, needs)
