@@ -17,8 +17,8 @@ use Rattle.protocol.specs.Layout.{goodGeometry, geometryOf, blockSize}
 use Rattle.protocol.specs.Entry.{entryOf, switched}
 use Rattle.protocol.specs.Ring.{headOf}
 use Rattle.protocol.specs.Store.{card, Run, flat, single, entryStore, wordStore, tailStore, storesOf}
-use Rattle.protocol.specs.Map.{handedOn}
-use Rattle.protocol.specs.Commit.{numberOf, entryFound, logEntry, headAfter, blockRuns, switchRuns, commitRuns, commitRefusal, commitWork}
+use Rattle.protocol.specs.Map.{mapBy, isMarked, handedOn}
+use Rattle.protocol.specs.Commit.{numberOf, entryFound, logEntry, headAfter, blockRuns, switchRuns, commitRuns, commitRefusal, commitWork, numbersFit, roomFor}
 use Rattle.protocol.proofs.Checks.{Limits, limits}
 use Rattle.protocol.proofs.Left.{commit-map}
 use Rattle.protocol.proofs.Stores.{flat-append}
@@ -26,10 +26,11 @@ use Rattle.protocol.proofs.Region.{whole}
 use Rattle.ring.specs.Fitted.{Fitted}
 use Rattle.ring.proofs.Laws.{fitted-long}
 use Rattle.checks.specs.Keys.{keyAt}
+use Rattle.plan.specs.declared.Admitted.{Admitted}
 use Rattle.plan.specs.declared.Plan.{Plan}
-use Rattle.plan.specs.declared.Saving.{Saving}
-use Rattle.plan.specs.Planned.{Planned, Prepared}
+use Rattle.plan.specs.Planned.{Keyed, Planned, Admission}
 use Rattle.plan.proofs.Count.{runs-count}
+use Rattle.plan.proofs.Order.{admitted-keyed, admitted-map, admitted-numbers, admitted-room}
 use Rattle.plan.proofs.Bounds.{Passed, passed, few-numbers, new-below, entry-below}
 use Rattle.stores.specs.Did.{Did}
 use Rattle.stores.proofs.Laws.{did-then, did-same, refused-answer, refused-after, refused-map, made-answer, made-after, made-map}
@@ -85,7 +86,7 @@ plan-made g p h ns bs end left a b r xs ys zs ws x y e z =
 
 -- ---- what the checks have passed
 
-module _ (c : List ℕ) (m : Map) (ns bs : List ℕ) (s : Saving) (x : Prepared c m ns (length bs) s) where
+module _ (c : List ℕ) (m : Map) (ns bs ids currents : List ℕ) (s : Admitted) (x : Admission c m ns (length bs) ids currents s) where
   refusal-is : s .refusal ≡ commitRefusal c m ns bs
   refusal-is = x .refusal-is bs refl
 
@@ -117,11 +118,23 @@ module _ (c : List ℕ) (m : Map) (ns bs : List ℕ) (s : Saving) (x : Prepared 
     pub commit-good : (g : Geometry) → g ≡ geometryOf c → goodGeometry g ≡ true
     commit-good g e = commit-fitted g e .good
 
-    pub commit-ready : (g : Geometry) (h : ℕ) → g ≡ geometryOf c → h ≡ headOf c → Ready g (s .plan) h ns bs
+    pub commit-plans : (g : Geometry) → g ≡ geometryOf c
+        → Keyed g c ids currents × (s .map ≡ mapBy (isMarked g c)) × (numbersFit g ns ≡ true) × (roomFor g c (length ns) ≡ true)
+    commit-plans g e = (
+      admitted-keyed c m ns (length bs) ids currents s x z g e,
+      admitted-map c m ns (length bs) ids currents s x z g e,
+      admitted-numbers c m ns (length bs) ids currents s x z g e,
+      admitted-room c m ns (length bs) ids currents s x z g e,
+    )
+
+    own-plan : (g : Geometry) (p : Plan) → g ≡ geometryOf c → Planned g c ns p → Planned (geometryOf c) c ns p
+    own-plan g p e = subst (λ (y : Geometry). Planned y c ns p) e
+
+    pub commit-ready : (g : Geometry) (h : ℕ) (r : Plan) → g ≡ geometryOf c → h ≡ headOf c → Planned g c ns r → Ready g r h ns bs
     unfolding keyAt
-    commit-ready g h e q =
+    commit-ready g h r e q y =
         let v = commit-passed in
-        let p = x .planned z in
+        let p = own-plan g r e y in
         rw (e, q)
         (record {
           named = record {
@@ -134,21 +147,21 @@ module _ (c : List ℕ) (m : Map) (ns bs : List ℕ) (s : Saving) (x : Prepared 
           sized = v .sized;
         })
 
-    pub commit-made : (g : Geometry) (h a n r : ℕ) (d : List ℕ) (y : Answer) (t : Stored) → g ≡ geometryOf c → h ≡ headOf c
-        → Did card (flat (plannedRuns g (s .plan) h ns bs)) a c d r → n ≡ length ns * (blockSize g / 8 + 4) + 1
-        → y ≡ cond (ltb a n) Cut (Done n) → (t .answer ≡ y) × (t .map ≡ handedOn y m (s .plan .map)) → Committed c m ns bs a t d
+    pub commit-made : (g : Geometry) (h a n r : ℕ) (u : Plan) (d : List ℕ) (y : Answer) (t : Stored) → g ≡ geometryOf c → h ≡ headOf c
+        → Planned g c ns u → Did card (flat (plannedRuns g u h ns bs)) a c d r → n ≡ length ns * (blockSize g / 8 + 4) + 1
+        → y ≡ cond (ltb a n) Cut (Done n) → (t .answer ≡ y) × (t .map ≡ handedOn y m (u .map)) → Committed c m ns bs a t d
     unfolding commitWork storesOf
-    commit-made g h a n r d y t e q made k w o =
+    commit-made g h a n r u d y t e q b made k w o =
         let g₀ = geometryOf c in
-        let p = x .planned z in
+        let p = own-plan g u e b in
         let answered =
         made-answer (commitWork c m ns bs) a (s .refusal) refusal-is z n y
         (k ∙ ap (λ (v : Geometry). length ns * (blockSize v / 8 + 4) + 1) e ∙ sym (runs-count g₀ c ns bs)) w in
         let left = p .map-is ∙ sym (commit-map c m ns bs (sym refusal-is ∙ z)) in
         record {
           answers = o .0 ∙ answered;
-          hands = o .1 ∙ made-map (commitWork c m ns bs) a (s .refusal) refusal-is z y c m (s .plan .map) answered left;
+          hands = o .1 ∙ made-map (commitWork c m ns bs) a (s .refusal) refusal-is z y c m (u .map) answered left;
           leaves =
               made-after (commitWork c m ns bs) a (s .refusal) refusal-is z
-              (did-same ((λ i. flat (plannedRuns (e i) (s .plan) (q i) ns bs)) ∙ ap flat (runs-same g₀ c ns bs (s .plan) p)) made);
+              (did-same ((λ i. flat (plannedRuns (e i) u (q i) ns bs)) ∙ ap flat (runs-same g₀ c ns bs u p)) made);
         }

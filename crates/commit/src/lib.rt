@@ -142,13 +142,15 @@ fn make_plan(
 pub fn commit(card: &mut [u8], map: Map, numbers: &[u64], data: &[u8], allowance: u64) -> Stored
     ensures { λ r. ⌜ Committed (now (card .entry)) map (now (numbers .entry)) (now («data» .entry)) allowance r (now (card .exit)) ⌝ }
 {
-    let s = plan::prepare(card, map, numbers, data.len());
+    let mut ids = [0u32; 128];
+    let mut currents = [0u32; 128];
+    let s = plan::admit(card, map, numbers, data.len(), &mut ids, &mut currents);
     if s.refusal != 0 {
         return stores::hand_on(Answer::Refused(s.refusal), map, map);
     }
     let g = ring::geometry_of(card);
     let head = ring::head_of(card) as usize;
-    let p = s.plan;
+    let p = plan::plan_of(g, card, &ids, &currents, s.map, numbers);
     make_plan(g, card, p, numbers, data, head, allowance);
     let answer = stores::answer(plan::count_of(g, numbers.len()), allowance);
     stores::hand_on(answer, map, p.map)

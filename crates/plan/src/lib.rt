@@ -348,7 +348,7 @@ pub fn admit(
 }
 
 // The plan of a commit that is not refused.
-fn plan_of(
+pub fn plan_of(
     g: Geometry,
     card: &[u8],
     ids: &[u32; 128],
