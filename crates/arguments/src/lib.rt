@@ -22,7 +22,7 @@ pub fn is_whole(what: &[u8]) -> bool {
 }
 
 // The numbers given for a save, and whether every argument is one.
-pub struct Given {
+pub struct ArgumentList {
     pub all: bool,
     pub count: usize,
     pub list: [u64; 256],
@@ -30,7 +30,7 @@ pub struct Given {
 
 // The numbers from argument 3 up to `end`. The first 256 are kept: no card takes a save of more than 255, and one that refuses 256 for their
 // count refuses more of them with the same number.
-pub fn numbers(end: usize) -> Given
+pub fn numbers(end: usize) -> ArgumentList
     ensures { λ r. ⌜ (r .count ≤ 256) × Counts (r .count) (r .list) × (r .all ≡ true → r .count ≡ min (end - 3) 256) ⌝ }
 {
     let mut list = [0u64; 256];
@@ -38,7 +38,7 @@ pub fn numbers(end: usize) -> Given
     let mut i: usize = 3;
     while i < end {
         let Parsed::Number(b) = number(i) else {
-            return Given {
+            return ArgumentList {
                 all: false,
                 count: 0,
                 list: list,
@@ -50,7 +50,7 @@ pub fn numbers(end: usize) -> Given
             kept += 1;
         }
     }
-    Given {
+    ArgumentList {
         all: true,
         count: kept,
         list: list,

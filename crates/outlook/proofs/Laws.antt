@@ -34,9 +34,9 @@ record Made (c : List ℕ) (m : Map) : Type 0 where
   own : m ≡ mapOf c
   passes : makeRefusal c ≡ 0
 
-made : (c : List ℕ) (m : Map) → madeMap c ≡ Is m → Made c m
+made-is : (c : List ℕ) (m : Map) → madeMap c ≡ Is m → Made c m
 unfolding madeMap
-made c m e = go (eqb (makeRefusal c) 0) refl e
+made-is c m e = go (eqb (makeRefusal c) 0) refl e
   where
     go : (b : Bool) → eqb (makeRefusal c) 0 ≡ b → cond b (Is (mapOf c)) (Refused (makeRefusal c)) ≡ Is m → Made c m
     go true q h = record { own = cc; passes = eqb-true _ _ q }
@@ -47,9 +47,9 @@ record Unmade (c : List ℕ) (r : ℕ) : Type 0 where
   is : r ≡ makeRefusal c
   refuses : r ≡ 0 → ⊥
 
-unmade : (c : List ℕ) (r : ℕ) → madeMap c ≡ Refused r → Unmade c r
+unmade-is : (c : List ℕ) (r : ℕ) → madeMap c ≡ Refused r → Unmade c r
 unfolding madeMap
-unmade c r e = go (eqb (makeRefusal c) 0) refl e
+unmade-is c r e = go (eqb (makeRefusal c) 0) refl e
   where
     go : (b : Bool) → eqb (makeRefusal c) 0 ≡ b → cond b (Is (mapOf c)) (Refused (makeRefusal c)) ≡ Refused r → Unmade c r
     go true q h = let z : _≡_ {A = ℕ} 0 1 = cc in absurd (omega arith)
@@ -58,7 +58,7 @@ unmade c r e = go (eqb (makeRefusal c) 0) refl e
 module _ (c : List ℕ) (m : Map) (e : Is m ≡ madeMap c) where
   fit-passed : 0 ≡ fitRefusal c
   unfolding makeRefusal
-  fit-passed = sym (orElse-none (fitRefusal c) _ (made c m (sym e) .passes) .0)
+  fit-passed = sym (orElse-none (fitRefusal c) _ (made-is c m (sym e) .passes) .0)
 
   pub made-long : 128 ≤ length c
   made-long = fit-long c 0 fit-passed refl
@@ -70,17 +70,17 @@ module _ (c : List ℕ) (m : Map) (e : Is m ≡ madeMap c) where
       → Prepared c m ns size r → Foreseen c ns r
   foreseen-planned ns g size r q s h =
       record {
-        prepared =
-            subst (λ (y : Map). Prepared c y ns (length ns * blockSize (geometryOf c)) r) (made c m (sym e) .own)
+        comes-to =
+            subst (λ (y : Map). Prepared c y ns (length ns * blockSize (geometryOf c)) r) (made-is c m (sym e) .own)
             (subst (λ (k : ℕ). Prepared c m ns k r) (s ∙ ap (λ (y : Geometry). length ns * blockSize y) q) h);
       }
 
 pub foreseen-refused : (c ns : List ℕ) (n : ℕ) (r : Saving) → Refused n ≡ madeMap c → r .refusal ≡ n → Foreseen c ns r
 unfolding makeRefusal commitRefusal cardRefusal
 foreseen-refused c ns n r e q =
-    let t = unmade c n (sym e) in
+    let t = unmade-is c n (sym e) in
     record {
-      prepared =
+      comes-to =
           record {
             refusal-is = λ bs l. q ∙ first-stands n (fitRefusal c) (damageRefusal (geometryOf c) c) _ _ (t .is) (t .refuses);
             planned = λ z. absurd (t .refuses (sym q ∙ z));
@@ -93,7 +93,7 @@ module _ (c ns : List ℕ) (r : Saving) (f : Foreseen c ns r) (z : r .refusal �
   foreseen-passed : Passed (geometryOf c) c ns (replicate (length ns * blockSize (geometryOf c)) 0)
   foreseen-passed =
       let bs : List ℕ = replicate (length ns * blockSize (geometryOf c)) 0 in
-      passed c (mapOf c) ns bs (sym (f .prepared .refusal-is bs (length-replicate _ 0)) ∙ z)
+      passed c (mapOf c) ns bs (sym (f .comes-to .refusal-is bs (length-replicate _ 0)) ∙ z)
 
   pub foreseen-long : 128 ≤ length c
   foreseen-long = fitted-long (geometryOf c) c (foreseen-passed .fitted)

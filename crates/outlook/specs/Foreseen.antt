@@ -9,4 +9,4 @@ use Rattle.plan.specs.Planned.{Prepared}
 
 -- what a commit of the numbers ns comes to on the card c, given the map that c gives and data of the right length
 pub record Foreseen (c ns : List ℕ) (r : Saving) : Type 0 where
-  pub prepared : Prepared c (mapOf c) ns (length ns * blockSize (geometryOf c)) r
+  pub comes-to : Prepared c (mapOf c) ns (length ns * blockSize (geometryOf c)) r

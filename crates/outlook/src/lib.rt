@@ -1,4 +1,4 @@
-// A save seen before it is made: what it would get and replace on a card's image, and the count of its stores. What is told comes from `planned`.
+// A save seen before it is made: what it would get and replace on a card's image, and the count of its stores. What is told comes from `foresee`.
 use cardfile::fetch;
 use cardfile::is_long_enough;
 use cardfile::refuse;
@@ -15,7 +15,7 @@ ghost use lib.ListN.{length};
 ghost use Rattle.outlook.specs.Foreseen.{Foreseen};
 
 // What a commit of the numbers comes to on this card, with the map that the card gives and data of the right length.
-pub fn planned(card: &[u8], numbers: &[u64]) -> Saving
+pub fn foresee(card: &[u8], numbers: &[u64]) -> Saving
     requires { ⌜ length (now numbers) ≤ 256 ⌝ }
     ensures { λ r. ⌜ Foreseen (now (card .entry)) (now (numbers .entry)) r ⌝ }
 {
@@ -78,7 +78,7 @@ fn total(m: u64) {
 fn tell(path: &[u8], card: &[u8], numbers: &[u64])
     requires { ⌜ length (now numbers) ≤ 256 ⌝ }
 {
-    let s = planned(card, numbers);
+    let s = foresee(card, numbers);
     if s.refusal != 0 {
         refuse(path, card, s.refusal);
         return;

@@ -31,7 +31,7 @@ use Rattle.plan.proofs.Bounds.{Passed, passed, few-numbers}
 use Rattle.plan.proofs.Count.{runs-count}
 use Rattle.plan.proofs.Order.{plan-ready, admitted-long, admitted-keyed, admitted-map, admitted-room}
 use Rattle.plan.proofs.Room.{enough-free, taken-block}
-use Rattle.preview.specs.Told.{Told}
+use Rattle.preview.specs.ToldBlocks.{ToldBlocks}
 
 pub tell-start : (ps xs : List ℕ) (k : ℕ) → k < 0 → getD xs k 0 ≡ getD ps k 0
 tell-start ps xs k l = absurd (omega arith)
@@ -44,7 +44,7 @@ tell-turn ps xs i v l e h k j = ⊎-elim
     (λ n. getD-set-other xs i k v 0 n ∙ h k (omega arith))
     (same-or-other k i)
 
-pub tell-end : (ps xs ys : List ℕ) (i : ℕ) → length ys ≤ i → length ys ≡ length xs → ((k : ℕ) → k < i → getD ys k 0 ≡ getD ps k 0) → Told ps xs ys
+pub tell-end : (ps xs ys : List ℕ) (i : ℕ) → length ys ≤ i → length ys ≡ length xs → ((k : ℕ) → k < i → getD ys k 0 ≡ getD ps k 0) → ToldBlocks ps xs ys
 tell-end ps xs ys i l e h = record { sized = e; listed = λ k j. h k (omega arith) }
 
 -- the length that is asked for
@@ -106,7 +106,7 @@ module _ (c : List ℕ) (m : Map) (ns bs out : List ℕ) (size : ℕ) (e : size 
         preview-ready = plan-ready g c ns (preview-fitted .good) (a .map) own room start b
 
         pub preview-done : (n : ℕ) (t : Taken) (told : List ℕ) → n ≡ length ns * (blockSize g / 8 + 4) + 1 → Took (a .map) start (length ns) t
-            → Told (t .blocks) out told → (Done n ≡ previewAnswer c m ns bs out) × (told ≡ blocksAfter c m ns bs out)
+            → ToldBlocks (t .blocks) out told → (Done n ≡ previewAnswer c m ns bs out) × (told ≡ blocksAfter c m ns bs out)
         unfolding previewAnswer blocksAfter commitWork storesOf
         preview-done n t told k w h =
             let f = eq-eqb _ _ none in

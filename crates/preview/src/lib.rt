@@ -7,7 +7,7 @@ ghost use Prim.Native.Nat.{_≤_};
 ghost use lib.ListN.{length};
 ghost use lib.Dec.{eqb};
 ghost use Rattle.protocol.specs.Preview.{previewAnswer, blocksAfter};
-ghost use Rattle.preview.specs.Told.{Told};
+ghost use Rattle.preview.specs.ToldBlocks.{ToldBlocks};
 
 fn wide(x: u8) -> u32
     ensures { λ r. ⌜ r ≡ x ⌝ }
@@ -18,7 +18,7 @@ fn wide(x: u8) -> u32
 // Tells the data blocks that were found, each as a number of its own.
 fn tell(found: &[u8; 128], blocks: &mut [u32])
     requires { ⌜ length (now blocks) ≤ 128 ⌝ }
-    ensures { λ _. ⌜ Told (now (found .entry)) (now (blocks .entry)) (now (blocks .exit)) ⌝ }
+    ensures { λ _. ⌜ ToldBlocks (now (found .entry)) (now (blocks .entry)) (now (blocks .exit)) ⌝ }
 {
     let mut i: usize = 0;
     while i < blocks.len() {
@@ -29,7 +29,7 @@ fn tell(found: &[u8; 128], blocks: &mut [u32])
 
 // The data's length, but where the output has not n numbers that of no n blocks, so that it is refused with 9 in its turn: 8 has then seen to it
 // that there are numbers.
-fn asked(n: usize, told: usize, long: usize) -> usize
+fn size_asked(n: usize, told: usize, long: usize) -> usize
     ensures { λ r. ⌜ r ≡ cond (eqb told n) long 0 ⌝ }
 {
     if told == n { long } else { 0 }
@@ -42,7 +42,7 @@ pub fn preview(card: &[u8], map: Map, numbers: &[u64], data: &[u8], blocks: &mut
     ensures blocks { λ r. ⌜ now (blocks .exit) ≡ blocksAfter (now (card .entry)) map (now (numbers .entry)) (now («data» .entry)) (now (blocks .entry)) ⌝ }
 {
     let n = numbers.len();
-    let size = asked(n, blocks.len(), data.len());
+    let size = size_asked(n, blocks.len(), data.len());
     let mut ids = [0u32; 128];
     let mut currents = [0u32; 128];
     let a = plan::admit(card, map, numbers, size, &mut ids, &mut currents);

@@ -24,7 +24,7 @@ use Rattle.protocol.specs.Check.{refuse, _orElse_, fitRefusal, cardRefus
 use Rattle.protocol.specs.Store.{card, Work, madeOn, flat, storesOf, answerOf, afterOn}
 use Rattle.protocol.specs.Map.{mapRefusal}
 use Rattle.protocol.specs.Commit.{numberOf, newBlock, entryFound, logEntry, commitRuns, countFits, dataFits, numbersFit, numbersApart, roomFor, saveRefusal, commitRefusal, commitWork}
-use Rattle.protocol.specs.Preview.{lengthsFit, previewRefusal, previewAnswer, blocksOf, blocksAfter, Ample, Stands, Foretold}
+use Rattle.protocol.specs.Preview.{lengthsFit, previewRefusal, previewAnswer, blocksOf, blocksAfter, AnswersAlike, Stands, Foretold}
 use Rattle.protocol.proofs.Below.{either, and-left, and-right, last-or-before}
 use Rattle.protocol.proofs.Checks.{orElse-none, refuse-none}
 use Rattle.protocol.proofs.Committed.{e-below, commit-entries, commit-done}
@@ -75,21 +75,21 @@ module _ (c : List ℕ) (m : Map) (ns bs out : List ℕ) where
   abbrev behind : ℕ
   behind = refuse 10 (numbersFit g ns) orElse refuse 11 (numbersApart ns) orElse refuse 14 (roomFor g c (length ns))
 
-  asked : (a b : Bool) → (countFits g ns ≡ true → a ≡ b)
+  refusals-alike : (a b : Bool) → (countFits g ns ≡ true → a ≡ b)
       → fitRefusal c orElse cardRefusal g c orElse mapRefusal c m orElse refuse 8 (countFits g ns) orElse refuse 9 a orElse behind
       ≡ fitRefusal c orElse cardRefusal g c orElse mapRefusal c m orElse refuse 8 (countFits g ns) orElse refuse 9 b orElse behind
-  asked a b f = ap (λ (r : ℕ). fitRefusal c orElse cardRefusal g c orElse mapRefusal c m orElse r) (behind-eight (countFits g ns) a b behind f)
+  refusals-alike a b f = ap (λ (r : ℕ). fitRefusal c orElse cardRefusal g c orElse mapRefusal c m orElse r) (behind-eight (countFits g ns) a b behind f)
 
   -- an output of n numbers is refused as commit is
   pub refusal-same : length out ≡ length ns → previewRefusal c m ns bs out ≡ commitRefusal c m ns bs
   unfolding previewRefusal commitRefusal saveRefusal lengthsFit
-  refusal-same e = asked (lengthsFit g ns bs out) (dataFits g ns bs) (λ t. and-true (dataFits g ns bs) _ (eq-eqb _ _ e))
+  refusal-same e = refusals-alike (lengthsFit g ns bs out) (dataFits g ns bs) (λ t. and-true (dataFits g ns bs) _ (eq-eqb _ _ e))
 
   -- any other as a commit of no data is: 8 has seen to it that there are numbers
   pub refusal-nine : (length out ≡ length ns → ⊥) → previewRefusal c m ns bs out ≡ commitRefusal c m ns []
   unfolding previewRefusal commitRefusal saveRefusal lengthsFit dataFits countFits blockSize
   refusal-nine h =
-      asked (lengthsFit g ns bs out) (dataFits g ns [])
+      refusals-alike (lengthsFit g ns bs out) (dataFits g ns [])
       (λ t.
       let n : length ns ≡ 0 → ⊥ = eqb-false _ _ (not-true _ (and-left _ _ t)) in
       let some : 1 ≤ length ns = omega arith in
@@ -121,9 +121,9 @@ module _ (c : List ℕ) (m : Map) (ns bs out : List ℕ) where
       let f = orElse-none (refuse 9 (lengthsFit g ns bs out)) _ e .0 in
       eqb-true _ _ (and-right (dataFits g ns bs) _ (refuse-none 9 _ (omega arith) f))
 
-pub ample : Ample
+pub answers-alike : AnswersAlike
 unfolding previewAnswer answerOf commitWork
-ample c m ns bs out a e l =
+answers-alike c m ns bs out a e l =
     let r = refusal-same c m ns bs out e in
     let t = le-ltb a (storesOf (commitWork c m ns bs)) l in
     λ i. cond (eqb (r i) 0) (cond (sym t i) Cut (Done (storesOf (commitWork c m ns bs)))) (Refused (r i))
@@ -134,10 +134,10 @@ module _ {g : Geometry} {row : ℕ → List ℕ} {c d : List ℕ} (ns bs : List 
   abbrev after : List ℕ
   after = madeOn card (flat (commitRuns g c ns bs)) c
 
-  stands : (j : ℕ) → j < length ns → (usedAt g after (entryFound g c ns j) ≡ true) × (entryAt g after (entryFound g c ns j) .current ≡ newBlock g c j)
+  stands-at : (j : ℕ) → j < length ns → (usedAt g after (entryFound g c ns j) ≡ true) × (entryAt g after (entryFound g c ns j) .current ≡ newBlock g c j)
       → Stands g after ns bs j (newBlock g c j)
   unfolding currentOf logEntry switched
-  stands j l (u, k) =
+  stands-at j l (u, k) =
       let x = commit-entries ns bs v p in
       let i = entryFound g c ns j in
       let b = numberOf ns j in
@@ -162,11 +162,11 @@ module _ (c : List ℕ) (m : Map) (ns bs : List ℕ) (z : commitRefusal c m ns b
       let v = lawful w s in
       let p = commit-passed v m ns bs z in
       subst (λ (y : Geometry). Stands y (after ns bs v p) ns bs j (newBlock g c j)) (sym (geometry-is (commit-done ns bs v p .0)))
-      (stands ns bs v p j l (new-used ns bs w v p j l))
+      (stands-at ns bs v p j l (new-used ns bs w v p j l))
 
-pub foretold : Foretold
+pub save-foretold : Foretold
 unfolding blocksAfter commitWork storesOf
-foretold c m ns bs out n a e l = go (answered a w)
+save-foretold c m ns bs out n a e l = go (answered a w)
   where
     w : Work
     w = commitWork c m ns bs

@@ -49,8 +49,8 @@ blocksAfter c m ns bs out = cond (eqb (previewRefusal c m ns bs out) 0) (blocksO
 -- ---- what is claimed of it
 
 -- with an output of n numbers the answer is commit's, under every allowance that is ample
-abbrev pub Ample : Type 0
-Ample = (c : List ℕ) (m : Map) (ns bs out : List ℕ) (a : ℕ) → length out ≡ length ns → storesOf (commitWork c m ns bs) ≤ a
+abbrev pub AnswersAlike : Type 0
+AnswersAlike = (c : List ℕ) (m : Map) (ns bs out : List ℕ) (a : ℕ) → length out ≡ length ns → storesOf (commitWork c m ns bs) ≤ a
     → previewAnswer c m ns bs out ≡ answerOf a (commitWork c m ns bs)
 
 -- on the card c number i of a save is cached in data block p, which holds the bytes given for it

@@ -102,7 +102,7 @@ pub fn fault(fd: i32, number: u8, f: Fault) {
 }
 
 // What is asked for and cannot be.
-fn asked(fd: i32, number: u8) {
+fn unmet(fd: i32, number: u8) {
     match number {
         3 => say(fd, b"the disk's length is not D times B"),
         7 => say(fd, b"the card is not settled and must be recovered first"),
@@ -116,6 +116,6 @@ fn asked(fd: i32, number: u8) {
 // A refusal that is no fault of the card by itself: 3, 7, 8, 10, 11 or 14.
 pub fn refusal(fd: i32, number: u8) {
     lead(fd, number);
-    asked(fd, number);
+    unmet(fd, number);
     cause(fd, number);
 }

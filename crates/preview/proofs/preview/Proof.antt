@@ -4,8 +4,8 @@ use Rattle.preview.proofs.Answered.{preview-refused, preview-few, previ
 use Rattle.preview.proofs.preview.Statement.{statement}
 use Rattle.preview.proofs.preview.Tie as tie
 
-asked-requires : tie.Need-asked-requires
-asked-requires c κs = search needs
+size-asked-requires : tie.Need-size-asked-requires
+size-asked-requires c κs = search needs
 
 admit-requires : tie.Need-admit-requires
 admit-requires c κs = search needs
@@ -13,7 +13,7 @@ admit-requires c κs = search needs
 returns : tie.Need-returns
 returns c =
     let a = c .before .before in
-    preview-refused _ _ _ _ _ _ (a .before .before .before .asked .ensures) _ _ _ (a .admit .ensures) (c .if1 .taken)
+    preview-refused _ _ _ _ _ _ (a .before .before .before .size-asked .ensures) _ _ _ (a .admit .ensures) (c .if1 .taken)
 
 geometry-of-requires : tie.Need-geometry-of-requires
 geometry-of-requires c κs =
@@ -21,7 +21,7 @@ geometry-of-requires c κs =
     let a = e .before .before in
     let k = a .before .before .before in
     let s = k .before .before .before .before .before in
-    preview-long _ _ _ (s .args .«data» .now) (s .args .blocks .now) _ (k .asked .ensures) _ _ _ (a .admit .ensures) (e .if1 .left)
+    preview-long _ _ _ (s .args .«data» .now) (s .args .blocks .now) _ (k .size-asked .ensures) _ _ _ (a .admit .ensures) (e .if1 .left)
 
 search-start-requires : tie.Need-search-start-requires
 search-start-requires c κs =
@@ -29,7 +29,7 @@ search-start-requires c κs =
     let a = e .before .before in
     let k = a .before .before .before in
     let s = k .before .before .before .before .before in
-    preview-fitted _ _ _ (s .args .«data» .now) (s .args .blocks .now) _ (k .asked .ensures) _ _ _ (a .admit .ensures) (e .if1 .left) _ (c .geometry-of .ensures)
+    preview-fitted _ _ _ (s .args .«data» .now) (s .args .blocks .now) _ (k .size-asked .ensures) _ _ _ (a .admit .ensures) (e .if1 .left) _ (c .geometry-of .ensures)
 
 take-requires : tie.Need-take-requires
 take-requires c κs =
@@ -38,7 +38,7 @@ take-requires c κs =
     let a = e .before .before in
     let k = a .before .before .before in
     let s = k .before .before .before .before .before in
-    preview-ready _ _ _ (s .args .«data» .now) (s .args .blocks .now) _ (k .asked .ensures) _ _ _ (a .admit .ensures) (e .if1 .left) _
+    preview-ready _ _ _ (s .args .«data» .now) (s .args .blocks .now) _ (k .size-asked .ensures) _ _ _ (a .admit .ensures) (e .if1 .left) _
     (g .geometry-of .ensures) _ (c .search-start .ensures)
 
 tell-requires : tie.Need-tell-requires
@@ -47,7 +47,7 @@ tell-requires c κs =
     let a = e .before .before in
     let k = a .before .before .before in
     let s = k .before .before .before .before .before in
-    preview-few _ _ _ (s .args .«data» .now) (s .args .blocks .now) _ (k .asked .ensures) _ _ _ (a .admit .ensures) (e .if1 .left)
+    preview-few _ _ _ (s .args .«data» .now) (s .args .blocks .now) _ (k .size-asked .ensures) _ _ _ (a .admit .ensures) (e .if1 .left)
 
 count-of-requires : tie.Need-count-of-requires
 count-of-requires c κs =
@@ -56,7 +56,7 @@ count-of-requires c κs =
     let a = e .before .before in
     let k = a .before .before .before in
     let s = k .before .before .before .before .before in
-    preview-counts _ _ _ (s .args .«data» .now) (s .args .blocks .now) _ (k .asked .ensures) _ _ _ (a .admit .ensures) (e .if1 .left) _
+    preview-counts _ _ _ (s .args .«data» .now) (s .args .blocks .now) _ (k .size-asked .ensures) _ _ _ (a .admit .ensures) (e .if1 .left) _
     (g .geometry-of .ensures)
 
 same-length : tie.Need-same-length
@@ -72,14 +72,14 @@ returns-2 c =
     let a = e .before .before in
     let k = a .before .before .before in
     let s = k .before .before .before .before .before in
-    preview-done _ _ _ (s .args .«data» .now) (s .args .blocks .now) _ (k .asked .ensures) _ _ _ (a .admit .ensures) (e .if1 .left) _
+    preview-done _ _ _ (s .args .«data» .now) (s .args .blocks .now) _ (k .size-asked .ensures) _ _ _ (a .admit .ensures) (e .if1 .left) _
     (g .geometry-of .ensures) _ (u .search-start .ensures) _ _ _ (c .count-of .ensures) (w .take .ensures) (t .tell .ensures)
 
 pub preview-spec : {M : Type 1} → statement M
 preview-spec =
     tie.close
     (tie.spec
-    asked-requires
+    size-asked-requires
     admit-requires
     returns
     geometry-of-requires

@@ -1,9 +1,9 @@
--- `planned` answers the refusal of a card that gives no map, and else what `plan::prepare` makes of the card's own map.
+-- `foresee` answers the refusal of a card that gives no map, and else what `plan::prepare` makes of the card's own map.
 use mathlib.Core.Path.{sym, _∙_}
 use borrow.Author.Needs.{needs}
 use Rattle.outlook.proofs.Laws.{made-long, made-good, foreseen-refused, foreseen-planned}
-use Rattle.outlook.proofs.planned.Statement.{statement}
-use Rattle.outlook.proofs.planned.Tie as tie
+use Rattle.outlook.proofs.foresee.Statement.{statement}
+use Rattle.outlook.proofs.foresee.Tie as tie
 
 geometry-of-requires : tie.Need-geometry-of-requires
 geometry-of-requires c κs = let a = c .before in made-long _ _ (sym (a .map .given .1) ∙ a .before .before .make-map .ensures)
@@ -25,8 +25,8 @@ returns-2 c =
     foreseen-planned _ _ (sym (a .map .given .1) ∙ a .before .before .make-map .ensures) _ _ _ _ (b .before .geometry-of .ensures) (b .block-offset .ensures)
     (c .prepare .ensures)
 
-pub planned-spec : {M : Type 1} → statement M
-planned-spec =
+pub foresee-spec : {M : Type 1} → statement M
+foresee-spec =
     tie.close
     (tie.spec
     (λ c κs. search needs)
