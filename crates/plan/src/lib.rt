@@ -280,7 +280,7 @@ pub struct Admitted {
     pub map: Map,
 }
 
-fn turned_away(refusal: u8) -> Admitted
+fn not_admitted(refusal: u8) -> Admitted
     ensures { λ r. ⌜ r .refusal ≡ refusal ⌝ }
 {
     Admitted {
@@ -304,15 +304,15 @@ fn examine(
 {
     let v = checks::inspect(g, card, ids, currents);
     if v.refusal != 0 {
-        return turned_away(v.refusal);
+        return not_admitted(v.refusal);
     }
     if !v.settled {
-        return turned_away(7);
+        return not_admitted(7);
     }
     let marks = v.marks;
     let own = checks::map_of(g, &marks);
     if !freemap::same(map, own) {
-        return turned_away(15);
+        return not_admitted(15);
     }
     Admitted {
         refusal: save_refusal(g, own, numbers, size),
@@ -334,7 +334,7 @@ pub fn admit(
 {
     let misfit = ring::fit_refusal(card);
     if misfit != 0 {
-        return turned_away(misfit);
+        return not_admitted(misfit);
     }
     examine(
         ring::geometry_of(card),

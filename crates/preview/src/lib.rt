@@ -27,8 +27,8 @@ fn tell(found: &[u8; 128], blocks: &mut [u32])
     }
 }
 
-// The data's length, but where the output has not n numbers that of no n blocks, so that it is refused with 9 in its turn: 8 has then seen to it
-// that there are numbers.
+// The data's length, or 0 where the output is not of n numbers: no n blocks are so short, so `admit` refuses it with 9 in its turn. Of no numbers
+// it asks 8 first.
 fn size_asked(n: usize, told: usize, long: usize) -> usize
     ensures { λ r. ⌜ r ≡ cond (eqb told n) long 0 ⌝ }
 {

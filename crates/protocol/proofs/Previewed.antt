@@ -24,7 +24,7 @@ use Rattle.protocol.specs.Check.{refuse, _orElse_, fitRefusal, cardRefus
 use Rattle.protocol.specs.Store.{card, Work, madeOn, flat, storesOf, answerOf, afterOn}
 use Rattle.protocol.specs.Map.{mapRefusal}
 use Rattle.protocol.specs.Commit.{numberOf, newBlock, entryFound, logEntry, commitRuns, countFits, dataFits, numbersFit, numbersApart, roomFor, saveRefusal, commitRefusal, commitWork}
-use Rattle.protocol.specs.Preview.{lengthsFit, previewRefusal, previewAnswer, blocksOf, blocksAfter, AnswersAlike, Stands, Foretold}
+use Rattle.protocol.specs.Preview.{lengthsFit, previewRefusal, previewAnswer, blocksOf, blocksAfter, AnswersAlike, MisfitAlike, Stands, Foretold}
 use Rattle.protocol.proofs.Below.{either, and-left, and-right, last-or-before}
 use Rattle.protocol.proofs.Checks.{orElse-none, refuse-none}
 use Rattle.protocol.proofs.Committed.{e-below, commit-entries, commit-done}
@@ -61,6 +61,10 @@ and-true : (a b : Bool) → b ≡ true → a && b ≡ a
 and-true true b e = e
 and-true false b e = refl
 
+and-false : (a b : Bool) → b ≡ false → a && b ≡ false
+and-false true b e = e
+and-false false b e = refl
+
 -- behind 8, what is asked for 9 matters only where 8 is not given
 behind-eight : (t a b : Bool) (r : ℕ) → (t ≡ true → a ≡ b) → refuse 8 t orElse refuse 9 a orElse r ≡ refuse 8 t orElse refuse 9 b orElse r
 unfolding refuse _orElse_
@@ -80,12 +84,18 @@ module _ (c : List ℕ) (m : Map) (ns bs out : List ℕ) where
       ≡ fitRefusal c orElse cardRefusal g c orElse mapRefusal c m orElse refuse 8 (countFits g ns) orElse refuse 9 b orElse behind
   refusals-alike a b f = ap (λ (r : ℕ). fitRefusal c orElse cardRefusal g c orElse mapRefusal c m orElse r) (behind-eight (countFits g ns) a b behind f)
 
+  -- an output not of n numbers is refused as data is that is not of n blocks
+  refusal-misfit : (ds : List ℕ) → (length out ≡ length ns → ⊥) → dataFits g ns ds ≡ false → previewRefusal c m ns bs out ≡ commitRefusal c m ns ds
+  unfolding previewRefusal commitRefusal saveRefusal lengthsFit
+  refusal-misfit ds h f =
+      refusals-alike (lengthsFit g ns bs out) (dataFits g ns ds) (λ t. and-false (dataFits g ns bs) _ (ne-eqb _ _ h) ∙ sym f)
+
   -- an output of n numbers is refused as commit is
   pub refusal-same : length out ≡ length ns → previewRefusal c m ns bs out ≡ commitRefusal c m ns bs
   unfolding previewRefusal commitRefusal saveRefusal lengthsFit
   refusal-same e = refusals-alike (lengthsFit g ns bs out) (dataFits g ns bs) (λ t. and-true (dataFits g ns bs) _ (eq-eqb _ _ e))
 
-  -- any other as a commit of no data is: 8 has seen to it that there are numbers
+  -- any other as a commit of no data is, of no numbers too: behind 8 there are numbers
   pub refusal-nine : (length out ≡ length ns → ⊥) → previewRefusal c m ns bs out ≡ commitRefusal c m ns []
   unfolding previewRefusal commitRefusal saveRefusal lengthsFit dataFits countFits blockSize
   refusal-nine h =
@@ -94,11 +104,7 @@ module _ (c : List ℕ) (m : Map) (ns bs out : List ℕ) where
       let n : length ns ≡ 0 → ⊥ = eqb-false _ _ (not-true _ (and-left _ _ t)) in
       let some : 1 ≤ length ns = omega arith in
       let long : 1 * 1 ≤ length ns * blockSize g = mul-le-mul some (pow-pos (g .k)) in
-      none (dataFits g ns bs) _ (ne-eqb _ _ h) ∙ sym (ne-eqb 0 (length ns * blockSize g) (λ z. omega arith)))
-    where
-      none : (a b : Bool) → b ≡ false → a && b ≡ false
-      none true b e = e
-      none false b e = refl
+      and-false (dataFits g ns bs) _ (ne-eqb _ _ h) ∙ sym (ne-eqb 0 (length ns * blockSize g) (λ z. omega arith)))
 
   -- a preview that answers done has passed every check, and tells commit's count
   done-passed : (n : ℕ) → previewAnswer c m ns bs out ≡ Done n → (previewRefusal c m ns bs out ≡ 0) × (storesOf (commitWork c m ns bs) ≡ n)
@@ -127,6 +133,21 @@ answers-alike c m ns bs out a e l =
     let r = refusal-same c m ns bs out e in
     let t = le-ltb a (storesOf (commitWork c m ns bs)) l in
     λ i. cond (eqb (r i) 0) (cond (sym t i) Cut (Done (storesOf (commitWork c m ns bs)))) (Refused (r i))
+
+pub misfit-alike : MisfitAlike
+unfolding previewAnswer commitWork
+misfit-alike c m ns bs ds out a h f = go (answered a (commitWork c m ns ds))
+  where
+    same : previewRefusal c m ns bs out ≡ commitRefusal c m ns ds
+    same = refusal-misfit c m ns bs out ds h f
+
+    refuses : previewRefusal c m ns bs out ≡ 0 → ⊥
+    refuses z = h (passed-length c m ns bs out z)
+
+    go : Answered a (commitWork c m ns ds) → previewAnswer c m ns bs out ≡ answerOf a (commitWork c m ns ds)
+    go (refused x q k) = rw (ne-eqb _ _ refuses) (ap Refused same ∙ sym q)
+    go (cut x l q k) = absurd (refuses (same ∙ x))
+    go (done x q k) = absurd (refuses (same ∙ x))
 
 -- ---- where the blocks stand
 

@@ -1,7 +1,7 @@
 -- Document 02, ask 2: the save preview, by commit's own definitions; and what a preview is worth to whoever saves after it.
 use Prim.Native.Nat.{ℕ, _≤_, _<_}
 use mathlib.Core.List.{List, [], _∷_}
-use mathlib.Core.Bool.{Bool, true, cond, _&&_}
+use mathlib.Core.Bool.{Bool, true, false, cond, _&&_}
 use mathlib.Core.Path.{_≡_}
 use lib.ListN.{length, getD}
 use lib.Dec.{eqb}
@@ -53,14 +53,19 @@ abbrev pub AnswersAlike : Type 0
 AnswersAlike = (c : List ℕ) (m : Map) (ns bs out : List ℕ) (a : ℕ) → length out ≡ length ns → storesOf (commitWork c m ns bs) ≤ a
     → previewAnswer c m ns bs out ≡ answerOf a (commitWork c m ns bs)
 
+-- with any other it is commit's of data that is not n·B bytes: 9, behind what commit asks before 9 and before what it asks after
+abbrev pub MisfitAlike : Type 0
+MisfitAlike = (c : List ℕ) (m : Map) (ns bs ds out : List ℕ) (a : ℕ) → (length out ≡ length ns → ⊥) → dataFits (geometryOf c) ns ds ≡ false
+    → previewAnswer c m ns bs out ≡ answerOf a (commitWork c m ns ds)
+
 -- on the card c number i of a save is cached in data block p, which holds the bytes given for it
 pub record Stands (g : Geometry) (c ns bs : List ℕ) (i p : ℕ) : Type 0 where
   pub isCached : cached g c (numberOf ns i) ≡ true
   pub current : currentOf g c (numberOf ns i) ≡ p
   pub filled : blockAt g c p ≡ dataOf g bs i
 
--- what whoever saves lives by: after a preview that answers done, a commit with the same input and at least that allowance answers the same
--- and puts block i into the data block that the preview told
+-- after a preview that answers done, a commit with the same input and at least that allowance answers the same and puts block i into the data
+-- block that the preview told
 abbrev pub Foretold : Type 0
 Foretold = (c : List ℕ) (m : Map) (ns bs out : List ℕ) (n a : ℕ) → previewAnswer c m ns bs out ≡ Done n → n ≤ a
     → (answerOf a (commitWork c m ns bs) ≡ Done n)

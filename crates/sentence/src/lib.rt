@@ -1,4 +1,4 @@
-// What is wrong with a refused card, and who can cause it.
+// A refusal in a sentence: what is wrong with the card or with what was asked of it, and who can cause it.
 use faults::Fault;
 use listing::count;
 use listing::plain;

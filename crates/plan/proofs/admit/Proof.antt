@@ -8,8 +8,8 @@ use Rattle.plan.proofs.admit.Tie as tie
 fit-refusal-requires : tie.Need-fit-refusal-requires
 fit-refusal-requires c κs = search needs
 
-turned-away-requires : tie.Need-turned-away-requires
-turned-away-requires c κs = search needs
+not-admitted-requires : tie.Need-not-admitted-requires
+not-admitted-requires c κs = search needs
 
 returns : tie.Need-returns
 returns c = search (admit-misfit, needs)
@@ -28,7 +28,7 @@ admit-spec =
     tie.close
     (tie.spec
     fit-refusal-requires
-    turned-away-requires
+    not-admitted-requires
     returns
     geometry-of-requires
     examine-requires

@@ -8,14 +8,14 @@ use Rattle.plan.proofs.examine.Tie as tie
 inspect-requires : tie.Need-inspect-requires
 inspect-requires c κs = search needs
 
-turned-away-requires : tie.Need-turned-away-requires
-turned-away-requires c κs = search needs
+not-admitted-requires : tie.Need-not-admitted-requires
+not-admitted-requires c κs = search needs
 
 returns : tie.Need-returns
 returns c = search (examined-damaged, needs)
 
-turned-away-requires-2 : tie.Need-turned-away-requires-2
-turned-away-requires-2 c κs = search needs
+not-admitted-requires-2 : tie.Need-not-admitted-requires-2
+not-admitted-requires-2 c κs = search needs
 
 returns-2 : tie.Need-returns-2
 returns-2 c = search (examined-unsettled, needs)
@@ -30,8 +30,8 @@ map-of-requires c κs =
 same-requires : tie.Need-same-requires
 same-requires c κs = search needs
 
-turned-away-requires-3 : tie.Need-turned-away-requires-3
-turned-away-requires-3 c κs = search needs
+not-admitted-requires-3 : tie.Need-not-admitted-requires-3
+not-admitted-requires-3 c κs = search needs
 
 returns-3 : tie.Need-returns-3
 returns-3 c = search (examined-other, needs)
@@ -55,13 +55,13 @@ examine-spec =
     tie.close
     (tie.spec
     inspect-requires
-    turned-away-requires
+    not-admitted-requires
     returns
-    turned-away-requires-2
+    not-admitted-requires-2
     returns-2
     map-of-requires
     same-requires
-    turned-away-requires-3
+    not-admitted-requires-3
     returns-3
     save-refusal-requires
     returns-4)
