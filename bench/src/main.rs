@@ -1,6 +1,8 @@
 //! Times of the library in one run: beside a plain copy of the same bytes (the floor), an unproved commit of the same contract and,
-//! where installed, LMDB and libpmemobj. Each figure is the median of many rounds; within a round all take turns.
+//! where installed, LMDB and libpmemobj. Each figure is the median of many rounds; within a round all take turns. With `--count` it
+//! counts instructions instead.
 
+mod count;
 mod stores;
 mod unproved;
 
@@ -392,8 +394,12 @@ fn others(k: u64, rounds: usize) -> Vec<(&'static str, f64)> {
 }
 
 fn main() {
+    let words: Vec<String> = std::env::args().skip(1).collect();
+    if words.first().is_some_and(|word| word == "--count") {
+        return count::run(&words[1..]);
+    }
     stores::persistent();
-    let quick = std::env::args().any(|word| word == "quick");
+    let quick = words.iter().any(|word| word == "quick");
     let rounds = if quick { 20 } else { 1500 };
     println!("The unproved commit equals the library's in {} calls.\n", same_contract());
     measured(9, 128, 16, rounds, KINDS);

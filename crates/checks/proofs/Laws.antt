@@ -1,34 +1,36 @@
--- The pass over the entries: after i of them, check 5 allows each, and their keys are listed. Assumes nothing.
-use Prim.Native.Nat.{ℕ, _+_, _^_, _≤_, _<_}
+-- The pass over the entries: after i of them, check 5 allows each, their numbers stand in chains, and their current blocks are marked.
+-- Assumes nothing.
+use Prim.Native.Nat.{ℕ, _+_, _-_, _≤_, _<_}
 use mathlib.Core.List.{List}
 use mathlib.Core.Bool.{Bool, true, false, not, _&&_}
 use mathlib.Core.Logic.{⊎-elim}
 use mathlib.Core.Path.{_≡_, refl, sym, ap, _∙_, subst}
-use native.Mathlib.Nat.{not-suc-le-zero, add-zero}
+use native.Mathlib.Nat.{not-suc-le-zero}
 use native.Mathlib.Numerals.{add-one}
 use native.Mathlib.Omega.{arith}
-use lib.ListN.{length, getD, set, length-set}
-use lib.Seq.{getD-set-same, getD-set-other}
 use lib.Bits.{bitOr}
-use lib.Dec.{eqb}
-use borrow.Author.Tests.{not-true, not-false}
-use Rattle.numbers.specs.Bytes.{numberAt, Bytes}
+use lib.Dec.{eqb, leb}
+use lib.ListN.{length, getD, set}
+use lib.Seq.{getD-set-same, getD-set-other}
+use borrow.Author.Tests.{lt-leb}
 use Rattle.protocol.specs.declared.Geometry.{Geometry}
-use Rattle.protocol.specs.declared.Entry.{Entry}
-use Rattle.protocol.specs.Below.{allBelow}
-use Rattle.protocol.specs.Layout.{entryPlace}
-use Rattle.protocol.specs.Entry.{unused, entryAt, inUse, hasLogRole, isUnused, goodEntry}
-use Rattle.protocol.specs.Ring.{usedAt, roleFreeAt}
+use Rattle.protocol.specs.declared.Map.{Map}
+use Rattle.protocol.specs.Below.{allBelow, anyBelow}
+use Rattle.protocol.specs.Entry.{entryAt, unused}
+use Rattle.protocol.specs.Map.{mapBy, isMarked, freeCount}
+use Rattle.protocol.specs.Ring.{roleFreeAt}
 use Rattle.protocol.specs.Check.{goodEntryAt, entriesFit}
 use Rattle.protocol.proofs.Below.{absurd-bool, last-or-before, all-more, all-fails, all-done}
-use Rattle.protocol.proofs.Checks.{entry-quarters}
+use Rattle.freemap.specs.Bits.{withBit}
 use Rattle.ring.specs.Fitted.{Fitted}
-use Rattle.ring.proofs.Laws.{Room, room}
-use Rattle.checks.specs.Keys.{NONE, key, numberKey, currentKey, keyAt, Lists}
-use Rattle.checks.specs.Quarters.{quartersEntry, Quarter}
-use Rattle.checks.specs.Passed.{MarkedBy, Decoded}
-use Rattle.checks.proofs.Quarters.{zeroQuarters, quarters-unused, quarters-current, quarters-key, quarters-number, quarters-role}
-use Rattle.checks.proofs.Marking.{marked-skip, marked-more, marked-end}
+use Rattle.ring.proofs.Laws.{fitted-blocks, fitted-disk}
+use Rattle.checks.specs.declared.Seen.{Seen}
+use Rattle.checks.specs.Keys.{NONE, numberKey, currentKey, keyed, keyAt, Lists}
+use Rattle.checks.specs.Chain.{Blank, Chains, Entered}
+use Rattle.checks.specs.Passed.{Decoded}
+use Rattle.checks.proofs.Chain.{chains-start, chains-skip, chains-more, entered-link, Alone, alone-start, alone-skip, alone-more, alone-distinct}
+use Rattle.checks.proofs.Fields.{Used, used-allowed, used-number, used-current, used-role, blank-allowed, blank-number, blank-current, blank-role}
+use Rattle.checks.proofs.Tally.{Tally, tally-start, tally-skip, tally-more, tally-end, beyond-count, map-given}
 
 -- ---- a row of keys
 
@@ -46,138 +48,105 @@ lists-more f xs i k l h e j b =
 pub lists-all : (f : ℕ → ℕ) (xs : List ℕ) (i n : ℕ) → n ≤ i → Lists f xs i → Lists f xs n
 lists-all f xs i n l h j b = h j (omega arith)
 
+-- ---- the pass
+
 -- what the pass has shown after i entries
-pub record Listed (g : Geometry) (c : List ℕ) (i : ℕ) (quiet : Bool) (ns cs : List ℕ) : Type 0 where
+pub record Passing (g : Geometry) (c xs : List ℕ) (i : ℕ) (quiet : Bool) (shared count : ℕ) (m : Map) : Type 0 where
   pub good : allBelow (goodEntryAt g c) i ≡ true
   pub silent : quiet ≡ allBelow (roleFreeAt g c) i
-  pub numbers : Lists (numberKey g c) ns i
-  pub currents : Lists (currentKey g c) cs i
-  pub long : (length ns ≡ 128) × (length cs ≡ 128)
+  pub chains : Chains (numberKey g c) xs i
+  pub alone : Alone (numberKey g c) i shared
+  pub tally : Tally (leb (g .blocks)) (currentKey g c) i m count
+  pub most : count ≤ 128 - g .blocks + i
 
-pub listed-start : (g : Geometry) (c ns cs : List ℕ) → length ns ≡ 128 → length cs ≡ 128 → Listed g c 0 true ns cs
+pub pass-start : (g : Geometry) (c xs : List ℕ) (m : Map) → Fitted g c → Blank xs → m ≡ mapBy (leb (g .blocks))
+    → Passing g c xs 0 true 0 (128 - g .blocks) m
 unfolding allBelow
-listed-start g c ns cs a b = record {
+pass-start g c xs m f e h = record {
   good = refl;
   silent = refl;
-  numbers = lists-none (numberKey g c) ns;
-  currents = lists-none (currentKey g c) cs;
-  long = (a, b);
+  chains = chains-start (numberKey g c) xs e;
+  alone = alone-start (numberKey g c);
+  tally = tally-start (leb (g .blocks)) (currentKey g c) m (128 - g .blocks) h (sym (beyond-count (g .blocks) 128 (fitted-blocks g c f)));
+  most = omega arith;
 }
 
-listed-step : (g : Geometry) (c : List ℕ) (i : ℕ) (quiet r : Bool) (ns cs : List ℕ) (kn kc : ℕ) → i < 128 → Listed g c i quiet ns cs
-    → goodEntryAt g c i ≡ true → r ≡ roleFreeAt g c i → kn ≡ numberKey g c i → kc ≡ currentKey g c i
-    → Listed g c (i + 1) (quiet && r) (set ns i kn) (set cs i kc)
+-- one entry more without R, or with it
+silent-more : (g : Geometry) (c : List ℕ) (i : ℕ) (quiet free : Bool) → quiet ≡ allBelow (roleFreeAt g c) i → free ≡ roleFreeAt g c i
+    → quiet && free ≡ allBelow (roleFreeAt g c) (i + 1)
 unfolding allBelow
-listed-step g c i quiet r ns cs kn kc l h good free kn-is kc-is = record {
-  good = all-more (goodEntryAt g c) i (h .good) good;
-  silent = (λ t. h .silent t && free t) ∙ ap (allBelow (roleFreeAt g c)) (sym (add-one i));
-  numbers = lists-more (numberKey g c) ns i kn (omega arith) (h .numbers) kn-is;
-  currents = lists-more (currentKey g c) cs i kc (omega arith) (h .currents) kc-is;
-  long = (length-set ns i kn ∙ h .long .0, length-set cs i kc ∙ h .long .1);
-}
+silent-more g c i quiet free h e = (λ t. h t && e t) ∙ ap (allBelow (roleFreeAt g c)) (sym (add-one i))
 
-and-true : (b : Bool) → b && true ≡ b
+pub and-true : (b : Bool) → b && true ≡ b
 and-true true = refl
 and-true false = refl
 
--- entry i of a card that fits, read as four quarters
-pub record Split (g : Geometry) (c : List ℕ) (i x l p q : ℕ) : Type 0 where
-  pub fitted : Fitted g c
-  pub below : i < g .blocks
-  pub bytes : Bytes c
-  pub first : Quarter g c i 0 x
-  pub second : Quarter g c i 4 l
-  pub third : Quarter g c i 8 p
-  pub fourth : Quarter g c i 12 q
+module _ (g : Geometry) (c xs : List ℕ) (i shared count : ℕ) (quiet : Bool) (m : Map) (fit : Fitted g c) (l : i < g .blocks)
+    (h : Passing g c xs i quiet shared count m) where
+  few : i < 128
+  few = omega (arith, fitted-blocks g c fit)
 
-module _ {g : Geometry} {c : List ℕ} {i x l p q : ℕ} (s : Split g c i x l p q) where
-  quarters-entry : quartersEntry x l p q ≡ entryAt g c i
-  unfolding quartersEntry entryAt entryPlace
-  quarters-entry =
-      let k : Room g c = room g c (s .fitted) in
-      let b : i < g .blocks = s .below in
-      let at : ℕ = entryPlace g i in
-      let x′ : x ≡ numberAt c at 4 = s .first .value ∙ ap (λ (v : ℕ). numberAt c v 4) (add-zero at) in
-      (λ t. quartersEntry (x′ t) (s .second .value t) (s .third .value t) (s .fourth .value t)) ∙ sym (entry-quarters c at (s .bytes) (omega arith))
+  pub pass-unused : entryAt g c i ≡ unused → Passing g c xs (i + 1) quiet shared count m
+  pass-unused e =
+      let n : numberKey g c i ≡ NONE = blank-number g c i e in
+      record {
+        good = all-more (goodEntryAt g c) i (h .good) (blank-allowed g c i e);
+        silent = sym (and-true quiet) ∙ silent-more g c i quiet true (h .silent) (blank-role g c i e);
+        chains = chains-skip (numberKey g c) xs i (h .chains) few (omega arith);
+        alone = alone-skip (numberKey g c) i shared (h .alone) (omega arith);
+        tally = tally-skip (leb (g .blocks)) (currentKey g c) i NONE count m (h .tally) (sym (blank-current g c i e)) (omega arith);
+        most = omega (arith, h .most);
+      }
 
-  small : i < 128
-  small = let k : Room g c = room g c (s .fitted) in let b : i < g .blocks = s .below in omega arith
+  module _ (b q d r : ℕ) (role : Bool) (ys : List ℕ) (m′ : Map) (u : Used g c i b q role) (e : d ≡ q) (w : m′ ≡ withBit m d)
+      (t : Entered xs i b ys r) where
+    below : d < g .blocks
+    below = omega (arith, e, u .allowed .currentBelow, u .current)
 
-  pub listed-unused : {quiet : Bool} {ns cs : List ℕ} → Listed g c i quiet ns cs → zeroQuarters x l p q ≡ true
-      → Listed g c (i + 1) quiet (set ns i NONE) (set cs i NONE)
-  unfolding goodEntryAt goodEntry isUnused roleFreeAt hasLogRole numberKey currentKey usedAt inUse key
-  listed-unused {quiet} {ns} {cs} h e =
-      let z : entryAt g c i ≡ unused = sym quarters-entry ∙ quarters-unused x l p q e in
-      subst (λ (v : Bool). Listed g c (i + 1) v (set ns i NONE) (set cs i NONE)) (and-true quiet)
-      (listed-step g c i quiet true ns cs NONE NONE small h
-      (ap (goodEntry (g .blocks) (g .disk)) z)
-      (sym (ap (λ (e : Entry). not (hasLogRole e)) z))
-      (sym (ap (λ (e : Entry). key (inUse e) (e .number)) z))
-      (sym (ap (λ (e : Entry). key (inUse e) (e .current)) z)))
+    number-below : b < NONE
+    number-below = omega (arith, u .allowed .numberBelow, u .number, fitted-disk g c fit)
 
-  pub listed-bad : (ns cs : List ℕ) {ok : Bool} → ok ≡ goodEntry (g .blocks) (g .disk) (quartersEntry x l p q) → not ok ≡ true
-      → (ms : List ℕ) → Decoded g c ns cs (record { fits = false; quiet = false; again = 0; marks = ms })
-  unfolding entriesFit goodEntryAt
-  listed-bad ns cs {ok} r o ms = record {
-    fits =
-        sym (all-fails (goodEntryAt g c) (g .blocks) i (s .below) (ap (goodEntry (g .blocks) (g .disk)) (sym quarters-entry) ∙ sym r ∙ not-true ok o));
-    quiet = λ h. absurd-bool h refl;
-    numbers = λ h. absurd-bool h refl;
-    currents = λ h. absurd-bool h refl;
-    marked = λ h. absurd-bool h refl;
+    entered : Chains (numberKey g c) ys (i + 1)
+    entered = chains-more (numberKey g c) xs i (h .chains) few b r ys (used-number u) number-below t
+
+    pub pass-used : (quiet′ : Bool) → quiet′ ≡ quiet && not role → Passing g c ys (i + 1) quiet′ (bitOr shared r) (count + 1) m′
+    pass-used quiet′ s = record {
+      good = all-more (goodEntryAt g c) i (h .good) (used-allowed u);
+      silent = s ∙ silent-more g c i quiet (not role) (h .silent) (used-role u);
+      chains = entered;
+      alone =
+          alone-more (numberKey g c) i shared r (h .alone)
+          (entered-link (numberKey g c) xs i (h .chains) few b r ys (used-number u) number-below t);
+      tally =
+          tally-more (leb (g .blocks)) (currentKey g c) i d count m (h .tally) (e ∙ used-current u)
+          (omega (arith, below, fitted-blocks g c fit)) (lt-leb (g .blocks) d below) m′ w;
+      most = omega (arith, h .most);
+    }
+
+  pub pass-bad : (ys : List ℕ) (s : Seen) → goodEntryAt g c i ≡ false → s .fits ≡ false → Decoded g c ys s
+  unfolding entriesFit
+  pass-bad ys s bad o = record {
+    fits = o ∙ sym (all-fails (goodEntryAt g c) (g .blocks) i l bad);
+    quiet = λ t. absurd-bool t o;
+    chains = λ t. absurd-bool t o;
+    alone = λ t. absurd-bool t o;
+    map-is = λ t. absurd-bool t o;
+    most = λ t. absurd-bool t o;
+    once = λ t. absurd-bool t o;
   }
 
-  pub marked-unused : {ms : List ℕ} {a : ℕ} → MarkedBy (currentKey g c) i ms a → zeroQuarters x l p q ≡ true → MarkedBy (currentKey g c) (i + 1) ms a
-  unfolding currentKey usedAt inUse key
-  marked-unused {ms} {a} h e =
-      let z : entryAt g c i ≡ unused = sym quarters-entry ∙ quarters-unused x l p q e in
-      marked-skip (currentKey g c) ms a i NONE h (sym (ap (λ (e : Entry). key (inUse e) (e .current)) z)) (omega arith)
-
-  module _ {ok : Bool} (z : zeroQuarters x l p q ≡ false) (r : ok ≡ goodEntry (g .blocks) (g .disk) (quartersEntry x l p q)) (o : not ok ≡ false) where
-    pub current-few : q < 128
-    current-few =
-        let k : Room g c = room g c (s .fitted) in
-        let d : g .disk ≤ 65536 = omega arith in
-        omega (arith, quarters-current (g .blocks) (g .disk) x l p q d (s .third .below) z (sym r ∙ not-false ok o))
-
-    pub marked-used : {ms : List ℕ} {a : ℕ} (k : ℕ) → MarkedBy (currentKey g c) i ms a → k ≡ q
-        → MarkedBy (currentKey g c) (i + 1) (set ms k 1) (bitOr a (getD ms k 0))
-    unfolding currentKey usedAt quartersEntry
-    marked-used {ms} {a} k h e =
-        let y : Room g c = room g c (s .fitted) in
-        let d : g .disk ≤ 65536 = omega arith in
-        let good : goodEntry (g .blocks) (g .disk) (quartersEntry x l p q) ≡ true = sym r ∙ not-false ok o in
-        marked-more (currentKey g c) ms a i k h
-        (e ∙ quarters-key (g .blocks) (g .disk) x l p q d (s .third .below) z good q ∙ ap (λ (e : Entry). key (inUse e) (e .current)) quarters-entry)
-        (omega (arith, current-few))
-
-  pub listed-used : {quiet : Bool} {ns cs : List ℕ} {ok : Bool} → Listed g c i quiet ns cs → zeroQuarters x l p q ≡ false
-      → ok ≡ goodEntry (g .blocks) (g .disk) (quartersEntry x l p q) → not ok ≡ false
-      → Listed g c (i + 1) (quiet && not (eqb x 0x83000000)) (set ns i l) (set cs i q)
-  unfolding goodEntryAt roleFreeAt numberKey currentKey usedAt quartersEntry
-  listed-used {quiet} {ns} {cs} {ok} h z r o =
-      let k : Room g c = room g c (s .fitted) in
-      let b : p < 2 ^ 32 = s .third .below in
-      let d : g .disk ≤ 65536 = omega arith in
-      let good : goodEntry (g .blocks) (g .disk) (quartersEntry x l p q) ≡ true = sym r ∙ not-false ok o in
-      listed-step g c i quiet (not (eqb x 0x83000000)) ns cs l q small h
-      (ap (goodEntry (g .blocks) (g .disk)) (sym quarters-entry) ∙ good)
-      (quarters-role (g .blocks) (g .disk) x l p q d b z good ∙ ap (λ (e : Entry). not (hasLogRole e)) quarters-entry)
-      (quarters-number (g .blocks) (g .disk) x l p q d b z good
-      ∙ quarters-key (g .blocks) (g .disk) x l p q d b z good (quartersEntry x l p q .number)
-      ∙ ap (λ (e : Entry). key (inUse e) (e .number)) quarters-entry)
-      (quarters-key (g .blocks) (g .disk) x l p q d b z good q ∙ ap (λ (e : Entry). key (inUse e) (e .current)) quarters-entry)
-
-pub listed-end : (g : Geometry) (c : List ℕ) (i : ℕ) (quiet : Bool) (ns cs ms : List ℕ) (x : ℕ) → Listed g c i quiet ns cs
-    → MarkedBy (currentKey g c) i ms x → g .blocks ≤ i → i ≤ g .blocks
-    → Decoded g c ns cs (record { fits = true; quiet = quiet; again = x; marks = ms })
+pub pass-end : (g : Geometry) (c xs : List ℕ) (i shared count : ℕ) (quiet : Bool) (m : Map) → Fitted g c → Passing g c xs i quiet shared count m
+    → g .blocks ≤ i → i ≤ g .blocks
+    → Decoded g c xs (record { fits = true; quiet = quiet; shared = shared; count = count; map = m })
 unfolding entriesFit
-listed-end g c i quiet ns cs ms x h w a b =
+pass-end g c xs i shared count quiet m f h a b =
     let e : i ≡ g .blocks = omega arith in
     record {
       fits = sym (all-done (goodEntryAt g c) (g .blocks) i (h .good) a b);
       quiet = λ t. h .silent ∙ ap (allBelow (roleFreeAt g c)) e;
-      numbers = λ t. lists-all (numberKey g c) ns i (g .blocks) a (h .numbers);
-      currents = λ t. lists-all (currentKey g c) cs i (g .blocks) a (h .currents);
-      marked = λ t. marked-end (currentKey g c) ms x i (g .blocks) w b a;
+      chains = λ t. subst (Chains (numberKey g c) xs) e (h .chains);
+      alone = λ t. alone-distinct (numberKey g c) (g .blocks) shared (subst (λ (n : ℕ). Alone (numberKey g c) n shared) e (h .alone));
+      map-is = λ t. subst (λ (n : ℕ). Tally (leb (g .blocks)) (currentKey g c) n m count) e (h .tally) .map-is ∙ map-given g c;
+      most = λ t. omega (arith, h .most, fitted-blocks g c f);
+      once = λ t. tally-end (leb (g .blocks)) (currentKey g c) i (g .blocks) count (freeCount m) m (h .tally) b a refl;
     }

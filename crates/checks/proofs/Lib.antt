@@ -1,8 +1,8 @@
 pub mod Keys
-pub mod Quarters
-pub mod Marking
 pub mod Chain
+pub mod Fields
+pub mod Tally
 pub mod Settled
 pub mod Laws
 pub mod Order
-pub mod Find
+pub mod Search

@@ -64,11 +64,7 @@ module _ (g : Geometry) (c : List ℕ) (i : ℕ) (e : Entry) (u : Bool) (q : e �
 
 -- ---- check 6
 
--- keys of a listed row are distinct as those it lists
-pub listed-distinct : (f : ℕ → ℕ) (xs : List ℕ) (l n : ℕ) (r : Bool) → Lists f xs n → r ≡ distinct (keyAt xs) l n → r ≡ distinct f l n
-listed-distinct f xs l n r h e = e ∙ distinct-same (keyAt xs) f l n h
-
-module _ (g : Geometry) (c ns : List ℕ) (apart settled : Bool) (h : Comparable g c ns apart settled) where
+module _ (g : Geometry) (c xs : List ℕ) (shared settled : Bool) (h : Comparable g c xs shared settled) where
   abbrev numbersApart : Bool
   numbersApart = distinct (numberKey g c) NONE (g .blocks)
 
@@ -81,29 +77,15 @@ module _ (g : Geometry) (c ns : List ℕ) (apart settled : Bool) (h : Comparable
   three : entriesApart g c ≡ numbersApart && (currentsApart && settledApart)
   three = apart-keys g c (h .fitted .good) (h .fits)
 
-  numbers-are : (r : Bool) → r ≡ distinct (keyAt ns) NONE (g .blocks) → r ≡ numbersApart
-  numbers-are r e = listed-distinct (numberKey g c) ns NONE (g .blocks) r (h .numbers) e
-
-  pub apart-numbers : (r : Bool) → r ≡ distinct (keyAt ns) NONE (g .blocks) → not r ≡ true → false ≡ entriesApart g c
+  pub apart-numbers : (r : Bool) → r ≡ numbersApart → not r ≡ true → false ≡ entriesApart g c
   apart-numbers r e t =
-      let off : numbersApart ≡ false = sym (numbers-are r e) ∙ not-true r t in
+      let off : numbersApart ≡ false = sym e ∙ not-true r t in
       sym (three ∙ rw off)
 
-  pub apart-currents : not apart ≡ true → false ≡ entriesApart g c
-  apart-currents t =
-      let off : currentsApart ≡ false = sym (h .apart-is) ∙ not-true apart t in
-      sym (three ∙ and-fails numbersApart (currentsApart && settledApart) (rw off))
+  pub apart-rest : (t : Bool) → numbersApart ≡ true → t ≡ settledApart → t ≡ entriesApart g c
+  apart-rest t a et = let b : currentsApart ≡ true = h .apart in sym (three ∙ rw (a, b) (sym et))
 
-  pub apart-rest : (r t : Bool) → r ≡ distinct (keyAt ns) NONE (g .blocks) → not r ≡ false → not apart ≡ false → t ≡ settledApart
-      → t ≡ entriesApart g c
-  apart-rest r t er nr na et =
-      let a : numbersApart ≡ true = sym (numbers-are r er) ∙ not-false r nr in
-      let b : currentsApart ≡ true = sym (h .apart-is) ∙ not-false apart na in
-      sym (three ∙ rw (a, b) (sym et))
-
-  pub apart-settled : (r : Bool) → r ≡ distinct (keyAt ns) NONE (g .blocks) → not r ≡ false → not apart ≡ false → settled ≡ true
-      → true ≡ entriesApart g c
-  apart-settled r er nr na t =
+  pub apart-settled : numbersApart ≡ true → settled ≡ true → true ≡ entriesApart g c
+  apart-settled a t =
       let q : isSettled g c ≡ true = sym (h .settled-is) ∙ t in
-      apart-rest r true er nr na
-      (sym (not-false apart na) ∙ h .apart-is ∙ distinct-same (currentKey g c) (settledKey g c) 128 (g .blocks) (settled-keys g c q))
+      apart-rest true a (sym (h .apart) ∙ distinct-same (currentKey g c) (settledKey g c) 128 (g .blocks) (settled-keys g c q))

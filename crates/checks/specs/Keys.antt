@@ -47,11 +47,6 @@ lone f limit i = not (ltb (f i) limit && anyBelow (keyed f (f i)) i)
 unfoldable pub distinct : (ℕ → ℕ) → ℕ → ℕ → Bool
 distinct f limit n = allBelow (lone f limit) n
 
--- v is the key of two of the first n indices
-unfoldable pub twice : (ℕ → ℕ) → ℕ → ℕ → Bool
-twice f v zero = false
-twice f v (suc n) = twice f v n || (anyBelow (keyed f v) n && keyed f v n)
-
 -- the key in a row of keys
 unfoldable pub keyAt : List ℕ → ℕ → ℕ
 keyAt xs i = getD xs i 0

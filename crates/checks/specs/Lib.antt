@@ -1,4 +1,4 @@
 pub mod Keys
 pub mod Chain
-pub mod Quarters
+pub mod Fields
 pub mod Passed

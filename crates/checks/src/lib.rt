@@ -1,24 +1,21 @@
-// Checks 5 to 7 of a card: the lowest refusal that holds, 0 for none, at every row of bytes, however damaged.
+// Checks 5 to 7 of a card: the lowest refusal that holds, 0 for none, at every row of bytes, however damaged; and an index of its numbers.
 use protocol::Entry;
 use protocol::Geometry;
 use protocol::Map;
+use ring::Fit;
 use ring::Window;
 ghost use mathlib.Core.Path.{_≡_};
 ghost use mathlib.Core.Bool.{true, false};
-ghost use mathlib.Core.List.{List};
-ghost use Prim.Native.Nat.{ℕ, _≤_, _<_};
+ghost use Prim.Native.Nat.{_+_, _≤_, _<_};
 ghost use lib.ListN.{length};
-ghost use Rattle.protocol.specs.Below.{anyBelow, firstBelow};
-ghost use Rattle.protocol.specs.Layout.{goodGeometry};
-ghost use Rattle.protocol.specs.Entry.{entryAt, goodEntry};
-ghost use Rattle.protocol.specs.Check.{entriesApart, damageRefusal, cardRefusal};
-ghost use Rattle.protocol.specs.Map.{mapBy, isMarked};
-ghost use Rattle.freemap.specs.Bits.{MarkBytes};
-ghost use Rattle.ring.specs.Fitted.{Fitted, Placed, WindowOf};
-ghost use Rattle.checks.specs.Keys.{NONE, settledKey, undoableEntry, keyed, distinct, keyAt};
-ghost use Rattle.checks.specs.Chain.{Chained};
-ghost use Rattle.checks.specs.Quarters.{quartersEntry, Quarter};
-ghost use Rattle.checks.specs.Passed.{CurrentMarks, Decoded, Comparable, Inspected};
+ghost use Rattle.protocol.specs.Entry.{entryAt};
+ghost use Rattle.protocol.specs.Ring.{findEntry};
+ghost use Rattle.protocol.specs.Check.{entriesFit, entriesApart, damageRefusal, cardRefusal};
+ghost use Rattle.ring.specs.Fitted.{Fitted, Placed, WindowOf, Framed};
+ghost use Rattle.checks.specs.Keys.{NONE, settledKey, undoableEntry, numberKey, keyed, distinct};
+ghost use Rattle.checks.specs.Chain.{lastBelow, Chains, Blank, Entered, Chained};
+ghost use Rattle.checks.specs.Fields.{Field};
+ghost use Rattle.checks.specs.Passed.{Decoded, Comparable, Indexed, Inspected, Examined};
 
 // Entry i of the card.
 pub fn entry_of(g: Geometry, card: &[u8], i: usize) -> Entry
@@ -29,34 +26,13 @@ pub fn entry_of(g: Geometry, card: &[u8], i: usize) -> Entry
     codec::entry_at(card, at as usize)
 }
 
-// The four bytes of entry i that start at its byte `from`.
-fn quarter_of(g: Geometry, card: &[u8], i: usize, from: usize) -> u64
-    requires { ⌜ Fitted g (now card) × (i < g .blocks) × (from ≤ 12) ⌝ }
-    ensures { λ r. ⌜ Quarter g (now (card .entry)) i from r ⌝ }
+// The `width` bytes of entry i that start at its byte `from`.
+fn field_of(g: Geometry, card: &[u8], i: usize, from: usize, width: usize) -> u64
+    requires { ⌜ Fitted g (now card) × (i < g .blocks) × (from + width ≤ 16) × (width ≤ 8) ⌝ }
+    ensures { λ r. ⌜ Field g (now (card .entry)) i from width r ⌝ }
 {
     let at = 128 + 8 * g.slots + 16 * i as u64;
-    numbers::get(card, at as usize + from, 4)
-}
-
-// What check 5 allows, of an entry in its quarters. Each is compared whole, so that the compiler makes one read of it; FRESH passes as
-// the number before 0.
-fn good_quarters(n: u64, d: u64, x: u64, l: u64, p: u64, q: u64) -> bool
-    requires { ⌜ (d ≤ 65536) × (p < 4294967296) ⌝ }
-    ensures { λ r. ⌜ r ≡ goodEntry n d (quartersEntry x l p q) ⌝ }
-{
-    let unused = (x == 0) & ((l == 0) & ((p == 0) & (q == 0)));
-    let allowed = (x == 0x8000_0000) | ((x == 0x8200_0000) | (x == 0x8300_0000));
-    let held = (p + 1) % 0x1_0000_0000 <= n;
-    unused | (allowed & ((l < d) & ((q < n) & held)))
-}
-
-// What one pass over the entries finds: whether check 5 allows them all, whether none has R, a mark for each of their current blocks, and
-// a byte that is 0 where no block came again.
-pub struct Seen {
-    pub fits: bool,
-    pub quiet: bool,
-    pub again: u8,
-    pub marks: [u8; 128],
+    numbers::get(card, at as usize + from, width)
 }
 
 fn narrow(x: u64) -> usize
@@ -65,48 +41,85 @@ fn narrow(x: u64) -> usize
     x as usize
 }
 
-// One pass over the entries, each read once: not 5, the keys of their numbers and current blocks, and the marks of these for check 6.
-fn decode(g: Geometry, card: &[u8], ids: &mut [u32; 128], currents: &mut [u32; 128]) -> Seen
-    requires { ⌜ Fitted g (now card) × (length (now ids) ≡ 128) × (length (now currents) ≡ 128) ⌝ }
-    ensures { λ r. ⌜ Decoded g (now (card .entry)) (now (ids .exit)) (now (currents .exit)) r ⌝ }
+// Puts entry i with the number b at the end of its chain: the index has 512 ends of chains by remainder, and then for each entry the one before
+// it in its chain, as one more than their places, 0 for none. Hands back the one before.
+fn enter(index: &mut [u8; 640], i: usize, b: u64) -> u8
+    requires { ⌜ (length (now index) ≡ 640) × (i < 128) ⌝ }
+    ensures { λ r. ⌜ Entered (now (index .entry)) i b (now (index .exit)) r ⌝ }
+{
+    let r = narrow(b % 512);
+    let before = index[r];
+    index[512 + i] = before;
+    index[r] = i as u8 + 1;
+    before
+}
+
+// What one pass over the entries finds: whether check 5 allows them all, whether none has R, the map of their current blocks and of those that
+// the card does not have, the marks it would have were each another block, and a byte that is 0 where no two numbers share a chain.
+pub struct Seen {
+    pub fits: bool,
+    pub quiet: bool,
+    pub shared: u8,
+    pub count: u64,
+    pub map: Map,
+}
+
+fn misfit() -> Seen
+    ensures { λ r. ⌜ r .fits ≡ false ⌝ }
+{
+    Seen {
+        fits: false,
+        quiet: false,
+        shared: 0,
+        count: 0,
+        map: Map { low: 0, high: 0 },
+    }
+}
+
+// One pass over the entries, each read once. Flag byte and number are read as one word, from which each allowed flag byte is subtracted: what is
+// left is below D only for that flag byte and a number below D. FRESH passes as the number before 0.
+fn decode(g: Geometry, card: &[u8], index: &mut [u8; 640]) -> Seen
+    requires { ⌜ Fitted g (now card) × Blank (now index) ⌝ }
+    ensures { λ r. ⌜ Decoded g (now (card .entry)) (now (index .exit)) r ⌝ }
 {
     let n = g.blocks as usize;
     let mut quiet = true;
-    let mut again = 0;
-    let mut marks = [0u8; 128];
+    let mut shared = 0;
+    let mut count = 128 - g.blocks;
+    let mut map = freemap::beyond(n);
     let mut i: usize = 0;
     while i < n {
         let at = i;
-        let x = quarter_of(g, card, at, 0);
-        let l = quarter_of(g, card, at, 4);
-        let p = quarter_of(g, card, at, 8);
-        let q = quarter_of(g, card, at, 12);
+        let w = field_of(g, card, at, 0, 8);
+        let p = field_of(g, card, at, 8, 4);
+        let q = field_of(g, card, at, 12, 4);
         i += 1;
-        if (x == 0) & ((l == 0) & ((p == 0) & (q == 0))) {
-            ids[at] = 65536;
-            currents[at] = 65536;
-        } else {
-            if !good_quarters(g.blocks, g.disk, x, l, p, q) {
-                return Seen {
-                    fits: false,
-                    quiet: false,
-                    again: 0,
-                    marks: marks,
-                };
+        if (w | (p | q)) != 0 {
+            if (g.blocks <= q) | (g.blocks < (p + 1) % 0x1_0000_0000) {
+                return misfit();
             }
-            ids[at] = l as u32;
-            currents[at] = q as u32;
-            quiet = quiet & (x != 0x8300_0000);
-            let d = narrow(q);
-            again = again | marks[d];
-            marks[d] = 1;
+            let mut b = std::num::wrapping_sub_u64(w, 0x8200_0000_0000_0000);
+            if g.disk <= b {
+                b = std::num::wrapping_sub_u64(w, 0x8000_0000_0000_0000);
+                if g.disk <= b {
+                    b = std::num::wrapping_sub_u64(w, 0x8300_0000_0000_0000);
+                    if g.disk <= b {
+                        return misfit();
+                    }
+                    quiet = false;
+                }
+            }
+            map = freemap::with(map, narrow(q));
+            count += 1;
+            shared = shared | enter(index, at, b);
         }
     }
     Seen {
         fits: true,
         quiet: quiet,
-        again: again,
-        marks: marks,
+        shared: shared,
+        count: count,
+        map: map,
     }
 }
 
@@ -116,48 +129,42 @@ fn wide(k: u32) -> usize
     k as usize
 }
 
-fn index(x: u8) -> usize
+fn place(x: u8) -> usize
     ensures { λ r. ⌜ r ≡ x ⌝ }
 {
     x as usize
 }
 
-// Whether the key k stands in its chain, from the index before `from` down.
-fn chained(keys: &[u32; 128], links: &[u8; 128], k: u32, from: u8) -> bool
-    requires { ⌜ Chained (keyAt (now keys)) (now links) k from × (from ≤ 128) ⌝ }
-    ensures { λ r. ⌜ r ≡ anyBelow (keyed (keyAt (now (keys .entry))) k) from ⌝ }
+// One more than the place of the last entry of a chain that has the number b, from the one before `from` down; 0 where none has.
+fn chase(g: Geometry, card: &[u8], index: &[u8; 640], b: u64, from: u8) -> usize
+    requires { ⌜ Fitted g (now card) × (entriesFit g (now card) ≡ true) × Chained g (now card) (now index) b from ⌝ }
+    ensures { λ r. ⌜ r ≡ lastBelow (keyed (numberKey g (now (card .entry))) b) from ⌝ }
 {
-    let mut at = from as usize;
+    let mut at = place(from);
     while 0 < at {
-        at -= 1;
-        if keys[at] == k {
-            return true;
+        if field_of(g, card, at - 1, 4, 4) == b {
+            return at;
         }
-        at = index(links[at]);
+        at = place(index[512 + at - 1]);
     }
-    false
+    0
 }
 
-// Whether no two keys of disk blocks are equal. Each is compared with those before it that leave the same remainder, mostly none.
-fn numbers_apart(keys: &[u32; 128], n: usize) -> bool
-    requires { ⌜ n ≤ 128 ⌝ }
-    ensures { λ r. ⌜ r ≡ distinct (keyAt (now (keys .entry))) NONE n ⌝ }
+// Whether no two entries in use have one number. Each is compared with those before it in its chain, mostly none.
+fn numbers_apart(g: Geometry, card: &[u8], index: &[u8; 640]) -> bool
+    requires { ⌜ Fitted g (now card) × (entriesFit g (now card) ≡ true) × Chains (numberKey g (now card)) (now index) (g .blocks) ⌝ }
+    ensures { λ r. ⌜ r ≡ distinct (numberKey g (now (card .entry))) NONE (g .blocks) ⌝ }
 {
-    let mut heads = [0u8; 1024];
-    let mut links = [0u8; 128];
+    let n = g.blocks as usize;
     let mut i: usize = 0;
     while i < n {
         let at = i;
-        let k = keys[at];
+        let from = index[512 + at];
         i += 1;
-        if k < 65536 {
-            let r = (k % 1024) as usize;
-            let from = heads[r];
-            if chained(keys, &links, k, from) {
+        if from != 0 {
+            if chase(g, card, index, field_of(g, card, at, 4, 4), from) != 0 {
                 return false;
             }
-            links[at] = from;
-            heads[r] = i as u8;
         }
     }
     true
@@ -193,37 +200,36 @@ fn settled_key(g: Geometry, card: &[u8], w: Window, i: usize) -> u32
     }
 }
 
-// Whether no two settled blocks are equal.
+// Whether no two settled blocks are equal: then as many are marked as there are.
 fn settled_apart(g: Geometry, card: &[u8]) -> bool
     requires { ⌜ Fitted g (now card) × Placed g (now card) ⌝ }
     ensures { λ r. ⌜ r ≡ distinct (settledKey g (now (card .entry))) 128 (g .blocks) ⌝ }
 {
     let w = ring::window_of(g, card);
     let n = g.blocks as usize;
-    let mut again = 0;
-    let mut marks = [0u8; 128];
+    let mut count: u64 = 0;
+    let mut map = Map { low: 0, high: 0 };
     let mut i: usize = 0;
     while i < n {
         let k = wide(settled_key(g, card, w, i));
         i += 1;
         if k < 128 {
-            again = again | marks[k];
-            marks[k] = 1;
+            map = freemap::with(map, k);
+            count += 1;
         }
     }
-    again == 0
+    freemap::free_count(map) + count == 128
 }
 
-// Not 6, from the keys of numbers and whether the current blocks are apart. A settled card's settled blocks are its current ones.
-fn entries_apart(g: Geometry, card: &[u8], ids: &[u32; 128], apart: bool, settled: bool) -> bool
-    requires { ⌜ Comparable g (now card) (now ids) apart settled ⌝ }
+// Not 6, from whether numbers may be alike and whether the current blocks are apart. A settled card's settled blocks are its current ones.
+fn entries_apart(g: Geometry, card: &[u8], index: &[u8; 640], shared: bool, settled: bool) -> bool
+    requires { ⌜ Comparable g (now card) (now index) shared settled ⌝ }
     ensures { λ r. ⌜ r ≡ entriesApart g (now (card .entry)) ⌝ }
 {
-    if !apart {
-        return false;
-    }
-    if !numbers_apart(ids, g.blocks as usize) {
-        return false;
+    if shared {
+        if !numbers_apart(g, card, index) {
+            return false;
+        }
     }
     if settled {
         return true;
@@ -231,96 +237,91 @@ fn entries_apart(g: Geometry, card: &[u8], ids: &[u32; 128], apart: bool, settle
     settled_apart(g, card)
 }
 
-// What checks 4 to 6 find, and where they find nothing, whether the card is settled and a mark for each of its current blocks.
+// What checks 4 to 6 find, and where they find nothing, whether the card is settled, how many of its data blocks are free, and its map.
 pub struct Verdict {
     pub refusal: u8,
     pub settled: bool,
-    pub marks: [u8; 128],
+    pub free: u64,
+    pub map: Map,
 }
 
 fn refused(refusal: u8) -> Verdict
-    ensures { λ r. ⌜ (r .refusal ≡ refusal) × (r .settled ≡ false) ⌝ }
+    ensures { λ r. ⌜ r .refusal ≡ refusal ⌝ }
 {
     Verdict {
         refusal: refusal,
         settled: false,
-        marks: [0u8; 128],
+        free: 0,
+        map: Map { low: 0, high: 0 },
     }
 }
 
-// The card's map: the blocks that are marked, and those that it does not have. Only a call that has a map to compare makes it.
-pub fn map_of(g: Geometry, marks: &[u8; 128]) -> Map
-    requires { ⌜ (goodGeometry g ≡ true) × MarkBytes (now marks) ⌝ }
-    ensures { λ r. ⌜ ((c : List ℕ) → CurrentMarks g c (now (marks .entry)) → r ≡ mapBy (isMarked g c)) ⌝ }
+// Checks 4 to 6, and with them the index of the card's numbers for whoever looks for one next, and its map.
+pub fn inspect(f: Fit, card: &[u8], index: &mut [u8; 640]) -> Verdict
+    requires { ⌜ Framed (now card) f × Blank (now index) ⌝ }
+    ensures { λ r. ⌜ Inspected (f .geometry) (now (card .entry)) (now (index .exit)) r ⌝ }
 {
-    let nothing = Map { low: 0, high: 0 };
-    freemap::moved(
-        freemap::packed(marks),
-        nothing,
-        freemap::beyond(g.blocks as usize),
-    )
-}
-
-// Checks 4 to 6, and with them the keys of the card's entries for whoever looks for a number next, and the marks of its current blocks.
-pub fn inspect(g: Geometry, card: &[u8], ids: &mut [u32; 128], currents: &mut [u32; 128]) -> Verdict
-    requires { ⌜ Fitted g (now card) × (length (now ids) ≡ 128) × (length (now currents) ≡ 128) ⌝ }
-    ensures { λ r. ⌜ Inspected g (now (card .entry)) (now (ids .exit)) (now (currents .exit)) r ⌝ }
-{
-    if !ring::ring_fits(g, card) {
+    if !ring::ring_fits(f, card) {
         return refused(4);
     }
-    let seen = decode(g, card, ids, currents);
+    let seen = decode(f.geometry, card, index);
     if !seen.fits {
         return refused(5);
     }
-    let settled = (ring::head_of(card) == ring::tail_of(card)) & seen.quiet;
-    if !entries_apart(g, card, ids, seen.again == 0, settled) {
+    let free = freemap::free_count(seen.map);
+    if free + seen.count != 128 {
         return refused(6);
     }
-    let marks = seen.marks;
+    let settled = (f.head == f.tail) & seen.quiet;
+    if !entries_apart(f.geometry, card, index, seen.shared != 0, settled) {
+        return refused(6);
+    }
+    let map = seen.map;
     Verdict {
         refusal: 0,
         settled: settled,
-        marks: marks,
+        free: free,
+        map: map,
     }
 }
 
 // 4 to 6: a damaged card.
-pub fn damage_refusal(g: Geometry, card: &[u8]) -> u8
-    requires { ⌜ Fitted g (now card) ⌝ }
-    ensures { λ r. ⌜ r ≡ damageRefusal g (now (card .entry)) ⌝ }
+pub fn damage_refusal(f: Fit, card: &[u8]) -> u8
+    requires { ⌜ Framed (now card) f ⌝ }
+    ensures { λ r. ⌜ r ≡ damageRefusal (f .geometry) (now (card .entry)) ⌝ }
 {
-    let mut ids = [0u32; 128];
-    let mut currents = [0u32; 128];
-    let v = inspect(g, card, &mut ids, &mut currents);
+    let mut index = [0u8; 640];
+    let v = inspect(f, card, &mut index);
     v.refusal
 }
 
-// 4 to 7: a damaged card, or one that an earlier cut left unsettled.
-pub fn card_refusal(g: Geometry, card: &[u8]) -> u8
-    requires { ⌜ Fitted g (now card) ⌝ }
-    ensures { λ r. ⌜ r ≡ cardRefusal g (now (card .entry)) ⌝ }
+// 4 to 7: a damaged card, or one that an earlier cut left unsettled. The index is of a card that passed them.
+pub fn examine(f: Fit, card: &[u8], index: &mut [u8; 640]) -> Verdict
+    requires { ⌜ Framed (now card) f × Blank (now index) ⌝ }
+    ensures { λ r. ⌜ Examined (f .geometry) (now (card .entry)) (now (index .exit)) r ⌝ }
 {
-    let mut ids = [0u32; 128];
-    let mut currents = [0u32; 128];
-    let v = inspect(g, card, &mut ids, &mut currents);
+    let v = inspect(f, card, index);
     if v.refusal != 0 {
-        return v.refusal;
+        return v;
     }
-    if v.settled { 0 } else { 7 }
+    if v.settled { v } else { refused(7) }
 }
 
-// The first of n keys that is k, or n where none is.
-pub fn find_key(keys: &[u32; 128], n: usize, k: u32) -> usize
-    requires { ⌜ n ≤ 128 ⌝ }
-    ensures { λ r. ⌜ r ≡ firstBelow (keyed (keyAt (now (keys .entry))) k) n ⌝ }
+// 4 to 7 alone.
+pub fn card_refusal(f: Fit, card: &[u8]) -> u8
+    requires { ⌜ Framed (now card) f ⌝ }
+    ensures { λ r. ⌜ r ≡ cardRefusal (f .geometry) (now (card .entry)) ⌝ }
 {
-    let mut i: usize = 0;
-    while i < n {
-        if keys[i] == k {
-            return i;
-        }
-        i += 1;
-    }
-    n
+    let mut index = [0u8; 640];
+    let v = examine(f, card, &mut index);
+    v.refusal
+}
+
+// The place of the entry in use for b, N where there is none.
+pub fn find(g: Geometry, card: &[u8], index: &[u8; 640], b: u64) -> usize
+    requires { ⌜ Indexed g (now card) (now index) × (b < NONE) ⌝ }
+    ensures { λ r. ⌜ r ≡ findEntry g (now (card .entry)) b ⌝ }
+{
+    let at = chase(g, card, index, b, index[narrow(b % 512)]);
+    if at == 0 { g.blocks as usize } else { at - 1 }
 }

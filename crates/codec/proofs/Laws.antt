@@ -1,6 +1,6 @@
 -- Products with B by shifts, an entry's bytes put one field after the other, and a single entry's refusals in their order. By the laws of
 -- patches side by side and by cases on the tests; assumes nothing.
-use Prim.Native.Nat.{ℕ, _+_, _*_, _%_, _^_, _≤_, _<_}
+use Prim.Native.Nat.{ℕ, zero, suc, _+_, _*_, _%_, _^_, _≤_, _<_}
 use mathlib.Core.List.{List, [], _∷_, _++_}
 use mathlib.Core.Bool.{Bool, true, false, _&&_}
 use mathlib.Core.Path.{_≡_, refl, sym, ap, _∙_}
@@ -58,20 +58,23 @@ put-before s₀ s₁ s₂ at bs to cs p q h =
     ∙ sym (patch-comm s₀ at bs to cs (omega arith))
     ∙ put-then s₀ _ _ at bs to cs refl refl h
 
--- one byte set before what was put
-set-before : (s : List ℕ) (at b : ℕ) (bs : List ℕ) → set (patch s (at + 1) bs) at b ≡ patch s at (b ∷ bs)
-set-before s at b bs = sym (patch-one (patch s (at + 1) bs) at b) ∙ put-before s _ _ at (b ∷ []) (at + 1) bs refl refl (omega arith)
+-- one byte set over the first of what was put
+set-first : (s : List ℕ) (at b x : ℕ) (bs : List ℕ) → set (patch s at (b ∷ bs)) at x ≡ patch s at (x ∷ bs)
+unfolding patch
+set-first [] at b x bs = refl
+set-first (y ∷ s) zero b x bs = refl
+set-first (y ∷ s) (suc at) b x bs = ap (λ (r : List ℕ). y ∷ r) (set-first s at b x bs)
 
--- three numbers, each put behind the one before it, and the flag byte before them
-pub put-fields : (s₀ s₁ s₂ s₃ : List ℕ) (at : ℕ) (e : Entry) → s₁ ≡ patch s₀ (at + 1) (bytesBE 7 (e .number))
+-- three numbers, each put behind the one before it, and the flag byte over the first one's highest
+pub put-fields : (s₀ s₁ s₂ s₃ : List ℕ) (at : ℕ) (e : Entry) → s₁ ≡ patch s₀ at (bytesBE 8 (e .number))
     → s₂ ≡ patch s₁ (at + 8) (bytesBE 4 (e .previous))
     → s₃ ≡ patch s₂ (at + 12) (bytesBE 4 (e .current))
     → set s₃ at (e .flags) ≡ patch s₀ at (entryBytes e)
 unfolding entryBytes bytesBE
 put-fields s₀ s₁ s₂ s₃ at e p q r =
-    let two = put-then s₀ s₁ s₂ (at + 1) (bytesBE 7 (e .number)) (at + 8) (bytesBE 4 (e .previous)) p q (omega arith) in
-    let three = put-then s₀ s₂ s₃ (at + 1) _ (at + 12) (bytesBE 4 (e .current)) two r (omega arith) in
-    ap (λ (s : List ℕ). set s at (e .flags)) three ∙ set-before s₀ at (e .flags) _
+    let two = put-then s₀ s₁ s₂ at (bytesBE 8 (e .number)) (at + 8) (bytesBE 4 (e .previous)) p q refl in
+    let three = put-then s₀ s₂ s₃ at _ (at + 12) (bytesBE 4 (e .current)) two r refl in
+    ap (λ (s : List ℕ). set s at (e .flags)) three ∙ set-first s₀ at _ (e .flags) _
 
 -- ---- a single entry: a and b are the tests of N and D, t that of check 5
 

@@ -122,12 +122,12 @@ pub fn entry_at(s: &[u8], at: usize) -> Entry
     }
 }
 
-// Writes the entry's sixteen bytes at byte `at`.
+// Writes the entry's sixteen bytes at byte `at`. The number is put in eight, as one store; the flags then take the first.
 pub fn put_entry(s: &mut [u8], at: usize, e: Entry)
     requires { ⌜ at + 16 ≤ length (now s) ⌝ }
     ensures { λ _. ⌜ now (s .exit) ≡ patch (now (s .entry)) at (entryBytes e) ⌝ }
 {
-    put(s, at + 1, 7, e.number);
+    put(s, at, 8, e.number);
     put(s, at + 8, 4, e.previous as u64);
     put(s, at + 12, 4, e.current as u64);
     s[at] = e.flags;

@@ -13,6 +13,7 @@ use Rattle.protocol.specs.Store.{card, Store, flat, single, entryStore}
 use Rattle.protocol.specs.Commit.{numberOf}
 use Rattle.protocol.proofs.Region.{block-ends}
 use Rattle.plan.specs.declared.Plan.{Plan}
+use Rattle.plan.specs.Planned.{previousOf}
 use Rattle.stores.specs.Did.{Did}
 use Rattle.stores.proofs.Laws.{did-same, did-each}
 use Rattle.commit.specs.Making.{stepRuns, plannedEntry, plannedBlock, plannedSwitch, Named, Ready}
@@ -32,7 +33,7 @@ data-on g p h ns bs i r l = omega (arith, block-ends i (length ns) (blockSize g)
 -- ---- one turn more
 
 module _ (g : Geometry) (p : Plan) (ns : List ℕ) (i at : ℕ) (x : Entry) (left a r : ℕ) (xs ys zs : List ℕ) (e : at ≡ getD (p .entries) i 0)
-    (q : x ≡ entryOf 0x83 (getD ns i 0) (getD (p .previous) i 0) (getD (p .blocks) i 0))
+    (q : x ≡ entryOf 0x83 (getD ns i 0) (previousOf (getD (p .previous) i 0)) (getD (p .blocks) i 0))
   where
     pub block-turn : (h : ℕ) (bs : List ℕ)
         → Did card (flat (eachBelow (plannedBlock g p h ns bs) i)) left xs ys a → Did card (flat (stepRuns g at x bs h i)) a ys zs r

@@ -2,16 +2,19 @@
 -- Assumes nothing.
 use Prim.Native.Nat.{ℕ, _+_, _*_, _^_, _≤_, _<_}
 use mathlib.Core.List.{List, [], _∷_}
-use mathlib.Core.Path.{_≡_, ap}
+use mathlib.Core.Path.{_≡_, sym, ap}
 use native.Mathlib.Omega.{arith}
 use lib.ListN.{length}
 use Rattle.numbers.specs.Bytes.{part}
 use Rattle.protocol.specs.declared.Entry.{Entry}
 use Rattle.protocol.specs.declared.Geometry.{Geometry}
 use Rattle.protocol.specs.Below.{around}
+use borrow.Author.Tests.{lt-ltb, le-ltb}
+use Rattle.protocol.specs.Entry.{FRESH}
 use Rattle.protocol.specs.Layout.{blockSize, slotPlace}
 use Rattle.protocol.specs.Store.{card, flat, single, words, entryStore, wordStore, slotStore, headStore}
 use Rattle.protocol.specs.Commit.{dataOf}
+use Rattle.plan.specs.Planned.{previousOf}
 use Rattle.ring.specs.Fitted.{Fitted}
 use Rattle.ring.proofs.Laws.{Room, room}
 use Rattle.stores.specs.Did.{Did}
@@ -36,6 +39,16 @@ module _ (g : Geometry) (c : List ℕ) (f : Fitted g c) where
   pub tail-room : (d e : List ℕ) → length d ≡ length c → length e ≡ length d → 72 + 8 ≤ length e
   tail-room d e p q = let k : Room g c = room g c f in omega arith
 
+-- ---- the previous block of a byte
+
+pub byte-block : (x : ℕ) → x < 128 → x ≡ previousOf x
+unfolding previousOf
+byte-block x l = sym (rw (lt-ltb x 128 l))
+
+pub byte-fresh : (x : ℕ) → 128 ≤ x → FRESH ≡ previousOf x
+unfolding previousOf
+byte-fresh x l = sym (rw (le-ltb x 128 l))
+
 -- ---- one block
 
 pub logged : (s h i slot next number a b r : ℕ) (xs ys zs : List ℕ) → slot ≡ around s h i → next ≡ around s h (i + 1)
@@ -48,10 +61,12 @@ module _ (g : Geometry) (i from : ℕ) (e : from ≡ i * blockSize g) (bs : List
   pub from-room : i * blockSize g + blockSize g ≤ length bs → from + blockSize g ≤ length bs
   from-room h = rw e h
 
-  pub stepped : (at : ℕ) (x : Entry) (h left a d r : ℕ) (xs ys zs ws : List ℕ)
+  pub stepped : (at : ℕ) (x : Entry) (n h left a d r : ℕ) (xs ys zs ws : List ℕ) → x .number ≡ n
       → Did card (words g (x .current) (part bs from (blockSize g))) left xs ys a → Did card (entryStore g at x ∷ []) a ys zs d
-      → Did card (slotStore (around (g .slots) h i) (x .number) ∷ headStore (around (g .slots) h (i + 1)) ∷ []) d zs ws r
+      → Did card (slotStore (around (g .slots) h i) n ∷ headStore (around (g .slots) h (i + 1)) ∷ []) d zs ws r
       → Did card (flat (stepRuns g at x bs h i)) left xs ws r
   unfolding stepRuns flat single dataOf
-  stepped at x h left a d r xs ys zs ws p q s =
-      did-then (did-same (ap (λ (z : ℕ). words g (x .current) (part bs z (blockSize g))) e) p) (did-then q s)
+  stepped at x n h left a d r xs ys zs ws same p q s =
+      did-then (did-same (ap (λ (z : ℕ). words g (x .current) (part bs z (blockSize g))) e) p)
+      (did-then q
+      (did-same (ap (λ (z : ℕ). slotStore (around (g .slots) h i) z ∷ headStore (around (g .slots) h (i + 1)) ∷ []) (sym same)) s))

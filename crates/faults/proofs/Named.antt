@@ -19,11 +19,12 @@ use Rattle.protocol.specs.Check.{refuse, _orElse_, headerFits, cardFits, window
 use Rattle.protocol.specs.Check.{alike, apart, apartBefore, entriesApart, fitRefusal, damageRefusal}
 use Rattle.protocol.proofs.Below.{absurd-bool, and-left, and-right, any-more}
 use Rattle.protocol.proofs.Checks.{refuse-none}
+use Rattle.ring.specs.declared.Fit.{Fit}
 use Rattle.ring.specs.declared.Window.{Window}
-use Rattle.ring.specs.Fitted.{Placed, WindowOf}
+use Rattle.ring.specs.Fitted.{Placed, WindowOf, Opened}
 use Rattle.ring.proofs.Laws.{header-long, header-geometry, window-number-fits, window-number-misfits}
 use Rattle.checks.specs.Keys.{undoableEntry}
-use Rattle.checks.proofs.Find.{first-here, first-nowhere}
+use Rattle.checks.proofs.Search.{first-here, first-nowhere}
 use Rattle.faults.specs.declared.Fault.{Fault}
 use Rattle.faults.specs.declared.Fault.the-variants.{Sound, Short, HeaderLength, Version, K, Slots, Blocks, Disk, Reserved}
 use Rattle.faults.specs.declared.Fault.the-variants.{Length, Head, Tail, WindowNumber, Flags, NotZero, Number as NumberFault}
@@ -434,39 +435,39 @@ module _ (g : Geometry) (c : List ℕ) (r : ℕ) (e : r ≡ damageRefusal g c) w
         tail = ltb-true _ _ (and-left (ltb (tailOf c) (g .slots)) _ (and-right (ltb (headOf c) (g .slots)) _ p));
       }
 
-module _ (c : List ℕ) (r : ℕ) (e : r ≡ fitRefusal c) where
-  pub fault-damage : (g : Geometry) (f : Fault) → r ≡ 0 → g ≡ geometryOf c → f ≡ damageFault g c → f ≡ faultOf c
+pub fault-damage : (c : List ℕ) (k : Fit) (f : Fault) → Opened c k → k .refusal ≡ 0 → f ≡ damageFault (k .geometry) c → f ≡ faultOf c
+unfolding faultOf
+fault-damage c k f o z p =
+    p ∙ ap (λ (y : Geometry). damageFault y c) (o .framed z .geometry-is) ∙ next-on (fitFault c) _ (fit-refusal c ∙ sym (o .refusal-is) ∙ z)
+
+module _ (c : List ℕ) (r : ℕ) (e : r ≡ fitRefusal c) (some : r ≡ 0 → ⊥) where
+  fault-fit : (f : Fault) → f ≡ fitFault c → f ≡ faultOf c
   unfolding faultOf
-  fault-damage g f z q p = p ∙ ap (λ (y : Geometry). damageFault y c) q ∙ next-on (fitFault c) _ (fit-refusal c ∙ sym e ∙ z)
+  fault-fit f p = p ∙ next-first (fitFault c) _ (λ z. some (e ∙ sym (fit-refusal c) ∙ z))
 
-  module _ (some : r ≡ 0 → ⊥) where
-    fault-fit : (f : Fault) → f ≡ fitFault c → f ≡ faultOf c
-    unfolding faultOf
-    fault-fit f p = p ∙ next-first (fitFault c) _ (λ z. some (e ∙ sym (fit-refusal c) ∙ z))
+  pub fault-header : (f : Fault) → r ≡ 1 → f ≡ headerFault c → f ≡ faultOf c
+  unfolding fitFault fitRefusal
+  fault-header f h p =
+      let bad : headerFits c ≡ false = refused-one _ _ (sym h ∙ e) in
+      fault-fit f (p ∙ next-first (headerFault c) _ (part-failed _ 1 (headerFits c) (omega arith) (header-refusal c) bad))
 
-    pub fault-header : (f : Fault) → r ≡ 1 → f ≡ headerFault c → f ≡ faultOf c
-    unfolding fitFault fitRefusal
-    fault-header f h p =
-        let bad : headerFits c ≡ false = refused-one _ _ (sym h ∙ e) in
-        fault-fit f (p ∙ next-first (headerFault c) _ (part-failed _ 1 (headerFits c) (omega arith) (header-refusal c) bad))
+  module _ (h : r ≡ 1 → ⊥) where
+    header-passed : (headerFits c ≡ true) × (r ≡ refuse 2 (cardFits (geometryOf c) c))
+    unfolding fitRefusal
+    header-passed = passed-on 1 r _ (headerFits c) e h (omega arith)
 
-    module _ (h : r ≡ 1 → ⊥) where
-      header-passed : (headerFits c ≡ true) × (r ≡ refuse 2 (cardFits (geometryOf c) c))
-      unfolding fitRefusal
-      header-passed = passed-on 1 r _ (headerFits c) e h (omega arith)
+    pub fault-long : 128 ≤ length c
+    fault-long = header-long c true (sym (header-passed .0)) refl
 
-      pub fault-long : 128 ≤ length c
-      fault-long = header-long c true (sym (header-passed .0)) refl
+    module _ (g : Geometry) (q : g ≡ geometryOf c) where
+      pub fault-good : goodGeometry g ≡ true
+      fault-good = header-geometry c true g (sym (header-passed .0)) refl q
 
-      module _ (g : Geometry) (q : g ≡ geometryOf c) where
-        pub fault-good : goodGeometry g ≡ true
-        fault-good = header-geometry c true g (sym (header-passed .0)) refl q
-
-        pub fault-length : (n : ℕ) → n ≡ cardLength g → Length n ≡ faultOf c
-        unfolding fitFault lengthFault
-        fault-length n p =
-            let bad : cardFits (geometryOf c) c ≡ false = refused-last 2 r _ (header-passed .1) some in
-            fault-fit (Length n)
-            (ap Length (p ∙ ap cardLength q)
-            ∙ pick-false (cardFits (geometryOf c) c) _ _ bad
-            ∙ next-on (headerFault c) _ (part-passed _ 1 (headerFits c) (header-refusal c) (header-passed .0)))
+      pub fault-length : (n : ℕ) → n ≡ cardLength g → Length n ≡ faultOf c
+      unfolding fitFault lengthFault
+      fault-length n p =
+          let bad : cardFits (geometryOf c) c ≡ false = refused-last 2 r _ (header-passed .1) some in
+          fault-fit (Length n)
+          (ap Length (p ∙ ap cardLength q)
+          ∙ pick-false (cardFits (geometryOf c) c) _ _ bad
+          ∙ next-on (headerFault c) _ (part-passed _ 1 (headerFits c) (header-refusal c) (header-passed .0)))

@@ -2,13 +2,14 @@
 use protocol::Entry;
 use protocol::FRESH;
 use protocol::Geometry;
+use ring::Fit;
 use ring::Window;
 ghost use mathlib.Core.Path.{_≡_};
 ghost use Prim.Native.Nat.{_<_};
 ghost use lib.Dec.{ltb};
 ghost use Rattle.protocol.specs.Ring.{settledBlock};
 ghost use Rattle.protocol.specs.Check.{apart};
-ghost use Rattle.ring.specs.Fitted.{Fitted, Placed, WindowOf};
+ghost use Rattle.ring.specs.Fitted.{Fitted, Placed, WindowOf, Framed};
 ghost use Rattle.faults.specs.Fault.{geometryFault, headerFault, windowFault, ringFault, goodPrevious, entryFaultOf, entryFault};
 ghost use Rattle.faults.specs.Fault.{sameSettled, pairFaultOf, firstAlike, pairFault, damageFault, faultOf};
 
@@ -256,11 +257,12 @@ fn pair_fault(g: Geometry, card: &[u8]) -> Fault
 }
 
 // 4 to 6: a damaged card. A fault is searched where its check has refused.
-fn damage_fault(g: Geometry, card: &[u8]) -> Fault
-    requires { ⌜ Fitted g (now card) ⌝ }
-    ensures { λ r. ⌜ r ≡ damageFault g (now (card .entry)) ⌝ }
+fn damage_fault(f: Fit, card: &[u8]) -> Fault
+    requires { ⌜ Framed (now card) f ⌝ }
+    ensures { λ r. ⌜ r ≡ damageFault (f .geometry) (now (card .entry)) ⌝ }
 {
-    let refusal = checks::damage_refusal(g, card);
+    let g = f.geometry;
+    let refusal = checks::damage_refusal(f, card);
     if refusal == 0 {
         return Fault::Sound;
     }
@@ -277,11 +279,11 @@ fn damage_fault(g: Geometry, card: &[u8]) -> Fault
 pub fn fault_of(card: &[u8]) -> Fault
     ensures { λ r. ⌜ r ≡ faultOf (now (card .entry)) ⌝ }
 {
-    let refusal = ring::fit_refusal(card);
-    if refusal == 0 {
-        return damage_fault(ring::geometry_of(card), card);
+    let f = ring::fit_of(card);
+    if f.refusal == 0 {
+        return damage_fault(f, card);
     }
-    if refusal == 1 {
+    if f.refusal == 1 {
         header_fault(card)
     } else {
         Fault::Length(codec::card_length(ring::geometry_of(card)))

@@ -1,4 +1,5 @@
 -- Laws of words of bits, of maps, and of searches by a map.
+pub mod Count
 pub mod Machine
 pub mod Maps
 pub mod Search

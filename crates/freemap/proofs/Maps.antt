@@ -1,22 +1,19 @@
 -- Maps by tests: what the map's operations give is the map of the tests joined at each block. By the laws of words, word by word.
 -- Assumes nothing.
-use Prim.Native.Nat.{ℕ, zero, suc, _+_, _-_, _/_, _%_, _^_, _≤_, _<_}
+use Prim.Native.Nat.{ℕ, _+_, _-_, _/_, _%_, _^_, _≤_, _<_}
 use mathlib.Core.Bool.{Bool, true, false, cond, not, _&&_, _||_, and-true}
-use mathlib.Core.List.{List}
 use mathlib.Core.Path.{_≡_, refl, sym, ap, _∙_}
 use mathlib.Core.Logic.{⊎-elim}
-use native.Mathlib.Nat.{add-zero, zero-add}
 use native.Mathlib.Omega.{arith}
 use lib.Bits.{bitAnd, bitOr, and-le-l, and-le-r, or-add-and}
 use lib.Dec.{eqb}
-use lib.ListN.{getD}
 use borrow.Author.Tests.{eq-eqb, ne-eqb, eqb-true, lt-ltb, le-ltb}
 use Rattle.protocol.specs.declared.Map.{Map}
 use Rattle.protocol.specs.Map.{word, mapBy, bitAt}
 use Rattle.protocol.proofs.Below.{bool-same, below-or-above, same-or-other, or-none, and-left, and-right, and-both}
 use Rattle.protocol.proofs.Words.{word-cong}
-use Rattle.freemap.specs.Bits.{FULL, withBit, withoutBit, movedMap, markedAt, MarkBytes}
-use Rattle.freemap.proofs.Words.{word-below, word-and, word-or, word-not, word-none, word-zero, word-one, word-bit}
+use Rattle.freemap.specs.Bits.{FULL, withBit, withoutBit, movedMap}
+use Rattle.freemap.proofs.Words.{word-and, word-or, word-not, word-none, word-one, word-bit}
 
 -- ---- the bit of block d, in the word that has it
 
@@ -132,23 +129,3 @@ or-zero a b =
     let x : a ≡ 0 = eqb-true a 0 (and-left (eqb a 0) _ e) in
     let y : b ≡ 0 = eqb-true b 0 (and-right (eqb a 0) _ e) in
     eq-eqb (bitOr a b) 0 (omega (arith, or-add-and a b)))
-
--- ---- a byte for each block
-
-mark-bit : (x : ℕ) → x ≤ 1 → x ≡ cond (eqb x 1) 1 0
-mark-bit zero l = refl
-mark-bit (suc zero) l = refl
-mark-bit (suc (suc x)) l = absurd (omega arith)
-
-pub mark-word : (ms : List ℕ) (at : ℕ) → MarkBytes ms → at < 128 → getD ms at 0 ≡ word (λ i. markedAt ms (at + i)) 1
-unfolding word markedAt
-mark-word ms at b l =
-    mark-bit (getD ms at 0) (b at l) ∙ ap (λ (x : ℕ). cond (eqb (getD ms x 0) 1) 1 0) (sym (add-zero at)) ∙ omega arith
-
-pub packed-map : (ms : List ℕ) (low high : ℕ) → low ≡ word (λ i. markedAt ms (0 + i)) 64 → high ≡ word (λ i. markedAt ms (64 + i)) 64
-    → _≡_ {A = Map} (record { low = low; high = high }) (mapBy (markedAt ms))
-unfolding mapBy
-packed-map ms low high l h = λ t. record { low = (l ∙ word-cong _ _ 64 (λ i k. ap (markedAt ms) (zero-add i))) t; high = h t }
-
-pub word-bound : (p : ℕ → Bool) (k n : ℕ) → n ≡ word p k → n < 2 ^ k
-word-bound p k n e = omega (arith, word-below p k)

@@ -25,7 +25,8 @@ use Rattle.protocol.proofs.Checks.{Limits, limits}
 use Rattle.protocol.proofs.Searches.{Found, walk-finds, walk-apart, length-walk, count-split, count-round, count-not}
 use Rattle.protocol.proofs.Words.{map-cong}
 use Rattle.freemap.specs.Bits.{FULL, withBit, clearFrom, freeFrom, nextFree, takenMap, takenAt}
-use Rattle.freemap.proofs.Words.{word-or, word-not, word-ones, word-count, word-first}
+use Rattle.freemap.proofs.Words.{word-or, word-not, word-ones, word-first}
+use Rattle.freemap.proofs.Count.{free-by}
 use Rattle.freemap.proofs.Maps.{with-by}
 
 -- ---- the first one
@@ -69,9 +70,9 @@ first-split p a b = go (firstBelow p a) (firstBelow (λ i. p (a + i)) b) (first-
     go x y (First.missing q n) (First.missing r m) =
         rw (le-ltb x a (omega arith), r) (sym (first-none p (a + b) (none b n m)))
 
-free-by : (p : ℕ → Bool) (at : ℕ) → at < 128 → freeFrom (mapBy p) at ≡ firstBelow (freeIn p at) 128
+from-by : (p : ℕ → Bool) (at : ℕ) → at < 128 → freeFrom (mapBy p) at ≡ firstBelow (freeIn p at) 128
 unfolding freeFrom mapBy
-free-by p at l =
+from-by p at l =
     ⊎-elim
     (λ h.
     let next : clearFrom (word (λ i. p (64 + i)) 64) 0 ≡ firstBelow (λ i. freeIn p at (64 + i)) 64 =
@@ -165,7 +166,7 @@ module _ (p : ℕ → Bool) (n s : ℕ) (b : n ≤ 128) (l : s < n) (out : (x : 
   next-step t m e f =
       let s128 : s < 128 = omega arith in
       let o128 : 0 < 128 = omega arith in
-      rw (free-by p s s128, free-by p 0 o128) (⊎-elim up round (below-or-above (s + t) n))
+      rw (from-by p s s128, from-by p 0 o128) (⊎-elim up round (below-or-above (s + t) n))
     where
       -- a block from s on that stands before step t
       passed : (x : ℕ) → s ≤ x → x < n → x - s < t → p x ≡ true
@@ -264,7 +265,6 @@ module _ (p : ℕ → Bool) (n s : ℕ) (b : n ≤ 128) (l : s < n) (out : (x : 
   next-is h = taken-is 0 h
 
   pub count-is : freeCount (mapBy p) ≡ length (freeWalk p n s)
-  unfolding freeCount mapBy
   count-is =
       let f : ℕ → Bool = λ x. not (p x) in
       let e : n + (128 - n) ≡ 128 = omega arith in
@@ -273,9 +273,7 @@ module _ (p : ℕ → Bool) (n s : ℕ) (b : n ≤ 128) (l : s < n) (out : (x : 
       let none : countBelow (λ j. f (n + j)) (128 - n) ≡ 0 = count-none _ (128 - n) (λ j h. ap not (out (n + j) (omega arith) (omega arith))) in
       omega (
         arith,
-        word-count p 64,
-        word-count (λ i. p (64 + i)) 64,
-        count-split p 64 64,
+        free-by p,
         count-not p 128,
         length-walk f n s n,
         count-round f n s l,

@@ -5,7 +5,7 @@ use mathlib.Core.Path.{_≡_, refl, sym, ap, _∙_}
 use mathlib.Core.Logic.{⊎-elim}
 use native.Mathlib.Numerals.{add-one}
 use native.Mathlib.Omega.{arith}
-use lib.ListN.{length, getD, set, replicate, length-set, length-replicate}
+use lib.ListN.{length, getD, set, length-set}
 use lib.Seq.{getD-set-same, getD-set-other}
 use Rattle.protocol.specs.declared.Map.{Map}
 use Rattle.protocol.proofs.Below.{same-or-other}
@@ -18,9 +18,9 @@ pub record Taking (m : Map) (start i : ℕ) (blocks : List ℕ) (map : Map) : Ty
   pub marked : map ≡ takenMap m start i
 
 module _ (m : Map) (start : ℕ) where
-  pub take-start : Taking m start 0 (replicate 128 0) m
+  pub take-start : (blocks : List ℕ) → length blocks ≡ 128 → Taking m start 0 blocks m
   unfolding takenMap
-  take-start = record { long = length-replicate {A = ℕ} 128 0; listed = λ k l. absurd (omega arith); marked = refl }
+  take-start blocks e = record { long = e; listed = λ k l. absurd (omega arith); marked = refl }
 
   module _ (want i : ℕ) (blocks : List ℕ) (map : Map) (h : Taking m start i blocks map) (d : ℕ) (e : d ≡ nextFree map start) (l : i < want) where
     found : d ≡ takenAt m start i
@@ -48,7 +48,7 @@ module _ (m : Map) (start : ℕ) where
     }
 
   pub take-end : (want i : ℕ) (blocks : List ℕ) (map : Map) → Taking m start i blocks map → i ≤ want → want ≤ i
-      → Took m start want (record { blocks = blocks; map = map })
+      → Took m start want blocks map
   take-end want i blocks map h a b =
       let e : i ≡ want = omega arith in
-      record { blocks = λ k l. h .listed k (omega arith); map = h .marked ∙ ap (takenMap m start) e }
+      record { long = h .long; blocks = λ k l. h .listed k (omega arith); map = h .marked ∙ ap (takenMap m start) e }

@@ -4,16 +4,15 @@ use Prim.Native.Nat.{ℕ, zero, suc, _+_, _*_, _-_, _/_, _%_, _^_, _≤_, _<_}
 use mathlib.Core.Bool.{Bool, true, false, cond, not, _&&_, _||_}
 use mathlib.Core.Path.{_≡_, refl, sym, ap, _∙_}
 use mathlib.Core.Logic.{⊎-elim}
-use native.Mathlib.Nat.{pow-suc, div-one, add-zero, add-suc, add-assoc, mul-add}
+use native.Mathlib.Nat.{pow-suc, div-one}
 use native.Mathlib.Numerals.{one-add}
 use native.Mathlib.Omega.{arith}
 use lib.Bits.{bitAnd, bitOr, and-block, or-block}
 use lib.Count.{ones, trailingZeros, under, ones-cat, ones-ones}
 use lib.Dec.{eqb, ltb}
-use lib.Pow.{pow-pos, pow-add, shr-shr}
+use lib.Pow.{shr-shr}
 use borrow.Author.Tests.{eq-eqb, ne-eqb, lt-ltb, le-ltb}
 use Rattle.protocol.specs.Map.{word}
-use Rattle.protocol.proofs.Words.{word-cong}
 use Rattle.protocol.specs.Below.{countBelow, firstBelow}
 use Rattle.protocol.proofs.Below.{First, first-is, first-at, first-none, either, last-or-before, below-or-above}
 
@@ -25,31 +24,6 @@ word-below p (suc k) = go (p k) (word-below p k)
     go : (b : Bool) → word p k < 2 ^ k → cond b 1 0 * 2 ^ k + word p k < 2 ^ suc k
     go true h = omega (arith, pow-suc 2 k)
     go false h = omega (arith, pow-suc 2 k)
-
--- ---- in parts
-
-pub word-split : (p : ℕ → Bool) (a k : ℕ) → word p (a + k) ≡ word p a + 2 ^ a * word (λ i. p (a + i)) k
-unfolding word
-word-split p a zero = ap (word p) (add-zero a) ∙ omega arith
-word-split p a (suc k) =
-    ap (word p) (add-suc a k)
-    ∙ (λ t. cond (p (a + k)) 1 0 * pow-add 2 a k t + word-split p a k t)
-    ∙ go (p (a + k)) (word (λ i. p (a + i)) k)
-  where
-    go : (b : Bool) (w : ℕ) → cond b 1 0 * (2 ^ a * 2 ^ k) + (word p a + 2 ^ a * w) ≡ word p a + 2 ^ a * (cond b 1 0 * 2 ^ k + w)
-    go true w = omega (arith, mul-add (2 ^ a) (1 * 2 ^ k) w)
-    go false w = omega arith
-
--- four words of k bits, the next always above the one before
-pub word-four : (p : ℕ → Bool) (at k x y z w : ℕ) → x ≡ word (λ i. p (at + i)) k → y ≡ word (λ i. p (at + k + i)) k
-    → z ≡ word (λ i. p (at + k + k + i)) k → w ≡ word (λ i. p (at + k + k + k + i)) k
-    → x + 2 ^ k * (y + 2 ^ k * (z + 2 ^ k * w)) ≡ word (λ i. p (at + i)) (k + (k + (k + k)))
-word-four p at k x y z w ex ey ez ew =
-    step at (k + (k + k)) x _ ex (step (at + k) (k + k) y _ ey (step (at + k + k) k z w ez ew))
-  where
-    step : (n m a r : ℕ) → a ≡ word (λ i. p (n + i)) k → r ≡ word (λ i. p (n + k + i)) m → a + 2 ^ k * r ≡ word (λ i. p (n + i)) (k + m)
-    step n m a r ea er =
-        (λ t. ea t + 2 ^ k * (er ∙ word-cong _ _ m (λ i l. ap p (add-assoc n k i))) t) ∙ sym (word-split (λ i. p (n + i)) k m)
 
 -- ---- the operations
 
@@ -93,23 +67,6 @@ pub word-none : (p : ℕ → Bool) (k : ℕ) → ((i : ℕ) → i < k → p i �
 unfolding word
 word-none p zero f = refl
 word-none p (suc k) f = rw (f k (omega arith)) (omega (arith, word-none p k (λ i l. f i (omega arith))))
-
--- a word of 0 has no bit set
-pub word-zero : (p : ℕ → Bool) (k : ℕ) → word p k ≡ 0 → (i : ℕ) → i < k → p i ≡ false
-unfolding word
-word-zero p zero e i l = absurd (omega arith)
-word-zero p (suc k) e i l =
-    ⊎-elim
-    (λ q. ap p q ∙ top (p k) e)
-    (λ h. word-zero p k (rest (p k) e) i h)
-    (last-or-before i k l)
-  where
-    top : (b : Bool) → cond b 1 0 * 2 ^ k + word p k ≡ 0 → b ≡ false
-    top true z = absurd (omega (arith, pow-pos k))
-    top false z = refl
-
-    rest : (b : Bool) → cond b 1 0 * 2 ^ k + word p k ≡ 0 → word p k ≡ 0
-    rest b z = omega arith
 
 -- a single bit
 pub word-one : (d k : ℕ) → d < k → 2 ^ d ≡ word (λ i. eqb d i) k

@@ -1,11 +1,9 @@
--- The map's bits as the machine's words have them: set, cleared, and searched by the trailing zeros of the complement; and marks in bytes.
-use Prim.Native.Nat.{ℕ, zero, suc, _+_, _-_, _^_, _≤_, _<_}
-use mathlib.Core.Bool.{Bool, cond}
-use mathlib.Core.List.{List}
+-- The map's bits as the machine's words have them: set, cleared, and searched by the trailing zeros of the complement.
+use Prim.Native.Nat.{ℕ, zero, suc, _+_, _-_, _^_}
+use mathlib.Core.Bool.{cond}
 use lib.Bits.{bitAnd, bitOr}
 use lib.Count.{trailingZeros}
-use lib.Dec.{eqb, ltb}
-use lib.ListN.{getD}
+use lib.Dec.{ltb}
 use Rattle.protocol.specs.declared.Map.{Map}
 
 -- all 64 bits set
@@ -25,14 +23,6 @@ withoutBit m d =
     cond (ltb d 64)
     (record { low = bitAnd (m .low) (FULL - 2 ^ d); high = m .high })
     (record { low = m .low; high = bitAnd (m .high) (FULL - 2 ^ (d - 64)) })
-
--- block d has a mark in a row of bytes, one for each block
-unfoldable pub markedAt : List ℕ → ℕ → Bool
-markedAt ms d = eqb (getD ms d 0) 1
-
--- each of the 128 bytes is 0 or 1
-abbrev pub MarkBytes : List ℕ → Type 0
-MarkBytes ms = (d : ℕ) → d < 128 → getD ms d 0 ≤ 1
 
 -- the bits of `gone` cleared, then those of `come` set
 unfoldable pub movedMap : Map → Map → Map → Map

@@ -4,8 +4,9 @@ ghost use mathlib.Core.Path.{_≡_};
 ghost use Prim.Native.Nat.{ℕ, _+_, _%_, _≤_, _<_};
 ghost use lib.Count.{ones};
 ghost use lib.Dec.{leb};
-ghost use Rattle.protocol.specs.Map.{word, mapBy, freeCount, sameMap};
-ghost use Rattle.freemap.specs.Bits.{withBit, withoutBit, movedMap, markedAt, MarkBytes, clearFrom, freeFrom, nextFree, takenAt};
+ghost use lib.ListN.{length};
+ghost use Rattle.protocol.specs.Map.{mapBy, freeCount, sameMap};
+ghost use Rattle.freemap.specs.Bits.{withBit, withoutBit, movedMap, clearFrom, freeFrom, nextFree, takenAt};
 ghost use Rattle.freemap.specs.Taken.{Took};
 
 // The map with bit d set.
@@ -51,64 +52,6 @@ pub fn moved(m: Map, gone: Map, come: Map) -> Map
     Map {
         low: (m.low & !gone.low) | come.low,
         high: (m.high & !gone.high) | come.high,
-    }
-}
-
-fn wide(x: u8) -> u64
-    ensures { λ r. ⌜ r ≡ x ⌝ }
-{
-    x as u64
-}
-
-fn mark_at(marks: &[u8; 128], at: usize) -> u64
-    requires { ⌜ MarkBytes (now marks) × (at < 128) ⌝ }
-    ensures { λ r. ⌜ (r ≡ word (λ i. markedAt (now (marks .entry)) (at + i)) 1) × (r < 2) ⌝ }
-{
-    wide(marks[at])
-}
-
-// Four marks from `at` on as four bits, the first lowest.
-fn four(marks: &[u8; 128], at: usize) -> u64
-    requires { ⌜ MarkBytes (now marks) × (at ≤ 124) ⌝ }
-    ensures { λ r. ⌜ (r ≡ word (λ i. markedAt (now (marks .entry)) (at + i)) 4) × (r < 16) ⌝ }
-{
-    let b = at + 1;
-    let c = b + 1;
-    let d = c + 1;
-    let high = mark_at(marks, c) + 2 * mark_at(marks, d);
-    mark_at(marks, at) + 2 * (mark_at(marks, b) + 2 * high)
-}
-
-fn sixteen(marks: &[u8; 128], at: usize) -> u64
-    requires { ⌜ MarkBytes (now marks) × (at ≤ 112) ⌝ }
-    ensures { λ r. ⌜ (r ≡ word (λ i. markedAt (now (marks .entry)) (at + i)) 16) × (r < 65536) ⌝ }
-{
-    let b = at + 4;
-    let c = b + 4;
-    let d = c + 4;
-    let high = four(marks, c) + 16 * four(marks, d);
-    four(marks, at) + 16 * (four(marks, b) + 16 * high)
-}
-
-fn packed_word(marks: &[u8; 128], at: usize) -> u64
-    requires { ⌜ MarkBytes (now marks) × (at ≤ 64) ⌝ }
-    ensures { λ r. ⌜ r ≡ word (λ i. markedAt (now (marks .entry)) (at + i)) 64 ⌝ }
-{
-    let b = at + 16;
-    let c = b + 16;
-    let d = c + 16;
-    let high = sixteen(marks, c) + 65536 * sixteen(marks, d);
-    sixteen(marks, at) + 65536 * (sixteen(marks, b) + 65536 * high)
-}
-
-// The map of the blocks that have a mark, a byte each.
-pub fn packed(marks: &[u8; 128]) -> Map
-    requires { ⌜ MarkBytes (now marks) ⌝ }
-    ensures { λ r. ⌜ r ≡ mapBy (markedAt (now (marks .entry))) ⌝ }
-{
-    Map {
-        low: packed_word(marks, 0),
-        high: packed_word(marks, 64),
     }
 }
 
@@ -192,18 +135,12 @@ fn next_free(m: Map, start: usize) -> usize
     if d < 128 { d } else { free_from(m, 0) }
 }
 
-// Data blocks that a search found, in its order, and the map in which they are marked.
-pub struct Taken {
-    pub blocks: [u8; 128],
-    pub map: Map,
-}
-
-// The first `want` free data blocks from `start` upward and round. Each is marked once it is found, so that the next search passes it.
-pub fn take(m: Map, start: usize, want: usize) -> Taken
-    requires { ⌜ (start < 128) × (want ≤ 128) × ((i : ℕ) → i < want → takenAt m start i < 128) ⌝ }
-    ensures { λ r. ⌜ Took m start want r ⌝ }
+// The first `want` free data blocks from `start` upward and round, in `blocks`, and the map in which they are marked. Each is marked once it
+// is found, so that the next search passes it.
+pub fn take(m: Map, start: usize, want: usize, blocks: &mut [u8; 128]) -> Map
+    requires { ⌜ (start < 128) × (want ≤ 128) × (length (now blocks) ≡ 128) × ((i : ℕ) → i < want → takenAt m start i < 128) ⌝ }
+    ensures { λ r. ⌜ Took m start want (now (blocks .exit)) r ⌝ }
 {
-    let mut blocks = [0u8; 128];
     let mut map = m;
     let mut i: usize = 0;
     while i < want {
@@ -212,8 +149,5 @@ pub fn take(m: Map, start: usize, want: usize) -> Taken
         map = with(map, d);
         i += 1;
     }
-    Taken {
-        blocks: blocks,
-        map: map,
-    }
+    map
 }

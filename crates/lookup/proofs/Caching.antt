@@ -12,6 +12,8 @@ use Rattle.protocol.specs.Entry.{entryAt, inUse, isModified}
 use Rattle.protocol.specs.Ring.{usedAt}
 use Rattle.protocol.specs.Check.{fitRefusal, cardRefusal}
 use Rattle.protocol.proofs.Checks.{orElse-first, orElse-next}
+use Rattle.ring.specs.declared.Fit.{Fit}
+use Rattle.ring.specs.Fitted.{Opened}
 use Rattle.lookup.specs.declared.Cached.{Cached}
 use Rattle.lookup.specs.declared.Cached.the-variants.{Block, Nothing, Refused}
 use Rattle.lookup.specs.Cached.{cachedIn, cachedRefusal, cachedAt}
@@ -42,19 +44,22 @@ unfolding cachedAt
 refused c i r e h =
     ap Refused e ∙ sym (ap (λ (t : Bool). cond t (cachedIn (geometryOf c) c i) (Refused (cachedRefusal c))) (ne-eqb _ _ (λ z. h (e ∙ z))))
 
-module _ (c : List ℕ) (i f : ℕ) (fe : f ≡ fitRefusal c) where
-  pub cached-unfit : (f ≡ 0 → ⊥) → Refused f ≡ cachedAt c i
+module _ (c : List ℕ) (i : ℕ) (f : Fit) (o : Opened c f) where
+  pub cached-unfit : (f .refusal ≡ 0 → ⊥) → Refused (f .refusal) ≡ cachedAt c i
   unfolding cachedRefusal
-  cached-unfit h = refused c i f (orElse-first f (fitRefusal c) _ fe h) h
+  cached-unfit h = refused c i (f .refusal) (orElse-first (f .refusal) (fitRefusal c) _ (o .refusal-is) h) h
 
-  module _ (z : f ≡ 0) (g : Geometry) (ge : g ≡ geometryOf c) (r : ℕ) (re : r ≡ cardRefusal g c) where
+  module _ (z : f .refusal ≡ 0) (r : ℕ) (re : r ≡ cardRefusal (f .geometry) c) where
+    own : f .geometry ≡ geometryOf c
+    own = o .framed z .geometry-is
+
     refusal-is : r ≡ cachedRefusal c
     unfolding cachedRefusal
-    refusal-is = orElse-next r (fitRefusal c) _ (sym z ∙ fe) (re ∙ ap (λ (x : Geometry). cardRefusal x c) ge)
+    refusal-is = orElse-next r (fitRefusal c) _ (sym z ∙ o .refusal-is) (re ∙ ap (λ (x : Geometry). cardRefusal x c) own)
 
     pub cached-refused : (r ≡ 0 → ⊥) → Refused r ≡ cachedAt c i
     cached-refused h = refused c i r refusal-is h
 
-    pub cached-told : (k : Cached) → r ≡ 0 → k ≡ cachedIn g c i → k ≡ cachedAt c i
+    pub cached-told : (k : Cached) → r ≡ 0 → k ≡ cachedIn (f .geometry) c i → k ≡ cachedAt c i
     unfolding cachedAt
-    cached-told k y q = rw (eq-eqb _ _ (sym refusal-is ∙ y)) (q ∙ ap (λ (x : Geometry). cachedIn x c i) ge)
+    cached-told k y q = rw (eq-eqb _ _ (sym refusal-is ∙ y)) (q ∙ ap (λ (x : Geometry). cachedIn x c i) own)

@@ -20,7 +20,8 @@ use Rattle.protocol.specs.Read.{modifiedAt, conditionOf, stateRefusal, stateOf}
 use Rattle.protocol.proofs.Below.{and-left, and-right, count-hit, count-miss}
 use Rattle.protocol.proofs.Checks.{orElse-first, orElse-next}
 use Rattle.protocol.proofs.Passed.{first-zero, passed}
-use Rattle.ring.specs.Fitted.{Placed}
+use Rattle.ring.specs.declared.Fit.{Fit}
+use Rattle.ring.specs.Fitted.{Placed, Opened}
 use Rattle.checks.specs.Keys.{undoableEntry}
 use Rattle.checks.specs.Passed.{Inspected}
 use Rattle.checks.specs.declared.Verdict.{Verdict}
@@ -76,28 +77,32 @@ unfolding stateOf
 state-refused c r e h =
     ap Refused e ∙ sym (ap (λ (t : Bool). cond t (Is (record { geometry = geometryOf c; condition = conditionOf (geometryOf c) c })) (Refused (stateRefusal c))) (ne-eqb _ _ (λ z. h (e ∙ z))))
 
-pub state-unfit : (c : List ℕ) (f : ℕ) → f ≡ fitRefusal c → (f ≡ 0 → ⊥) → Refused f ≡ stateOf c
-unfolding stateRefusal
-state-unfit c f e h = state-refused c f (orElse-first f (fitRefusal c) _ e h) h
-
-module _ (c : List ℕ) (f : ℕ) (g : Geometry) (ids cs : List ℕ) (v : Verdict) (fe : f ≡ fitRefusal c) (z : f ≡ 0) (ge : g ≡ geometryOf c)
-    (s : Inspected g c ids cs v) where
-  damage-is : v .refusal ≡ stateRefusal c
+module _ (c : List ℕ) (f : Fit) (o : Opened c f) where
+  pub state-unfit : (f .refusal ≡ 0 → ⊥) → Refused (f .refusal) ≡ stateOf c
   unfolding stateRefusal
-  damage-is = orElse-next (v .refusal) (fitRefusal c) _ (sym z ∙ fe) (s .refusal-is ∙ ap (λ (y : Geometry). damageRefusal y c) ge)
+  state-unfit h = state-refused c (f .refusal) (orElse-first (f .refusal) (fitRefusal c) _ (o .refusal-is) h) h
 
-  pub state-damaged : (v .refusal ≡ 0 → ⊥) → Refused (v .refusal) ≡ stateOf c
-  state-damaged h = state-refused c (v .refusal) damage-is h
+  module _ (xs : List ℕ) (v : Verdict) (z : f .refusal ≡ 0) (s : Inspected (f .geometry) c xs v) where
+    own : f .geometry ≡ geometryOf c
+    own = o .framed z .geometry-is
 
-  pub state-told : (k : Condition) → v .refusal ≡ 0 → k ≡ conditionOf g c → Is (record { geometry = g; condition = k }) ≡ stateOf c
-  unfolding stateOf
-  state-told k y q =
-      (λ t. Is (record { geometry = ge t; condition = (q ∙ ap (λ (x : Geometry). conditionOf x c) ge) t }))
-      ∙ sym (ap (λ (t : Bool). cond t (Is (record { geometry = geometryOf c; condition = conditionOf (geometryOf c) c })) (Refused (stateRefusal c))) (eq-eqb _ _ (sym damage-is ∙ y)))
+    damage-is : v .refusal ≡ stateRefusal c
+    unfolding stateRefusal
+    damage-is =
+        orElse-next (v .refusal) (fitRefusal c) _ (sym z ∙ o .refusal-is) (s .refusal-is ∙ ap (λ (y : Geometry). damageRefusal y c) own)
 
-pub inspected-placed : (g : Geometry) (c ids cs : List ℕ) (v : Verdict) → Inspected g c ids cs v → v .refusal ≡ 0 → Placed g c
+    pub state-damaged : (v .refusal ≡ 0 → ⊥) → Refused (v .refusal) ≡ stateOf c
+    state-damaged h = state-refused c (v .refusal) damage-is h
+
+    pub state-told : (k : Condition) → v .refusal ≡ 0 → k ≡ conditionOf (f .geometry) c → Is (record { geometry = f .geometry; condition = k }) ≡ stateOf c
+    unfolding stateOf
+    state-told k y q =
+        (λ t. Is (record { geometry = own t; condition = (q ∙ ap (λ (x : Geometry). conditionOf x c) own) t }))
+        ∙ sym (ap (λ (t : Bool). cond t (Is (record { geometry = geometryOf c; condition = conditionOf (geometryOf c) c })) (Refused (stateRefusal c))) (eq-eqb _ _ (sym damage-is ∙ y)))
+
+pub inspected-placed : (g : Geometry) (c xs : List ℕ) (v : Verdict) → Inspected g c xs v → v .refusal ≡ 0 → Placed g c
 unfolding damageRefusal ringFits
-inspected-placed g c ids cs v s z =
+inspected-placed g c xs v s z =
     let r : ringFits g c ≡ true = passed 3 (ringFits g c) (first-zero (refuse 4 (ringFits g c)) _ (sym (s .refusal-is) ∙ z)) in
     record {
       head = ltb-true _ _ (and-left (ltb (headOf c) (g .slots)) _ r);

@@ -26,10 +26,11 @@ use Rattle.protocol.proofs.Loaded.{cached-entry}
 use Rattle.protocol.proofs.Made.{in-disk}
 use Rattle.protocol.proofs.Passed.{first-zero, second-zero, passed}
 use Rattle.protocol.proofs.Region.{block, in-card, place-block}
+use Rattle.ring.proofs.Laws.{fit-fitted}
 use Rattle.lookup.specs.declared.Found.{Found}
 use Rattle.lookup.specs.declared.Found.the-variants.{Refused, Outside, Card, Disk}
 use Rattle.lookup.specs.Place.{placeIn, foundBy, foundIn, foundAt, fetchedAt, Copied}
-use Rattle.lookup.proofs.Laws.{fit-good, find-by-length}
+use Rattle.lookup.proofs.Laws.{find-by-length}
 
 -- ---- where it is
 
@@ -122,7 +123,7 @@ module _ (c d : List ℕ) (b : ℕ) where
           let ea : at ≡ diskPlace (G c) b = cc in
           let en : n ≡ blockSize (G c) = cc in
           let inside : at + n ≤ length d = omega (arith, home-within c d z b l) in
-          let m : Limits (G c) = limits (G c) (fit-good c (G c) (fitRefusal c) refl (fits-first c d z) refl) in
+          let m : Limits (G c) = limits (G c) (fit-fitted c (G c) (fitRefusal c) refl (fits-first c d z) refl .good) in
           (inside, omega arith, omega (arith, disk-long c d z))
 
   pub disk-part : (at n : ℕ) → Disk at n ≡ foundAt c d b → at + n ≤ length d

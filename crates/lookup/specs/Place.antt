@@ -1,7 +1,7 @@
 -- Where a block lies that is looked for: what read, look and the C interface tell in their own ways.
 use Prim.Native.Nat.{ℕ}
 use mathlib.Core.List.{List}
-use mathlib.Core.Bool.{Bool, cond, true}
+use mathlib.Core.Bool.{Bool, cond}
 use lib.ListN.{length}
 use Rattle.numbers.specs.Bytes.{part}
 use mathlib.Core.Path.{_≡_}
@@ -9,11 +9,9 @@ use lib.Dec.{eqb, ltb}
 use Rattle.protocol.specs.declared.Geometry.{Geometry}
 use Rattle.protocol.specs.Layout.{geometryOf, blockSize, blockPlace, diskPlace, diskLength}
 use Rattle.protocol.specs.Ring.{cached, currentOf}
-use Rattle.protocol.specs.Check.{refuse, _orElse_, fitRefusal, entriesFit, cardRefusal}
+use Rattle.protocol.specs.Check.{refuse, _orElse_, fitRefusal, cardRefusal}
 use Rattle.protocol.specs.Load.{pairRefusal}
 use Rattle.protocol.specs.Read.{readRefusal}
-use Rattle.ring.specs.Fitted.{Fitted}
-use Rattle.checks.specs.Keys.{numberKey, currentKey, Lists}
 use Rattle.lookup.specs.declared.Found.{Found}
 use Rattle.lookup.specs.declared.Found.the-variants.{Refused, Outside, Card, Disk}
 
@@ -45,13 +43,6 @@ foundAt c d b = foundBy (geometryOf c) c b (pairRefusal c d)
 -- what a read comes to: refused by all its checks, or where it was copied from
 unfoldable pub fetchedAt : List ℕ → List ℕ → List ℕ → ℕ → Found
 fetchedAt c d out b = cond (eqb (readRefusal c d out b) 0) (placeIn (geometryOf c) c b) (Refused (readRefusal c d out b))
-
--- a card that passed check 5, with the keys of its entries listed
-pub record Listed (g : Geometry) (c ids cs : List ℕ) : Type 0 where
-  pub fitted : Fitted g c
-  pub fits : entriesFit g c ≡ true
-  pub numbers : Lists (numberKey g c) ids (g .blocks)
-  pub currents : Lists (currentKey g c) cs (g .blocks)
 
 -- `size` bytes from `at` of src were copied to the whole of an output of that length; any other output is left as it was
 pub record Copied (src : List ℕ) (at size : ℕ) (before after : List ℕ) (done : Bool) : Type 0 where

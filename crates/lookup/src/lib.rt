@@ -4,6 +4,7 @@ use protocol::Geometry;
 use protocol::Held;
 use protocol::Reported;
 use protocol::State;
+use ring::Fit;
 use ring::Window;
 ghost use mathlib.Core.Path.{_≡_};
 ghost use mathlib.Core.Bool.{true};
@@ -11,8 +12,9 @@ ghost use Prim.Native.Nat.{_+_, _≤_, _<_};
 ghost use lib.ListN.{length};
 ghost use Rattle.protocol.specs.Layout.{goodGeometry, blockSize};
 ghost use Rattle.protocol.specs.Read.{heldBy, outputAfter, lookedAt, conditionOf, stateOf};
-ghost use Rattle.lookup.specs.Place.{Listed, Copied, placeIn, soughtAt, foundIn, foundAt, fetchedAt};
-ghost use Rattle.ring.specs.Fitted.{Fitted, Placed, WindowOf};
+ghost use Rattle.lookup.specs.Place.{Copied, placeIn, soughtAt, foundIn, foundAt, fetchedAt};
+ghost use Rattle.ring.specs.Fitted.{Fitted, Placed, WindowOf, Framed};
+ghost use Rattle.checks.specs.Passed.{Indexed};
 ghost use Rattle.lookup.specs.Counted.{counted};
 ghost use Rattle.lookup.specs.Cached.{cachedIn, cachedAt};
 ghost use Rattle.protocol.specs.Below.{countBelow};
@@ -46,39 +48,36 @@ fn size_of(g: Geometry) -> usize
     codec::block_size(g) as usize
 }
 
-// Where disk block b lies on a card whose keys are listed.
-fn locate(g: Geometry, card: &[u8], ids: &[u32; 128], currents: &[u32; 128], b: u64) -> Found
-    requires { ⌜ Listed g (now card) (now ids) (now currents) × (b < g .disk) ⌝ }
+// Where disk block b lies on a card whose numbers are indexed.
+fn locate(g: Geometry, card: &[u8], index: &[u8; 640], b: u64) -> Found
+    requires { ⌜ Indexed g (now card) (now index) × (b < g .disk) ⌝ }
     ensures { λ r. ⌜ r ≡ placeIn g (now (card .entry)) b ⌝ }
 {
-    let n = g.blocks as usize;
     let size = size_of(g);
-    let i = checks::find_key(ids, n, b as u32);
-    if i < n {
-        Found::Card(stores::block_place(g, wide(currents[i])), size)
+    let i = checks::find(g, card, index, b);
+    if i < g.blocks as usize {
+        let e = checks::entry_of(g, card, i);
+        Found::Card(stores::block_place(g, wide(e.current)), size)
     } else {
         Found::Disk(stores::disk_place(g, b), size)
     }
 }
 
 // The same of a card that passed checks 1 to 3. One pass over the entries serves the checks and the search.
-fn seek(g: Geometry, card: &[u8], b: u64) -> Found
-    requires { ⌜ Fitted g (now card) ⌝ }
-    ensures { λ r. ⌜ r ≡ soughtAt g (now (card .entry)) b ⌝ }
+fn seek(f: Fit, card: &[u8], b: u64) -> Found
+    requires { ⌜ Framed (now card) f ⌝ }
+    ensures { λ r. ⌜ r ≡ soughtAt (f .geometry) (now (card .entry)) b ⌝ }
 {
-    let mut ids = [0u32; 128];
-    let mut currents = [0u32; 128];
-    let v = checks::inspect(g, card, &mut ids, &mut currents);
+    let mut index = [0u8; 640];
+    let v = checks::examine(f, card, &mut index);
     if v.refusal != 0 {
         return Found::Refused(v.refusal);
     }
-    if !v.settled {
-        return Found::Refused(7);
-    }
+    let g = f.geometry;
     if g.disk <= b {
         return Found::Outside(size_of(g));
     }
-    locate(g, card, &ids, &currents, b)
+    locate(g, card, &index, b)
 }
 
 // Where disk block b lies, of a card over a disk of `long` bytes. No byte of the disk is looked at, so that a program can read the one block
@@ -86,15 +85,14 @@ fn seek(g: Geometry, card: &[u8], b: u64) -> Found
 pub fn find_in(card: &[u8], long: u64, b: u64) -> Found
     ensures { λ r. ⌜ r ≡ foundIn (now (card .entry)) long b ⌝ }
 {
-    let f = ring::fit_refusal(card);
-    if f != 0 {
-        return Found::Refused(f);
+    let f = ring::fit_of(card);
+    if f.refusal != 0 {
+        return Found::Refused(f.refusal);
     }
-    let g = ring::geometry_of(card);
-    if long != ring::disk_length(g) {
+    if long != ring::disk_length(f.geometry) {
         return Found::Refused(3);
     }
-    seek(g, card, b)
+    seek(f, card, b)
 }
 
 // Where disk block b lies.
@@ -228,17 +226,16 @@ fn condition(g: Geometry, card: &[u8], settled: bool) -> Condition
 pub fn state(card: &[u8]) -> Reported
     ensures { λ r. ⌜ r ≡ stateOf (now (card .entry)) ⌝ }
 {
-    let f = ring::fit_refusal(card);
-    if f != 0 {
-        return Reported::Refused(f);
+    let f = ring::fit_of(card);
+    if f.refusal != 0 {
+        return Reported::Refused(f.refusal);
     }
-    let g = ring::geometry_of(card);
-    let mut ids = [0u32; 128];
-    let mut currents = [0u32; 128];
-    let v = checks::inspect(g, card, &mut ids, &mut currents);
+    let mut index = [0u8; 640];
+    let v = checks::inspect(f, card, &mut index);
     if v.refusal != 0 {
         return Reported::Refused(v.refusal);
     }
+    let g = f.geometry;
     let c = condition(g, card, v.settled);
     Reported::Is(State {
         geometry: g,
@@ -266,14 +263,13 @@ fn cached_in(g: Geometry, card: &[u8], i: u64) -> Cached
 pub fn cached_at(card: &[u8], i: u64) -> Cached
     ensures { λ r. ⌜ r ≡ cachedAt (now (card .entry)) i ⌝ }
 {
-    let f = ring::fit_refusal(card);
-    if f != 0 {
-        return Cached::Refused(f);
+    let f = ring::fit_of(card);
+    if f.refusal != 0 {
+        return Cached::Refused(f.refusal);
     }
-    let g = ring::geometry_of(card);
-    let r = checks::card_refusal(g, card);
+    let r = checks::card_refusal(f, card);
     if r != 0 {
         return Cached::Refused(r);
     }
-    cached_in(g, card, i)
+    cached_in(f.geometry, card, i)
 }

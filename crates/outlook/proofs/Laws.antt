@@ -83,7 +83,9 @@ foreseen-refused c ns n r e q =
       comes-to =
           record {
             refusal-is = λ bs l. q ∙ first-stands n (fitRefusal c) (damageRefusal (geometryOf c) c) _ _ (t .is) (t .refuses);
-            planned = λ z. absurd (t .refuses (sym q ∙ z));
+            entries = λ z. absurd (t .refuses (sym q ∙ z));
+            previous = λ z. absurd (t .refuses (sym q ∙ z));
+            blocks = λ z. absurd (t .refuses (sym q ∙ z));
           };
     }
 

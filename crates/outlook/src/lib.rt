@@ -8,7 +8,6 @@ use listing::plain;
 use listing::say;
 use plan::Plan;
 use plan::Saving;
-use protocol::FRESH;
 use protocol::Mapped;
 ghost use Prim.Native.Nat.{_≤_};
 ghost use lib.ListN.{length};
@@ -44,14 +43,15 @@ fn heading(n: usize) {
     out(b"  number  data block  entry  replaces\n");
 }
 
-fn row(number: u64, block: u8, entry: u8, previous: u32) {
+// The previous data block is a byte, 255 for FRESH.
+fn row(number: u64, block: u8, entry: u8, previous: u8) {
     plain(STDOUT_FILENO, number, 8);
     plain(STDOUT_FILENO, block as u64, 12);
     plain(STDOUT_FILENO, entry as u64, 7);
-    if previous == FRESH {
-        out(b"      none");
-    } else {
+    if previous < 128 {
         plain(STDOUT_FILENO, previous as u64, 10);
+    } else {
+        out(b"      none");
     }
     out(b"\n");
 }

@@ -28,7 +28,7 @@ use Rattle.protocol.proofs.Searches.{walk-finds, unused-enough}
 use Rattle.ring.specs.Fitted.{Fitted}
 use Rattle.ring.proofs.Laws.{fit-fitted}
 use Rattle.plan.proofs.Rows.{walk-few}
-use Rattle.plan.proofs.Keyed.{start-blocks}
+use Rattle.plan.proofs.Start.{start-blocks}
 
 -- ---- what was passed
 
@@ -71,7 +71,7 @@ passed c m ns bs z =
 module _ {g : Geometry} {c ns bs : List ℕ} (v : Passed g c ns bs) where
   start-below : searchStart g c < g .blocks
   unfolding searchStart
-  start-below = mod-lt (headOf c) (start-blocks g c (v .fitted))
+  start-below = mod-lt (headOf c) (start-blocks g (v .fitted .good))
 
   -- what a walk found is a place on its ring
   found-below : (p : ℕ → Bool) (k : ℕ) → k < length (walked p (g .blocks) (searchStart g c) (g .blocks))
@@ -101,6 +101,9 @@ module _ {g : Geometry} {c ns bs : List ℕ} (v : Passed g c ns bs) where
   unfolding freeBlocks unusedEntries isFree takenBy unusedAt
   enough-unused =
       unused-enough (usedAt g c) (λ i. entryAt g c i .current) (g .blocks) (searchStart g c) (currents-apart g c (v .distinct)) (λ i l u. current-below i l) start-below
+
+  pub unused-room : length ns ≤ length (unusedEntries g c)
+  unused-room = omega (arith, v .room, enough-unused)
 
   pub entry-below : (i : ℕ) → i < length ns → entryFound g c ns i < g .blocks
   unfolding entryFound uncachedAt cached unusedEntries

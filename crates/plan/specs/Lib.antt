@@ -1,3 +1,3 @@
 pub mod Request
-pub mod Searched
+pub mod Walked
 pub mod Planned

@@ -1,5 +1,5 @@
 -- What a plan holds: for each block of the commit the place of its entry, its previous and its new data block.
-use Prim.Native.Nat.{ℕ, _+_}
+use Prim.Native.Nat.{ℕ, _+_, _≤_, _<_}
 use mathlib.Core.List.{List}
 use mathlib.Core.Bool.{Bool, true, cond, not, _&&_, _||_}
 use mathlib.Core.Path.{_≡_}
@@ -7,69 +7,75 @@ use lib.ListN.{length, getD}
 use lib.Dec.{eqb, ltb}
 use Rattle.protocol.specs.declared.Geometry.{Geometry}
 use Rattle.protocol.specs.declared.Map.{Map}
-use Rattle.protocol.specs.Below.{anyBelow, firstBelow}
+use Rattle.protocol.specs.Below.{anyBelow}
 use Rattle.protocol.specs.Entry.{FRESH}
 use Rattle.protocol.specs.Layout.{geometryOf}
-use Rattle.protocol.specs.Check.{refuse, _orElse_, entriesFit, cardRefusal}
+use Rattle.protocol.specs.Ring.{headOf, findEntry, cached, currentOf}
+use Rattle.protocol.specs.Check.{refuse, _orElse_, cardRefusal}
+use Rattle.protocol.specs.Search.{unusedEntries}
 use Rattle.protocol.specs.Map.{mapBy, isMarked, sameMap}
-use Rattle.protocol.specs.Commit.{newBlock, entryFound, oldBlock, commitRefusal}
-use Rattle.ring.specs.Fitted.{Fitted}
-use Rattle.checks.specs.Keys.{keyed, keyAt, numberKey, currentKey, Lists}
+use Rattle.protocol.specs.Commit.{newBlock, entryFound, oldBlock, numbersFit, roomFor, commitRefusal}
+use Rattle.checks.specs.Keys.{Lists}
+use Rattle.checks.specs.Passed.{Indexed}
 use Rattle.plan.specs.declared.Admitted.{Admitted}
 use Rattle.plan.specs.declared.Home.{Home}
-use Rattle.plan.specs.declared.Homes.{Homes}
-use Rattle.plan.specs.declared.Plan.{Plan}
 use Rattle.plan.specs.declared.Saving.{Saving}
 use Rattle.plan.specs.Request.{sizedRefusal}
+use Rattle.plan.specs.Walked.{unusedBefore}
 
--- what a plan starts from: a card that passed checks 1, 2 and 5, and the keys of its entries
-pub record Keyed (g : Geometry) (c ids currents : List ℕ) : Type 0 where
-  pub fitted : Fitted g c
-  pub fits : entriesFit g c ≡ true
-  pub numbers : Lists (numberKey g c) ids (g .blocks)
-  pub blocks : Lists (currentKey g c) currents (g .blocks)
+-- the previous block that a byte stands for: FRESH where it is no data block's number
+unfoldable pub previousOf : ℕ → ℕ
+previousOf x = cond (ltb x 128) x FRESH
 
 -- p holds of x, and x is none of the first n elements of xs
 unfoldable pub released : (ℕ → Bool) → List ℕ → ℕ → ℕ → Bool
 released p xs n x = p x && not (anyBelow (λ k. eqb (getD xs k 0) x) n)
 
--- the first of n keys that is b
-unfoldable pub keyPlace : List ℕ → ℕ → ℕ → ℕ
-keyPlace ids n b = firstBelow (keyed (keyAt ids) b) n
+-- the entry for b with its current block, or where it is not cached the next unused one of a walk that has gone `from` places
+pub record Housed (g : Geometry) (c : List ℕ) (b from : ℕ) (r : Home) : Type 0 where
+  pub entry : r .entry ≡ cond (cached g c b) (findEntry g c b) (getD (unusedEntries g c) (unusedBefore g c from) 0)
+  pub previous : previousOf (r .previous) ≡ cond (cached g c b) (currentOf g c b) FRESH
+  pub passed : unusedBefore g c (r .walked) ≡ cond (cached g c b) (unusedBefore g c from) (unusedBefore g c from + 1)
+  pub most : r .walked ≤ g .blocks
 
--- the entry that has the key b with its current block, or where none has it the next unused one
-pub record Housed (ids currents unused : List ℕ) (n b missed : ℕ) (r : Home) : Type 0 where
-  pub entry : r .entry ≡ cond (ltb (keyPlace ids n b) n) (keyPlace ids n b) (getD unused missed 0)
-  pub previous : r .previous ≡ cond (ltb (keyPlace ids n b) n) (getD currents (keyPlace ids n b) 0) FRESH
-  pub misses : r .misses ≡ cond (ltb (keyPlace ids n b) n) missed (missed + 1)
+-- the entries of the commit's blocks, and the bytes of their previous data blocks
+pub record AllHoused (g : Geometry) (c ns es ps : List ℕ) : Type 0 where
+  pub entries : Lists (entryFound g c ns) es (length ns)
+  pub previous : (i : ℕ) → i < length ns → previousOf (getD ps i 0) ≡ oldBlock g c ns i
 
--- the entries of the commit's blocks, and their previous data blocks
-pub record AllHoused (g : Geometry) (c ns : List ℕ) (r : Homes) : Type 0 where
-  pub entries : Lists (entryFound g c ns) (r .entries) (length ns)
-  pub previous : Lists (oldBlock g c ns) (r .previous) (length ns)
+-- what a plan starts from: a card that passed its checks, its Head, the index of its numbers and its map, and numbers that it has room for
+pub record Plannable (g : Geometry) (c : List ℕ) (h : ℕ) (xs : List ℕ) (m : Map) (ns : List ℕ) : Type 0 where
+  pub indexed : Indexed g c xs
+  pub head : h ≡ headOf c
+  pub map-is : m ≡ mapBy (isMarked g c)
+  pub numbers : numbersFit g ns ≡ true
+  pub room : roomFor g c (length ns) ≡ true
+  pub unused : length ns ≤ length (unusedEntries g c)
 
--- the plan of a commit of the numbers ns
-pub record Planned (g : Geometry) (c ns : List ℕ) (p : Plan) : Type 0 where
-  pub entries : Lists (entryFound g c ns) (p .entries) (length ns)
-  pub previous : Lists (oldBlock g c ns) (p .previous) (length ns)
-  pub blocks : Lists (newBlock g c) (p .blocks) (length ns)
-  pub map-is : p .map
+-- the plan of a commit of the numbers ns: entries, bytes of previous blocks, new blocks, and the map afterwards
+pub record Planned (g : Geometry) (c ns es ps qs : List ℕ) (m : Map) : Type 0 where
+  pub entries : Lists (entryFound g c ns) es (length ns)
+  pub previous : (i : ℕ) → i < length ns → previousOf (getD ps i 0) ≡ oldBlock g c ns i
+  pub blocks : Lists (newBlock g c) qs (length ns)
+  pub map-is : m
       ≡ mapBy (λ x.
       (isMarked g c x || anyBelow (λ k. eqb (newBlock g c k) x) (length ns)) && not (anyBelow (λ k. eqb (oldBlock g c ns k) x) (length ns)))
 
--- the refusals of the card's contents and of the map before commit's own; and where there is none the keys and the map of the card
-pub record Examined (g : Geometry) (c : List ℕ) (m : Map) (ns : List ℕ) (size : ℕ) (ids currents : List ℕ) (r : Admitted) : Type 0 where
-  pub refusal-is : r .refusal ≡ cardRefusal g c orElse refuse 15 (sameMap m (mapBy (isMarked g c))) orElse sizedRefusal g c ns size
-  pub keyed : r .refusal ≡ 0 → Keyed g c ids currents
-  pub map-is : r .refusal ≡ 0 → r .map ≡ mapBy (isMarked g c)
+-- the refusals of the card's contents and of the map before commit's own; and where there is none the index of the card's numbers
+pub record Examined (g : Geometry) (c : List ℕ) (m : Map) (ns : List ℕ) (size : ℕ) (xs : List ℕ) (r : ℕ) : Type 0 where
+  pub refusal-is : r ≡ cardRefusal g c orElse refuse 15 (sameMap m (mapBy (isMarked g c))) orElse sizedRefusal g c ns size
+  pub indexed : r ≡ 0 → Indexed g c xs
+  pub map-is : r ≡ 0 → m ≡ mapBy (isMarked g c)
 
--- all of commit's refusals, whatever the bytes of the data are; and where there is none the keys and the map of the card
-pub record Admission (c : List ℕ) (m : Map) (ns : List ℕ) (size : ℕ) (ids currents : List ℕ) (r : Admitted) : Type 0 where
+-- all of commit's refusals, whatever the bytes of the data are; and where there is none what its plan starts from
+pub record Admission (c : List ℕ) (m : Map) (ns : List ℕ) (size : ℕ) (xs : List ℕ) (r : Admitted) : Type 0 where
   pub refusal-is : (bs : List ℕ) → length bs ≡ size → r .refusal ≡ commitRefusal c m ns bs
-  pub keyed : r .refusal ≡ 0 → Keyed (geometryOf c) c ids currents
-  pub map-is : r .refusal ≡ 0 → r .map ≡ mapBy (isMarked (geometryOf c) c)
+  pub geometry-is : r .refusal ≡ 0 → r .geometry ≡ geometryOf c
+  pub plannable : r .refusal ≡ 0 → Plannable (r .geometry) c (r .head) xs m ns
 
 -- the same, and where there is no refusal the plan
 pub record Prepared (c : List ℕ) (m : Map) (ns : List ℕ) (size : ℕ) (r : Saving) : Type 0 where
   pub refusal-is : (bs : List ℕ) → length bs ≡ size → r .refusal ≡ commitRefusal c m ns bs
-  pub planned : r .refusal ≡ 0 → Planned (geometryOf c) c ns (r .plan)
+  pub entries : r .refusal ≡ 0 → Lists (entryFound (geometryOf c) c ns) (r .plan .entries) (length ns)
+  pub previous : r .refusal ≡ 0 → (i : ℕ) → i < length ns → previousOf (getD (r .plan .previous) i 0) ≡ oldBlock (geometryOf c) c ns i
+  pub blocks : r .refusal ≡ 0 → Lists (newBlock (geometryOf c) c) (r .plan .blocks) (length ns)

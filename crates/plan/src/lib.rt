@@ -1,26 +1,24 @@
 // The plan of a commit, from the card at entry: its own refusals, and for each block its entry, its previous and its new data block.
-use protocol::FRESH;
 use protocol::Geometry;
 use protocol::Map;
+use ring::Fit;
 ghost use mathlib.Core.Path.{_≡_};
 ghost use mathlib.Core.Bool.{Bool, true};
 ghost use mathlib.Core.List.{List};
-ghost use Prim.Native.Nat.{ℕ, _+_, _*_, _/_, _≤_, _<_};
+ghost use Prim.Native.Nat.{ℕ, _+_, _*_, _/_, _%_, _≤_, _<_};
 ghost use lib.ListN.{length};
 ghost use Rattle.protocol.specs.Below.{around};
 ghost use Rattle.protocol.specs.Layout.{goodGeometry, blockSize};
-ghost use Rattle.protocol.specs.Search.{unusedAt, searchStart};
-ghost use Rattle.protocol.specs.Map.{mapBy, isMarked};
-ghost use Rattle.protocol.specs.Check.{entriesFit};
+ghost use Rattle.protocol.specs.Search.{unusedAt, searchStart, unusedEntries};
+ghost use Rattle.protocol.specs.Map.{mapBy, isMarked, freeCount};
 ghost use Rattle.protocol.specs.Commit.{numbersFit, newNumber, numbersApart, roomFor};
+ghost use Rattle.ring.specs.Fitted.{Fitted, Framed};
+ghost use Rattle.checks.specs.Keys.{NONE};
+ghost use Rattle.checks.specs.Chain.{Blank};
+ghost use Rattle.checks.specs.Passed.{Indexed};
 ghost use Rattle.plan.specs.Request.{requestRefusal, sizedRefusal};
-ghost use Rattle.ring.specs.Fitted.{Fitted};
-ghost use Rattle.checks.specs.Keys.{NONE, keyed, keyAt, numberKey, Lists};
-ghost use Rattle.plan.specs.Searched.{Searched};
-ghost use Rattle.plan.specs.Planned.{released, Keyed, Housed, AllHoused, Planned, Examined, Admission, Prepared};
-
-// The key of an unused entry: no disk block has this number.
-const NOTHING: u32 = 65536;
+ghost use Rattle.plan.specs.Walked.{unusedBefore, Reached};
+ghost use Rattle.plan.specs.Planned.{released, Housed, AllHoused, Planned, Examined, Admission, Plannable, Prepared};
 
 // Not 10: each number is below D.
 fn numbers_fit(g: Geometry, numbers: &[u64]) -> bool
@@ -51,16 +49,25 @@ fn is_new(numbers: &[u64], i: usize) -> bool
     fresh
 }
 
-// Not 11: no number stands there twice.
+// Not 11: no number stands there twice. A number whose remainder none before it has is new without a search; a single one is.
 fn numbers_apart(numbers: &[u64]) -> bool
     ensures { λ r. ⌜ r ≡ numbersApart (now (numbers .entry)) ⌝ }
 {
+    if numbers.len() < 2 {
+        return true;
+    }
+    let mut seen = [0u8; 256];
     let mut i: usize = 0;
     while i < numbers.len() {
-        if !is_new(numbers, i) {
-            return false;
-        }
+        let at = i;
+        let r = (numbers[at] % 256) as usize;
         i += 1;
+        if seen[r] != 0 {
+            if !is_new(numbers, at) {
+                return false;
+            }
+        }
+        seen[r] = 1;
     }
     true
 }
@@ -89,160 +96,105 @@ fn request_refusal(g: Geometry, numbers: &[u64], size: usize) -> u8
     0
 }
 
-// Places that a search found, in the order of the search.
-pub struct Places {
-    pub count: usize,
-    pub places: [u8; 128],
-}
-
-// The place j places forward from `at`, round at n.
-pub fn forward(n: usize, at: usize, j: usize) -> usize
-    requires { ⌜ (at < n) × (j ≤ n) × (n ≤ 256) ⌝ }
-    ensures { λ r. ⌜ (r ≡ around n at j) × (r < n) ⌝ }
-{
-    let ahead = at + j;
-    if ahead < n { ahead } else { ahead - n }
-}
-
-// Walks from `start` upward and round n places, and lists those that are marked NOTHING until it has as many as are wanted.
-fn walk(marks: &[u32; 128], n: usize, start: usize, want: usize) -> Places
-    requires { ⌜ (start < n) × (n ≤ 128) ⌝ }
-    ensures { λ r. ⌜ Searched (keyed (keyAt (now (marks .entry))) NONE) n start want r ⌝ }
-{
-    let mut places = [0u8; 128];
-    let mut count: usize = 0;
-    let mut at = start;
-    let mut j: usize = 0;
-    while j < n {
-        if want <= count {
-            return Places {
-                count: count,
-                places: places,
-            };
-        }
-        let here = at;
-        at = forward(n, here, 1);
-        j += 1;
-        if marks[here] == NOTHING {
-            places[count] = here as u8;
-            count += 1;
-        }
-    }
-    Places {
-        count: count,
-        places: places,
-    }
-}
-
 // Document 01's search starts at Head mod N.
-pub fn search_start(g: Geometry, card: &[u8]) -> usize
-    requires { ⌜ Fitted g (now card) ⌝ }
-    ensures { λ r. ⌜ (r ≡ searchStart g (now (card .entry))) × (r < g .blocks) ⌝ }
+pub fn search_start(g: Geometry, head: u64) -> usize
+    requires { ⌜ goodGeometry g ≡ true ⌝ }
+    ensures { λ r. ⌜ (r ≡ head % g .blocks) × (r < g .blocks) ⌝ }
 {
-    (ring::head_of(card) % g.blocks) as usize
+    (head % g.blocks) as usize
 }
 
-// The first `want` unused entries, from the keys of the numbers.
-pub fn unused_entries(g: Geometry, card: &[u8], ids: &[u32; 128], want: usize) -> Places
-    requires { ⌜ Fitted g (now card) × (entriesFit g (now card) ≡ true) × Lists (numberKey g (now card)) (now ids) (g .blocks) ⌝ }
-    ensures { λ r. ⌜ Searched (unusedAt g (now (card .entry))) (g .blocks) (searchStart g (now (card .entry))) want r ⌝ }
+// The place j places forward from `start` among the card's entries.
+pub fn place_after(g: Geometry, start: usize, j: usize) -> usize
+    requires { ⌜ (goodGeometry g ≡ true) × (start < g .blocks) × (j ≤ g .blocks) ⌝ }
+    ensures { λ r. ⌜ (r ≡ around (g .blocks) start j) × (r < g .blocks) ⌝ }
 {
-    walk(ids, g.blocks as usize, search_start(g, card), want)
+    ring::forward(g.blocks, start as u64, j as u64) as usize
 }
 
-// Where one block of a commit belongs: its entry, its previous data block, and how many numbers were not cached up to it.
+// The first place of the walk from `start` upward and round, from the place j = `from` of the walk on, that has an unused entry; N where none
+// has. A walk goes on where it stopped, so that all of a commit's walks pass each entry once.
+pub fn next_unused(g: Geometry, card: &[u8], start: usize, from: usize) -> usize
+    requires { ⌜ Fitted g (now card) × (start < g .blocks) × (from ≤ g .blocks) ⌝ }
+    ensures { λ r. ⌜ Reached (unusedAt g (now (card .entry))) (g .blocks) start from r ⌝ }
+{
+    let n = g.blocks as usize;
+    let mut j = from;
+    while j < n {
+        let e = checks::entry_of(g, card, place_after(g, start, j));
+        if !codec::in_use(e) {
+            return j;
+        }
+        j += 1;
+    }
+    n
+}
+
+// Where one block of a commit belongs: its entry, its previous data block as a byte, 255 for FRESH, and how far the walk for unused entries went.
 pub struct Home {
     pub entry: u8,
-    pub previous: u32,
-    pub misses: usize,
+    pub previous: u8,
+    pub walked: usize,
 }
 
-// The entry with the key b, or the next unused one.
-fn home_of(
-    ids: &[u32; 128],
-    currents: &[u32; 128],
-    unused: &[u8; 128],
-    n: usize,
-    b: u64,
-    misses: usize,
-) -> Home
-    requires { ⌜ (n ≤ 128) × (b < NONE) × (misses < 128) ⌝ }
-    ensures { λ r. ⌜ Housed (now (ids .entry)) (now (currents .entry)) (now (unused .entry)) n b misses r ⌝ }
+// The entry for b with its current block, or the next unused one.
+fn home_of(g: Geometry, card: &[u8], index: &[u8; 640], start: usize, b: u64, from: usize) -> Home
+    requires { ⌜ Indexed g (now card) (now index) × (b < NONE) × (start ≡ searchStart g (now card)) × (start < g .blocks) × (from ≤ g .blocks) × (unusedBefore g (now card) from < length (unusedEntries g (now card))) ⌝ }
+    ensures { λ r. ⌜ Housed g (now (card .entry)) b from r ⌝ }
 {
-    let at = checks::find_key(ids, n, b as u32);
-    if at < n {
-        Home {
-            entry: at as u8,
-            previous: currents[at],
-            misses: misses,
-        }
-    } else {
-        Home {
-            entry: unused[misses],
-            previous: FRESH,
-            misses: misses + 1,
-        }
+    let at = checks::find(g, card, index, b);
+    if at < g.blocks as usize {
+        let e = checks::entry_of(g, card, at);
+        let found = at as u8;
+        let current = e.current as u8;
+        return Home {
+            entry: found,
+            previous: current,
+            walked: from,
+        };
+    }
+    let j = next_unused(g, card, start, from);
+    let unused = place_after(g, start, j) as u8;
+    let after = j + 1;
+    Home {
+        entry: unused,
+        previous: 255,
+        walked: after,
     }
 }
 
 // For each block of a commit its entry's place and its previous data block.
-pub struct Homes {
-    pub entries: [u8; 128],
-    pub previous: [u32; 128],
-}
-
 fn homes_of(
     g: Geometry,
     card: &[u8],
-    ids: &[u32; 128],
-    currents: &[u32; 128],
+    index: &[u8; 640],
+    start: usize,
     numbers: &[u64],
-) -> Homes
-    requires { ⌜ Keyed g (now card) (now ids) (now currents) × (numbersFit g (now numbers) ≡ true) × (length (now numbers) ≤ 128) ⌝ }
-    ensures { λ r. ⌜ AllHoused g (now (card .entry)) (now (numbers .entry)) r ⌝ }
+    entries: &mut [u8; 128],
+    previous: &mut [u8; 128],
+)
+    requires { ⌜ Indexed g (now card) (now index) × (start ≡ searchStart g (now card)) × (start < g .blocks) × (numbersFit g (now numbers) ≡ true) × (length (now numbers) ≤ length (unusedEntries g (now card))) × (length (now numbers) ≤ 128) × (length (now entries) ≡ 128) × (length (now previous) ≡ 128) ⌝ }
+    ensures { λ _. ⌜ AllHoused g (now (card .entry)) (now (numbers .entry)) (now (entries .exit)) (now (previous .exit)) ⌝ }
 {
-    let found = unused_entries(g, card, ids, numbers.len());
-    let unused = found.places;
-    let mut entries = [0u8; 128];
-    let mut previous = [0u32; 128];
-    let mut misses: usize = 0;
+    let mut walked: usize = 0;
     let mut i: usize = 0;
     while i < numbers.len() {
-        let h = home_of(
-            ids,
-            currents,
-            &unused,
-            g.blocks as usize,
-            numbers[i],
-            misses,
-        );
+        let h = home_of(g, card, index, start, numbers[i], walked);
         entries[i] = h.entry;
         previous[i] = h.previous;
-        misses = h.misses;
+        walked = h.walked;
         i += 1;
     }
-    Homes {
-        entries: entries,
-        previous: previous,
-    }
 }
 
-// The plan of a commit: for each block its entry's place, its previous and its new data block, and the map once it is made.
-pub struct Plan {
-    pub entries: [u8; 128],
-    pub previous: [u32; 128],
-    pub blocks: [u8; 128],
-    pub map: Map,
-}
-
-fn wide(x: u32) -> usize
+fn wide(x: u8) -> usize
     ensures { λ r. ⌜ r ≡ x ⌝ }
 {
     x as usize
 }
 
 // The map with the bits of the first n previous blocks cleared: a finished commit gives them up. FRESH is no block.
-fn release(map: Map, previous: &[u32; 128], n: usize) -> Map
+fn release(map: Map, previous: &[u8; 128], n: usize) -> Map
     requires { ⌜ n ≤ 128 ⌝ }
     ensures { λ r. ⌜ ((p : ℕ → Bool) → map ≡ mapBy p → r ≡ mapBy (released p (now (previous .entry)) n)) ⌝ }
 {
@@ -258,119 +210,88 @@ fn release(map: Map, previous: &[u32; 128], n: usize) -> Map
     left
 }
 
-// 8 to 14. Free blocks are counted by the card's map.
-fn save_refusal(g: Geometry, map: Map, numbers: &[u64], size: usize) -> u8
+// 8 to 14, where `free` blocks are free.
+fn save_refusal(g: Geometry, free: u64, numbers: &[u64], size: usize) -> u8
     requires { ⌜ goodGeometry g ≡ true ⌝ }
-    ensures { λ r. ⌜ ((c : List ℕ) → map ≡ mapBy (isMarked g c) → r ≡ sizedRefusal g c (now (numbers .entry)) size) ⌝ }
+    ensures { λ r. ⌜ ((c : List ℕ) → free ≡ freeCount (mapBy (isMarked g c)) → r ≡ sizedRefusal g c (now (numbers .entry)) size) ⌝ }
 {
     let refusal = request_refusal(g, numbers, size);
     if refusal != 0 {
         return refusal;
     }
-    if freemap::free_count(map) < numbers.len() as u64 {
-        14
-    } else {
-        0
-    }
+    if free < numbers.len() as u64 { 14 } else { 0 }
 }
 
-// What a commit is told before it is planned: its refusal, and where there is none the card's map.
+// 4 to 15 of a card that fits, and the index of its numbers. Each entry is read once, for the checks and for the plan.
+fn examine(f: Fit, card: &[u8], map: Map, numbers: &[u64], size: usize, index: &mut [u8; 640]) -> u8
+    requires { ⌜ Framed (now card) f × Blank (now index) ⌝ }
+    ensures { λ r. ⌜ Examined (f .geometry) (now (card .entry)) map (now (numbers .entry)) size (now (index .exit)) r ⌝ }
+{
+    let v = checks::examine(f, card, index);
+    if v.refusal != 0 {
+        return v.refusal;
+    }
+    if !freemap::same(map, v.map) {
+        return 15;
+    }
+    save_refusal(f.geometry, v.free, numbers, size)
+}
+
+// What a commit is told before it is planned: its refusal, and where there is none the card's geometry and Head.
 pub struct Admitted {
     pub refusal: u8,
-    pub map: Map,
+    pub geometry: Geometry,
+    pub head: u64,
 }
 
-fn not_admitted(refusal: u8) -> Admitted
-    ensures { λ r. ⌜ r .refusal ≡ refusal ⌝ }
+// All of the refusals of a commit of `size` bytes, and where there is none the index of the card's numbers, for the plan.
+pub fn admit(card: &[u8], map: Map, numbers: &[u64], size: usize, index: &mut [u8; 640]) -> Admitted
+    requires { ⌜ Blank (now index) ⌝ }
+    ensures { λ r. ⌜ Admission (now (card .entry)) map (now (numbers .entry)) size (now (index .exit)) r ⌝ }
 {
+    let f = ring::fit_of(card);
+    let g = f.geometry;
+    if f.refusal != 0 {
+        return Admitted {
+            refusal: f.refusal,
+            geometry: g,
+            head: 0,
+        };
+    }
+    let r = examine(f, card, map, numbers, size, index);
     Admitted {
-        refusal: refusal,
-        map: Map { low: 0, high: 0 },
+        refusal: r,
+        geometry: g,
+        head: f.head,
     }
 }
 
-// 4 to 15 of a card that fits, and the keys of its entries. Each entry is decoded once, for the checks and for the plan.
-fn examine(
-    g: Geometry,
-    card: &[u8],
-    map: Map,
-    numbers: &[u64],
-    size: usize,
-    ids: &mut [u32; 128],
-    currents: &mut [u32; 128],
-) -> Admitted
-    requires { ⌜ Fitted g (now card) × (length (now ids) ≡ 128) × (length (now currents) ≡ 128) ⌝ }
-    ensures { λ r. ⌜ Examined g (now (card .entry)) map (now (numbers .entry)) size (now (ids .exit)) (now (currents .exit)) r ⌝ }
-{
-    let v = checks::inspect(g, card, ids, currents);
-    if v.refusal != 0 {
-        return not_admitted(v.refusal);
-    }
-    if !v.settled {
-        return not_admitted(7);
-    }
-    let marks = v.marks;
-    let own = checks::map_of(g, &marks);
-    if !freemap::same(map, own) {
-        return not_admitted(15);
-    }
-    Admitted {
-        refusal: save_refusal(g, own, numbers, size),
-        map: own,
-    }
-}
-
-// All of the refusals of a commit of `size` bytes, and where there is none the card's map and the keys of its entries, for the plan.
-pub fn admit(
-    card: &[u8],
-    map: Map,
-    numbers: &[u64],
-    size: usize,
-    ids: &mut [u32; 128],
-    currents: &mut [u32; 128],
-) -> Admitted
-    requires { ⌜ (length (now ids) ≡ 128) × (length (now currents) ≡ 128) ⌝ }
-    ensures { λ r. ⌜ Admission (now (card .entry)) map (now (numbers .entry)) size (now (ids .exit)) (now (currents .exit)) r ⌝ }
-{
-    let misfit = ring::fit_refusal(card);
-    if misfit != 0 {
-        return not_admitted(misfit);
-    }
-    examine(
-        ring::geometry_of(card),
-        card,
-        map,
-        numbers,
-        size,
-        ids,
-        currents,
-    )
-}
-
-// The plan of a commit that is not refused.
+// The plan of a commit that is not refused: for each block its entry's place, its previous and its new data block, and the map once it is made.
 pub fn plan_of(
     g: Geometry,
     card: &[u8],
-    ids: &[u32; 128],
-    currents: &[u32; 128],
+    head: u64,
+    index: &[u8; 640],
     map: Map,
     numbers: &[u64],
-) -> Plan
-    requires { ⌜ Keyed g (now card) (now ids) (now currents) × (map ≡ mapBy (isMarked g (now card))) × (numbersFit g (now numbers) ≡ true) × (roomFor g (now card) (length (now numbers)) ≡ true) ⌝ }
-    ensures { λ r. ⌜ Planned g (now (card .entry)) (now (numbers .entry)) r ⌝ }
+    entries: &mut [u8; 128],
+    previous: &mut [u8; 128],
+    blocks: &mut [u8; 128],
+) -> Map
+    requires { ⌜ Plannable g (now card) head (now index) map (now numbers) × (length (now entries) ≡ 128) × (length (now previous) ≡ 128) × (length (now blocks) ≡ 128) ⌝ }
+    ensures { λ r. ⌜ Planned g (now (card .entry)) (now (numbers .entry)) (now (entries .exit)) (now (previous .exit)) (now (blocks .exit)) r ⌝ }
 {
-    let free = freemap::take(map, search_start(g, card), numbers.len());
-    let h = homes_of(g, card, ids, currents, numbers);
-    let entries = h.entries;
-    let previous = h.previous;
-    let blocks = free.blocks;
-    let after = release(free.map, &previous, numbers.len());
-    Plan {
-        entries: entries,
-        previous: previous,
-        blocks: blocks,
-        map: after,
-    }
+    let start = search_start(g, head);
+    let taken = freemap::take(map, start, numbers.len(), blocks);
+    homes_of(g, card, index, start, numbers, entries, previous);
+    release(taken, previous, numbers.len())
+}
+
+// A plan as a whole, for whoever shows it.
+pub struct Plan {
+    pub entries: [u8; 128],
+    pub previous: [u8; 128],
+    pub blocks: [u8; 128],
 }
 
 // What a commit comes to: refused, or planned.
@@ -386,9 +307,8 @@ pub fn unplanned(refusal: u8) -> Saving
         refusal: refusal,
         plan: Plan {
             entries: [0u8; 128],
-            previous: [0u32; 128],
+            previous: [0u8; 128],
             blocks: [0u8; 128],
-            map: Map { low: 0, high: 0 },
         },
     }
 }
@@ -397,17 +317,32 @@ pub fn unplanned(refusal: u8) -> Saving
 pub fn prepare(card: &[u8], map: Map, numbers: &[u64], size: usize) -> Saving
     ensures { λ r. ⌜ Prepared (now (card .entry)) map (now (numbers .entry)) size r ⌝ }
 {
-    let mut ids = [0u32; 128];
-    let mut currents = [0u32; 128];
-    let a = admit(card, map, numbers, size, &mut ids, &mut currents);
+    let mut index = [0u8; 640];
+    let a = admit(card, map, numbers, size, &mut index);
     if a.refusal != 0 {
         return unplanned(a.refusal);
     }
-    let g = ring::geometry_of(card);
-    let p = plan_of(g, card, &ids, &currents, a.map, numbers);
+    let mut entries = [0u8; 128];
+    let mut previous = [0u8; 128];
+    let mut blocks = [0u8; 128];
+    plan_of(
+        a.geometry,
+        card,
+        a.head,
+        &index,
+        map,
+        numbers,
+        &mut entries,
+        &mut previous,
+        &mut blocks,
+    );
     Saving {
         refusal: 0,
-        plan: p,
+        plan: Plan {
+            entries: entries,
+            previous: previous,
+            blocks: blocks,
+        },
     }
 }
 

@@ -1,5 +1,5 @@
 -- What a preview answers and tells, from what a commit is told before it is planned. Assumes nothing.
-use Prim.Native.Nat.{ℕ, _+_, _*_, _/_, _≤_, _<_}
+use Prim.Native.Nat.{ℕ, _+_, _*_, _/_, _%_, _≤_, _<_}
 use mathlib.Core.List.{List, []}
 use mathlib.Core.Bool.{Bool, true, cond}
 use mathlib.Core.Path.{_≡_, refl, sym, ap, _∙_}
@@ -15,22 +15,21 @@ use Rattle.protocol.specs.declared.Map.{Map}
 use Rattle.protocol.specs.Layout.{goodGeometry, geometryOf, blockSize}
 use Rattle.protocol.specs.Search.{searchStart}
 use Rattle.protocol.specs.Store.{storesOf}
-use Rattle.protocol.specs.Map.{mapBy, isMarked, freeCount}
-use Rattle.protocol.specs.Commit.{roomFor, commitWork}
+use Rattle.protocol.specs.Map.{freeCount}
+use Rattle.protocol.specs.Commit.{commitWork}
 use Rattle.protocol.specs.Preview.{previewRefusal, previewAnswer, blocksOf, blocksAfter}
 use Rattle.protocol.proofs.Below.{either, same-or-other}
 use Rattle.protocol.proofs.Checks.{Limits, limits}
 use Rattle.protocol.proofs.Previewed.{length-told, told-at, refusal-same, refusal-nine, passed-length}
-use Rattle.freemap.specs.declared.Taken.{Taken}
 use Rattle.freemap.specs.Bits.{takenAt}
 use Rattle.freemap.specs.Taken.{Took}
-use Rattle.ring.specs.Fitted.{Fitted}
 use Rattle.plan.specs.declared.Admitted.{Admitted}
-use Rattle.plan.specs.Planned.{Admission}
-use Rattle.plan.proofs.Bounds.{Passed, passed, few-numbers}
+use Rattle.plan.specs.Planned.{Admission, Plannable}
+use Rattle.plan.proofs.Bounds.{passed}
 use Rattle.plan.proofs.Count.{runs-count}
-use Rattle.plan.proofs.Order.{plan-ready, admitted-long, admitted-keyed, admitted-map, admitted-room}
+use Rattle.plan.proofs.Order.{plan-few, plan-ready}
 use Rattle.plan.proofs.Room.{enough-free, taken-block}
+use Rattle.plan.proofs.Start.{start-is}
 use Rattle.preview.specs.ToldBlocks.{ToldBlocks}
 
 pub tell-start : (ps xs : List ℕ) (k : ℕ) → k < 0 → getD xs k 0 ≡ getD ps k 0
@@ -55,8 +54,8 @@ module _ (n told long : ℕ) where
   pub asked-not : (told ≡ n → ⊥) → 0 ≡ cond (eqb told n) long 0
   asked-not h = rw (ne-eqb told n h)
 
-module _ (c : List ℕ) (m : Map) (ns bs out : List ℕ) (size : ℕ) (e : size ≡ cond (eqb (length out) (length ns)) (length bs) 0) (ids currents : List ℕ)
-    (a : Admitted) (x : Admission c m ns size ids currents a) where
+module _ (c : List ℕ) (m : Map) (ns bs out : List ℕ) (size : ℕ) (e : size ≡ cond (eqb (length out) (length ns)) (length bs) 0) (xs : List ℕ)
+    (a : Admitted) (x : Admission c m ns size xs a) where
   refusal-is : a .refusal ≡ previewRefusal c m ns bs out
   refusal-is = ⊎-elim
       (λ h. x .refusal-is bs (sym (e ∙ rw h)) ∙ sym (refusal-same c m ns bs out (eqb-true _ _ h)))
@@ -76,49 +75,46 @@ module _ (c : List ℕ) (m : Map) (ns bs out : List ℕ) (size : ℕ) (e : size 
     told-length : length out ≡ length ns
     told-length = passed-length c m ns bs out none
 
-    preview-passed : Passed (geometryOf c) c ns bs
-    preview-passed = passed c m ns bs (sym (refusal-same c m ns bs out told-length) ∙ none)
+    ready : Plannable (a .geometry) c (a .head) xs m ns
+    ready = x .plannable z
+
+    pub preview-good : goodGeometry (a .geometry) ≡ true
+    preview-good = ready .indexed .fitted .good
 
     pub preview-few : length out ≤ 128
-    preview-few = omega (arith, told-length, few-numbers preview-passed)
+    preview-few = omega (arith, told-length, plan-few (a .geometry) c ns preview-good m (ready .map-is) (ready .room))
 
-    pub preview-long : 128 ≤ length c
-    preview-long = admitted-long c m ns size ids currents a x z
+    pub preview-counts : (goodGeometry (a .geometry) ≡ true) × (length ns < a .geometry .slots)
+    preview-counts =
+        let q = x .geometry-is z in
+        let v = passed c m ns bs (sym (refusal-same c m ns bs out told-length) ∙ none) in
+        let l : Limits (geometryOf c) = limits (geometryOf c) (v .fitted .good) in
+        rw q (v .fitted .good, omega (arith, v .count))
 
-    module _ (g : Geometry) (q : g ≡ geometryOf c) where
-      pub preview-fitted : Fitted g c
-      preview-fitted = admitted-keyed c m ns size ids currents a x z g q .fitted
+    module _ (start : ℕ) (b : (start ≡ a .head % a .geometry .blocks) × (start < a .geometry .blocks)) where
+      place : (start ≡ searchStart (a .geometry) c) × (start < a .geometry .blocks)
+      place = (start-is (a .geometry) c (a .head) start (ready .head) (b .0), b .1)
 
-      pub preview-counts : (goodGeometry g ≡ true) × (length ns < g .slots)
-      preview-counts =
-          let v = preview-passed in
-          let l : Limits (geometryOf c) = limits (geometryOf c) (v .fitted .good) in
-          rw q (v .fitted .good, omega (arith, v .count))
+      pub preview-ready : (start < 128) × (length ns ≤ 128) × ((i : ℕ) → i < length ns → takenAt m start i < 128)
+      preview-ready = plan-ready (a .geometry) c ns preview-good m (ready .map-is) (ready .room) start place
 
-      module _ (start : ℕ) (b : (start ≡ searchStart g c) × (start < g .blocks)) where
-        own : a .map ≡ mapBy (isMarked g c)
-        own = admitted-map c m ns size ids currents a x z g q
-
-        room : roomFor g c (length ns) ≡ true
-        room = admitted-room c m ns size ids currents a x z g q
-
-        pub preview-ready : (start < 128) × (length ns ≤ 128) × ((i : ℕ) → i < length ns → takenAt (a .map) start i < 128)
-        preview-ready = plan-ready g c ns (preview-fitted .good) (a .map) own room start b
-
-        pub preview-done : (n : ℕ) (t : Taken) (told : List ℕ) → n ≡ length ns * (blockSize g / 8 + 4) + 1 → Took (a .map) start (length ns) t
-            → ToldBlocks (t .blocks) out told → (Done n ≡ previewAnswer c m ns bs out) × (told ≡ blocksAfter c m ns bs out)
-        unfolding previewAnswer blocksAfter commitWork storesOf
-        preview-done n t told k w h =
-            let f = eq-eqb _ _ none in
-            let long = length ns in
-            let enough = enough-free g c (preview-fitted .good) (a .map) own long room in
-            let count = k ∙ ap (λ (y : Geometry). long * (blockSize y / 8 + 4) + 1) q ∙ sym (runs-count (geometryOf c) c ns bs) in
-            let blocks : told ≡ blocksOf g c long =
-            ext-getD 0 _ _ (h .sized ∙ told-length ∙ sym (length-told g c long))
-            (λ i j.
-            let l : i < long = omega (arith, h .sized, told-length) in
-            h .listed i (omega (arith, told-length))
-            ∙ w .blocks i l
-            ∙ taken-block g c (preview-fitted .good) (a .map) own (freeCount (a .map)) refl long enough start b i l
-            ∙ sym (told-at g c long i l)) in
-            (rw f (ap Done count), rw f (blocks ∙ ap (λ (y : Geometry). blocksOf y c long) q))
+      pub preview-done : (n : ℕ) (found told : List ℕ) (t : Map) → n ≡ length ns * (blockSize (a .geometry) / 8 + 4) + 1
+          → Took m start (length ns) found t → ToldBlocks found out told
+          → (Done n ≡ previewAnswer c m ns bs out) × (told ≡ blocksAfter c m ns bs out)
+      unfolding previewAnswer blocksAfter commitWork storesOf
+      preview-done n found told t k w h =
+          let g = a .geometry in
+          let q = x .geometry-is z in
+          let f = eq-eqb _ _ none in
+          let long = length ns in
+          let enough = enough-free g c preview-good m (ready .map-is) long (ready .room) in
+          let count = k ∙ ap (λ (y : Geometry). long * (blockSize y / 8 + 4) + 1) q ∙ sym (runs-count (geometryOf c) c ns bs) in
+          let blocks : told ≡ blocksOf g c long =
+          ext-getD 0 _ _ (h .sized ∙ told-length ∙ sym (length-told g c long))
+          (λ i j.
+          let l : i < long = omega (arith, h .sized, told-length) in
+          h .listed i (omega (arith, told-length))
+          ∙ w .blocks i l
+          ∙ taken-block g c preview-good m (ready .map-is) (freeCount m) refl long enough start place i l
+          ∙ sym (told-at g c long i l)) in
+          (rw f (ap Done count), rw f (blocks ∙ ap (λ (y : Geometry). blocksOf y c long) q))

@@ -43,15 +43,14 @@ pub fn preview(card: &[u8], map: Map, numbers: &[u64], data: &[u8], blocks: &mut
 {
     let n = numbers.len();
     let size = size_asked(n, blocks.len(), data.len());
-    let mut ids = [0u32; 128];
-    let mut currents = [0u32; 128];
-    let a = plan::admit(card, map, numbers, size, &mut ids, &mut currents);
+    let mut index = [0u8; 640];
+    let a = plan::admit(card, map, numbers, size, &mut index);
     if a.refusal != 0 {
         return Answer::Refused(a.refusal);
     }
-    let g = ring::geometry_of(card);
-    let free = freemap::take(a.map, plan::search_start(g, card), n);
-    let found = free.blocks;
+    let g = a.geometry;
+    let mut found = [0u8; 128];
+    freemap::take(map, plan::search_start(g, a.head), n, &mut found);
     tell(&found, blocks);
     Answer::Done(plan::count_of(g, n))
 }

@@ -2,7 +2,7 @@
 -- Assumes nothing.
 use Prim.Native.Nat.{ℕ, zero, suc, _+_, _-_, _≤_, _<_}
 use mathlib.Core.Bool.{Bool, true, false, cond, _&&_, _||_}
-use mathlib.Core.Path.{_≡_, refl, sym, subst}
+use mathlib.Core.Path.{_≡_, refl, sym, subst, _∙_}
 use mathlib.Core.Logic.{_⊎_, inl, inr, ⊎-elim}
 use native.Mathlib.Nat.{eq-or-lt-of-le, le-of-suc-le-suc, not-suc-le-zero}
 use native.Mathlib.Numerals.{add-one}
@@ -75,6 +75,13 @@ same-or-other a b = ⊎-elim (λ e. inl (eqb-true a b e)) (λ e. inr (eqb-false 
 
 -- ---- every index
 
+-- a recursion by the count looks at the test below it alone
+pub below-cong : {A : Type 0} (r : (ℕ → Bool) → ℕ → A) (start : A) (step : A → Bool → A) → ((p : ℕ → Bool) → r p 0 ≡ start)
+    → ((p : ℕ → Bool) (n : ℕ) → r p (suc n) ≡ step (r p n) (p n)) → (p q : ℕ → Bool) (n : ℕ) → ((i : ℕ) → i < n → p i ≡ q i) → r p n ≡ r q n
+below-cong r start step z s p q zero f = z p ∙ sym (z q)
+below-cong r start step z s p q (suc n) f =
+    s p n ∙ (λ t. step (below-cong r start step z s p q n (λ i l. f i (omega arith)) t) (f n (omega arith) t)) ∙ sym (s q n)
+
 pub all-more : (p : ℕ → Bool) (i : ℕ) → allBelow p i ≡ true → p i ≡ true → allBelow p (i + 1) ≡ true
 unfolding allBelow
 all-more p i h e = rw add-one (and-both h e)
@@ -98,8 +105,7 @@ all-fails p n i l e = ⊎-elim (λ h. absurd-bool (all-at p n i h l) e) (λ h. h
 
 pub all-cong : (p q : ℕ → Bool) (n : ℕ) → ((i : ℕ) → i < n → p i ≡ q i) → allBelow p n ≡ allBelow q n
 unfolding allBelow
-all-cong p q zero f = refl
-all-cong p q (suc n) f = λ t. all-cong p q n (λ i l. f i (omega arith)) t && f n (omega arith) t
+all-cong = below-cong allBelow true _&&_ (λ p. refl) (λ p n. refl)
 
 pub all-done : (p : ℕ → Bool) (n i : ℕ) → allBelow p i ≡ true → n ≤ i → i ≤ n → allBelow p n ≡ true
 all-done p n i h a b = let e : i ≡ n = omega arith in rw e at h
@@ -136,9 +142,6 @@ pub any-more : (p : ℕ → Bool) (i : ℕ) → anyBelow p i ≡ false → p i �
 unfolding anyBelow
 any-more p i h e = rw add-one (rw (h, e))
 
-pub any-hit : (p : ℕ → Bool) (i : ℕ) → p i ≡ true → anyBelow p (i + 1) ≡ true
-any-hit p i e = any-found p (i + 1) i (omega arith) e
-
 pub any-miss : (p : ℕ → Bool) (i : ℕ) → p i ≡ false → anyBelow p (i + 1) ≡ anyBelow p i
 unfolding anyBelow
 any-miss p i e = rw (add-one, e) (or-none (anyBelow p i))
@@ -148,8 +151,7 @@ any-done p n i h a b = let e : i ≡ n = omega arith in rw e at h
 
 pub any-cong : (p q : ℕ → Bool) (n : ℕ) → ((i : ℕ) → i < n → p i ≡ q i) → anyBelow p n ≡ anyBelow q n
 unfolding anyBelow
-any-cong p q zero f = refl
-any-cong p q (suc n) f = λ t. any-cong p q n (λ i l. f i (omega arith)) t || f n (omega arith) t
+any-cong = below-cong anyBelow false _||_ (λ p. refl) (λ p n. refl)
 
 -- ---- how many
 

@@ -1,22 +1,18 @@
--- Laws of the checks' definitions: refusals in order, the limits of a good geometry and of an allowed entry as orders of numbers,
--- and an entry's bytes as four quarters. Assumes nothing.
-use Prim.Native.Nat.{ℕ, zero, suc, _+_, _*_, _/_, _%_, _^_, _≤_, _<_}
-use mathlib.Core.List.{List}
+-- Laws of the checks' definitions: refusals in order, and the limits of a good geometry and of an allowed entry as orders of numbers.
+-- Assumes nothing.
+use Prim.Native.Nat.{ℕ, zero, suc, _*_, _%_, _^_, _≤_, _<_}
 use mathlib.Core.Bool.{Bool, true, false, _&&_}
 use mathlib.Core.Logic.{_⊎_, inl, ⊎-elim}
 use mathlib.Core.Path.{_≡_, refl, sym, subst, _∙_}
 use native.Mathlib.Nat.{mul-le-mul}
 use native.Mathlib.Omega.{arith}
-use lib.ListN.{length, getD}
 use lib.Dec.{leb}
 use lib.Pow.{pow-mono}
 use borrow.Author.Tests.{leb-true}
-use Rattle.numbers.specs.Bytes.{numberAt, Bytes}
-use Rattle.numbers.proofs.Laws.{number-one, number-split, number-high, number-low}
 use Rattle.protocol.specs.declared.Geometry.{Geometry}
 use Rattle.protocol.specs.declared.Entry.{Entry}
 use Rattle.protocol.specs.Layout.{between, goodK, goodSlots, goodBlocks, goodDisk, goodGeometry, blockSize}
-use Rattle.protocol.specs.Entry.{FRESH, entryOf, unused, entryIn, goodEntry}
+use Rattle.protocol.specs.Entry.{FRESH, unused, goodEntry}
 use Rattle.protocol.specs.Check.{refuse, _orElse_}
 use Rattle.protocol.proofs.Allowed.{UsedEntry, good-cases}
 use Rattle.protocol.proofs.Below.{and-left, and-right}
@@ -104,17 +100,3 @@ allowed n d e hn hd h =
     (λ (q : e ≡ unused). subst (Allowed n d) (sym q) (record { number = hd; current = hn; previous = inl hn }))
     (λ (u : UsedEntry n d e). record { number = u .numberBelow; current = u .currentBelow; previous = u .previousBelow })
     (good-cases n d e h)
-
--- ---- an entry's sixteen bytes as four quarters
-
-pub entry-quarters : (xs : List ℕ) (at : ℕ) → Bytes xs → at + 16 ≤ length xs → entryIn xs at
-    ≡ entryOf (numberAt xs at 4 / 2 ^ 24) (numberAt xs at 4 % 2 ^ 24 * 2 ^ 32 + numberAt xs (at + 4) 4) (numberAt xs (at + 8) 4)
-    (numberAt xs (at + 12) 4)
-unfolding entryIn
-entry-quarters xs at bytes h =
-    let q : at + 1 + 3 ≡ at + 4 = omega arith in
-    let f : getD xs at 0 ≡ numberAt xs at 4 / 2 ^ 24 = sym (number-high xs at 1 3 bytes (omega arith) ∙ number-one xs at (omega arith)) in
-    let b : numberAt xs (at + 1) 7 ≡ numberAt xs at 4 % 2 ^ 24 * 2 ^ 32 + numberAt xs (at + 4) 4 =
-    number-split xs (at + 1) 3 4 bytes (omega arith)
-    ∙ (λ t. sym (number-low xs at 1 3 bytes (omega arith)) t * 2 ^ 32 + numberAt xs (q t) 4) in
-    λ t. entryOf (f t) (b t) (numberAt xs (at + 8) 4) (numberAt xs (at + 12) 4)

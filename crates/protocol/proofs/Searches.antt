@@ -12,7 +12,7 @@ use lib.Seq.{getD-append-add}
 use lib.Dec.{eqb}
 use borrow.Author.Tests.{eqb-true, eq-eqb, ne-eqb, lt-ltb, le-ltb}
 use Rattle.protocol.specs.Below.{anyBelow, countBelow, eachBelow, keep, around, walked}
-use Rattle.protocol.proofs.Below.{either, absurd-bool, below-or-above, last-or-before, around-apart, any-found, any-none, and-left, and-right, and-both}
+use Rattle.protocol.proofs.Below.{below-cong, either, absurd-bool, below-or-above, last-or-before, around-apart, any-found, any-none, and-left, and-right, and-both}
 
 -- ---- what a walk finds
 
@@ -131,10 +131,7 @@ module _ (p : ℕ → Bool) (n start : ℕ) where
 
 pub count-cong : (p q : ℕ → Bool) (n : ℕ) → ((i : ℕ) → i < n → p i ≡ q i) → countBelow p n ≡ countBelow q n
 unfolding countBelow
-count-cong p q zero f = refl
-count-cong p q (suc n) f =
-    let ih = count-cong p q n (λ i l. f i (omega arith)) in
-    λ t. cond (f n (omega arith) t) (suc (ih t)) (ih t)
+count-cong = below-cong countBelow 0 (λ k b. cond b (suc k) k) (λ p. refl) (λ p n. refl)
 
 pub count-split : (p : ℕ → Bool) (a b : ℕ) → countBelow p (a + b) ≡ countBelow p a + countBelow (λ j. p (a + j)) b
 unfolding countBelow

@@ -13,7 +13,7 @@ use Rattle.protocol.specs.declared.Answer.the-variants.{Done, Cut, Refused}
 use Rattle.protocol.specs.declared.Geometry.{Geometry}
 use Rattle.protocol.specs.declared.Map.{Map}
 use Rattle.protocol.specs.declared.Mapped.the-variants.{Is, Refused as RefusedMap}
-use Rattle.protocol.specs.Layout.{goodGeometry, geometryOf}
+use Rattle.protocol.specs.Layout.{geometryOf}
 use Rattle.protocol.specs.Check.{entriesFit, fitRefusal, damageRefusal}
 use Rattle.protocol.specs.Store.{card, Store, flat, madeOn, storesOf, answerOf, afterOn}
 use Rattle.protocol.specs.Map.{mapBy, isMarked, mapOf, sameMap, makeRefusal, madeMap, mapRefusal, handedOn, mapAfter}
@@ -22,13 +22,11 @@ use Rattle.protocol.proofs.Below.{and-left, and-right}
 use Rattle.protocol.proofs.Checks.{orElse-first, orElse-next, refuse-passed, refuse-failed}
 use Rattle.protocol.proofs.Lawful.{Intact, intact}
 use Rattle.checks.specs.declared.Verdict.{Verdict}
-use Rattle.checks.proofs.Marking.{current-bytes}
-use Rattle.freemap.specs.Bits.{MarkBytes}
-use Rattle.checks.specs.Passed.{CurrentMarks, Inspected}
+use Rattle.checks.specs.Passed.{Inspected}
 use Rattle.freemap.specs.Bits.{movedMap}
-use Rattle.ring.specs.Fitted.{Fitted, Placed, WindowOf}
-use Rattle.ring.proofs.Laws.{fit-fitted}
+use Rattle.ring.specs.Fitted.{Fitted, Placed, WindowOf, Framed, Opened}
 use Rattle.stores.proofs.Laws.{says-cut, says-done, refused-answer, refused-after, made-answer, made-after}
+use Rattle.ring.specs.declared.Fit.{Fit}
 use Rattle.ring.specs.declared.Window.{Window}
 use Rattle.recovery.specs.declared.Checked.{Checked}
 use Rattle.recovery.specs.declared.Moved.{Moved}
@@ -52,44 +50,46 @@ refused-examined c s e h =
       map-is = λ z. absurd (h z);
     }
 
-pub fit-refuses : (c : List ℕ) (r : ℕ) (s : Checked) → r ≡ fitRefusal c → (r ≡ 0 → ⊥) → s .refusal ≡ r → Examined c s
-unfolding makeRefusal
-fit-refuses c r s e h q = refused-examined c s (q ∙ orElse-first r (fitRefusal c) _ e h) (λ z. h (sym q ∙ z))
-
-module _ (c : List ℕ) (g : Geometry) (f : ℕ) (fe : f ≡ fitRefusal c) (fz : f ≡ 0) (q : g ≡ geometryOf c) (ns cs : List ℕ) (v : Verdict)
-    (e : Inspected g c ns cs v) where
-  refusal-is : v .refusal ≡ makeRefusal c
+module _ (c : List ℕ) (f : Fit) (o : Opened c f) where
+  pub fit-refuses : (s : Checked) → (f .refusal ≡ 0 → ⊥) → s .refusal ≡ f .refusal → Examined c s
   unfolding makeRefusal
-  refusal-is = orElse-next (v .refusal) (fitRefusal c) _ (sym (sym fe ∙ fz)) (e .refusal-is ∙ ap (λ (y : Geometry). damageRefusal y c) q)
+  fit-refuses s h q = refused-examined c s (q ∙ orElse-first (f .refusal) (fitRefusal c) _ (o .refusal-is) h) (λ z. h (sym q ∙ z))
 
-  pub damage-good : goodGeometry g ≡ true
-  damage-good = fit-fitted c g f fe fz q .good
+  module _ (fz : f .refusal ≡ 0) where
+    pub fit-framed : Framed c f
+    fit-framed = o .framed fz
 
-  pub damage-refuses : (s : Checked) → (v .refusal ≡ 0 → ⊥) → s .refusal ≡ v .refusal → Examined c s
-  damage-refuses s h p = refused-examined c s (p ∙ refusal-is) (λ z. h (sym p ∙ z))
+    own : f .geometry ≡ geometryOf c
+    own = fit-framed .geometry-is
 
-  module _ (z : v .refusal ≡ 0) where
-    whole : Intact (geometryOf c) c
-    whole = intact c (sym fe ∙ fz) (ap (λ (y : Geometry). damageRefusal y c) (sym q) ∙ sym (e .refusal-is) ∙ z)
+    module _ (xs : List ℕ) (v : Verdict) (e : Inspected (f .geometry) c xs v) where
+      refusal-is : v .refusal ≡ makeRefusal c
+      unfolding makeRefusal
+      refusal-is =
+          orElse-next (v .refusal) (fitRefusal c) _ (sym fz ∙ o .refusal-is) (e .refusal-is ∙ ap (λ (y : Geometry). damageRefusal y c) own)
 
-    pub damage-placed : Placed g c
-    damage-placed = subst (λ (y : Geometry). Placed y c) (sym q) (record { head = whole .head; tail = whole .tail })
+      pub damage-refuses : (s : Checked) → (v .refusal ≡ 0 → ⊥) → s .refusal ≡ v .refusal → Examined c s
+      damage-refuses s h p = refused-examined c s (p ∙ refusal-is) (λ z. h (sym p ∙ z))
 
-    pub damage-marks : MarkBytes (v .marks)
-    damage-marks = current-bytes g c (v .marks) (e .marks-are z)
+      module _ (z : v .refusal ≡ 0) where
+        whole : Intact (geometryOf c) c
+        whole = intact c (sym (o .refusal-is) ∙ fz) (ap (λ (y : Geometry). damageRefusal y c) (sym own) ∙ sym (e .refusal-is) ∙ z)
 
-    pub damage-passes : (w : Window) (m : Map) → WindowOf g c w → ((y : List ℕ) → CurrentMarks g y (v .marks) → m ≡ mapBy (isMarked g y))
-        → Examined c (record { refusal = 0; geometry = g; window = w; map = m })
-    unfolding mapOf
-    damage-passes w m x k =
-        record {
-          refusal-is = sym z ∙ refusal-is;
-          own = λ y. q;
-          fitted = λ y. fit-fitted c g f fe fz q;
-          window = λ y. x;
-          entries = λ y. ap (λ (h : Geometry). entriesFit h c) q ∙ whole .fits;
-          map-is = λ y. k c (e .marks-are z) ∙ ap (λ (h : Geometry). mapBy (isMarked h c)) q;
-        }
+        pub damage-placed : Fitted (f .geometry) c × Placed (f .geometry) c
+        damage-placed = (fit-framed .fitted, subst (λ (y : Geometry). Placed y c) (sym own) (record { head = whole .head; tail = whole .tail }))
+
+        pub damage-passes : (w : Window) → WindowOf (f .geometry) c w
+            → Examined c (record { refusal = 0; geometry = f .geometry; window = w; map = v .map })
+        unfolding mapOf
+        damage-passes w x =
+            record {
+              refusal-is = sym z ∙ refusal-is;
+              own = λ y. own;
+              fitted = λ y. fit-framed .fitted;
+              window = λ y. x;
+              entries = λ y. e .known z .indexed .fits;
+              map-is = λ y. e .known z .map-is ∙ ap (λ (h : Geometry). mapBy (isMarked h c)) own;
+            }
 
 -- ---- past them
 

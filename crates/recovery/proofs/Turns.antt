@@ -235,6 +235,7 @@ module _ (g : Geometry) (c₀ : List ℕ) (i a : ℕ) (c : List ℕ) (n r : ℕ)
         record {
           tail = v .tail ∙ sym tail-stays;
           count = v .count ∙ sym (window-kept g c₀ c head-stays tail-stays);
+          head = v .head ∙ sym head-stays;
           starts = v .starts;
           ends = v .ends;
         }

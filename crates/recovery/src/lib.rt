@@ -9,9 +9,10 @@ use protocol::Stored;
 use ring::Window;
 ghost use mathlib.Core.Path.{_≡_};
 ghost use mathlib.Core.Bool.{true, false};
-ghost use Prim.Native.Nat.{_≤_, _<_};
+ghost use mathlib.Core.List.{List};
+ghost use Prim.Native.Nat.{ℕ, _≤_, _<_};
 ghost use lib.ListN.{length};
-ghost use Rattle.numbers.specs.Bytes.{bytesBE, part};
+ghost use Rattle.numbers.specs.Bytes.{bytesBE, part, Bytes};
 ghost use Rattle.protocol.specs.Layout.{goodGeometry};
 ghost use Rattle.protocol.specs.Entry.{FRESH as NO_BLOCK, undone, entryAt, entryBytes};
 ghost use Rattle.protocol.specs.Ring.{headOf};
@@ -82,15 +83,13 @@ fn undo_step(g: Geometry, card: &[u8], w: Window, i: usize) -> Step
 }
 
 // Tail set to Head, which empties the window.
-fn tail_step(g: Geometry, card: &[u8], i: usize) -> Step
-    requires { ⌜ 128 ≤ length (now card) ⌝ }
-    ensures { λ r. ⌜ (stepStores g i r ≡ flat (ifChanging (now (card .entry)) (tailStore (headOf (now (card .entry)))))) × (undoes r ≡ false) ⌝ }
+fn tail_step(g: Geometry, w: Window, i: usize) -> Step
+    ensures { λ r. ⌜ ((c : List ℕ) → Bytes c → 128 ≤ length c → WindowOf g c w → stepStores g i r ≡ flat (ifChanging c (tailStore (headOf c)))) × (undoes r ≡ false) ⌝ }
 {
-    let head = ring::head_of(card);
-    if ring::tail_of(card) == head {
+    if w.tail == w.head {
         Step::Nothing
     } else {
-        Step::Tail(head)
+        Step::Tail(w.head)
     }
 }
 
@@ -103,7 +102,7 @@ pub fn step_at(g: Geometry, card: &[u8], w: Window, i: usize) -> Step
     if i < g.blocks as usize {
         undo_step(g, card, w, i)
     } else {
-        tail_step(g, card, i)
+        tail_step(g, w, i)
     }
 }
 
@@ -269,7 +268,11 @@ fn refused(refusal: u8) -> Checked
             blocks: 0,
             disk: 0,
         },
-        window: Window { tail: 0, count: 0 },
+        window: Window {
+            tail: 0,
+            count: 0,
+            head: 0,
+        },
         map: Map { low: 0, high: 0 },
     }
 }
@@ -278,23 +281,22 @@ fn refused(refusal: u8) -> Checked
 pub fn examine(card: &[u8]) -> Checked
     ensures { λ r. ⌜ Examined (now (card .entry)) r ⌝ }
 {
-    let fit = ring::fit_refusal(card);
-    if fit != 0 {
-        return refused(fit);
+    let f = ring::fit_of(card);
+    if f.refusal != 0 {
+        return refused(f.refusal);
     }
-    let g = ring::geometry_of(card);
-    let mut ids = [0u32; 128];
-    let mut currents = [0u32; 128];
-    let v = checks::inspect(g, card, &mut ids, &mut currents);
+    let mut index = [0u8; 640];
+    let v = checks::inspect(f, card, &mut index);
     if v.refusal != 0 {
         return refused(v.refusal);
     }
-    let marks = v.marks;
+    let g = f.geometry;
+    let map = v.map;
     Checked {
         refusal: 0,
         geometry: g,
         window: ring::window_of(g, card),
-        map: checks::map_of(g, &marks),
+        map: map,
     }
 }
 

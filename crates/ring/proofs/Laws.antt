@@ -1,22 +1,30 @@
 -- Laws behind the checks' loops and tests.
-use Prim.Native.Nat.{ℕ, _+_, _*_, _-_, _≤_, _<_}
+use Prim.Native.Nat.{ℕ, zero, suc, _+_, _*_, _-_, _≤_, _<_}
 use mathlib.Core.Path.{_≡_, refl, sym, ap, _∙_}
 use mathlib.Core.List.{List}
 use mathlib.Core.Logic.{⊎-elim}
 use mathlib.Core.Bool.{Bool, true, false, not, _&&_}
+use native.Mathlib.Nat.{add-zero, add-suc}
+use native.Mathlib.Numerals.{add-one}
 use native.Mathlib.Omega.{arith}
 use lib.ListN.{length, getD}
+use lib.Bits.{bitOr, or-add-and, or-zero-r, and-le-l, and-le-r}
 use lib.Dec.{ltb, eqb}
+use mir.Syntax.{w8}
+use mir.Val.{Fits}
 use borrow.Author.Tests.{lt-ltb, le-ltb, le-leb, lt-leb, ltb-false, eq-eqb, ne-eqb, eqb-true, not-true, not-false}
-use Rattle.numbers.specs.Bytes.{numberAt}
+use Rattle.numbers.specs.Bytes.{beFrom, be, part, numberAt, Bytes}
+use Rattle.numbers.specs.Post.{Number}
+use Rattle.numbers.proofs.Laws.{number-split, number-one}
 use Rattle.protocol.specs.declared.Geometry.{Geometry}
 use Rattle.protocol.specs.Below.{allBelow, anyBelow, around}
 use Rattle.protocol.specs.Layout.{goodGeometry, geometryOf, goodHeader, zeroFrom, slotPlace, cardLength, diskLength}
 use Rattle.protocol.specs.Ring.{headOf, tailOf, slotAt, windowLength, windowOf, windowNumber, windowHas, inWindow}
 use Rattle.protocol.specs.Check.{refuse, headerFits, cardFits, diskFits, windowNumberFits, ringFits, fitRefusal, diskRefusal}
 use Rattle.ring.specs.declared.Window.{Window}
-use Rattle.ring.specs.Fitted.{Fitted, Placed, WindowOf}
-use Rattle.protocol.proofs.Below.{and-left, and-right, and-fails, below-or-above, any-found, any-done}
+use Rattle.ring.specs.declared.Fit.{Fit}
+use Rattle.ring.specs.Fitted.{Fitted, Placed, WindowOf, Framed, Opened}
+use Rattle.protocol.proofs.Below.{bool-same, and-left, and-right, and-both, and-fails, below-or-above, any-found, any-done}
 use Rattle.protocol.proofs.Checks.{Limits, limits, refuse-passed, refuse-failed, orElse-first, orElse-next, orElse-none, refuse-none}
 
 -- ---- the geometry
@@ -43,6 +51,53 @@ fitted-blocks g c f = let k : Room g c = room g c f in omega arith
 
 pub fitted-disk : (g : Geometry) (c : List ℕ) → Fitted g c → g .disk ≤ 65536
 fitted-disk g c f = let k : Room g c = room g c f in omega arith
+
+-- ---- the header's zeros
+
+-- a number and one byte more are 0 where both are, laid over another number too
+or-byte : (a n b : ℕ) → eqb (bitOr a (n * 256 + b)) 0 ≡ eqb (bitOr a n) 0 && eqb b 0
+or-byte a n b =
+    bool-same (eqb (bitOr a (n * 256 + b)) 0) (eqb (bitOr a n) 0 && eqb b 0)
+    (λ e.
+    let z = eqb-true (bitOr a (n * 256 + b)) 0 e in
+    let s = or-add-and a (n * 256 + b) in
+    let l = and-le-l a (n * 256 + b) in
+    let r = and-le-r a (n * 256 + b) in
+    and-both (eq-eqb (bitOr a n) 0 (omega (arith, or-add-and a n))) (eq-eqb b 0 (omega arith)))
+    (λ e.
+    let z = eqb-true (bitOr a n) 0 (and-left (eqb (bitOr a n) 0) (eqb b 0) e) in
+    let y = eqb-true b 0 (and-right (eqb (bitOr a n) 0) (eqb b 0) e) in
+    let s = or-add-and a n in
+    let l = and-le-l a n in
+    let r = and-le-r a n in
+    eq-eqb (bitOr a (n * 256 + b)) 0 (omega (arith, or-add-and a (n * 256 + b))))
+
+-- m bytes are zero where a is 0, and w more where the number in them, laid over a, is
+module _ (c : List ℕ) (at m a : ℕ) (bytes : Bytes c) (e : eqb a 0 ≡ allBelow (zeroFrom c at) m) where
+  zeros-more : (w : ℕ) → at + m + w ≤ length c → eqb (bitOr a (numberAt c (at + m) w)) 0 ≡ allBelow (zeroFrom c at) (m + w)
+  unfolding allBelow zeroFrom numberAt part be beFrom
+  zeros-more zero h = ap (λ (x : ℕ). eqb x 0) (or-zero-r a) ∙ e ∙ ap (allBelow (zeroFrom c at)) (sym (add-zero m))
+  zeros-more (suc w) h =
+      let n : ℕ = numberAt c (at + m) w in
+      let b : ℕ = getD c (at + m + w) 0 in
+      let q : numberAt c (at + m) (suc w) ≡ n * 256 + b =
+      ap (numberAt c (at + m)) (sym (add-one w))
+      ∙ number-split c (at + m) w 1 bytes (omega arith)
+      ∙ ap (λ (x : ℕ). n * 256 + x) (number-one c (at + m + w) (omega arith)) in
+      let g : at + m + w ≡ at + (m + w) = omega arith in
+      ap (λ (x : ℕ). eqb (bitOr a x) 0) q
+      ∙ or-byte a n b
+      ∙ (λ t. zeros-more w (omega arith) t && eqb (getD c (g t) 0) 0)
+      ∙ ap (allBelow (zeroFrom c at)) (sym (add-suc m w))
+
+pub zeros-turn : (c : List ℕ) (at n i a v : ℕ) → ((j : ℕ) → Fits w8 (getD c j 0)) → i < n → at + 8 * n ≤ length c → eqb a 0 ≡ allBelow (zeroFrom c at) (8 * i)
+    → Number c (at + 8 * i) 8 v → eqb (bitOr a v) 0 ≡ allBelow (zeroFrom c at) (8 * (i + 1))
+zeros-turn c at n i a v bytes l h e r =
+    let q : 8 * i + 8 ≡ 8 * (i + 1) = omega arith in
+    ap (λ (x : ℕ). eqb (bitOr a x) 0) (r .value) ∙ zeros-more c at (8 * i) a (λ j k. omega (arith, bytes j)) e 8 (omega arith) ∙ ap (allBelow (zeroFrom c at)) q
+
+pub zeros-end : (c : List ℕ) (at n i a : ℕ) → i ≤ n → n ≤ i → eqb a 0 ≡ allBelow (zeroFrom c at) (8 * i) → eqb a 0 ≡ allBelow (zeroFrom c at) (8 * n)
+zeros-end c at n i a h k e = let q : i ≡ n = omega arith in e ∙ ap (λ (x : ℕ). allBelow (zeroFrom c at) (8 * x)) q
 
 -- ---- checks 1 to 3
 
@@ -84,29 +139,13 @@ header-geometry c r g e h q =
     ap goodGeometry q
     ∙ good-header-geometry c (and-right (not (ltb (length c) 128)) (goodHeader c) (header-passed c r e h))
 
-pub fit-header : (c : List ℕ) (r : Bool) → r ≡ headerFits c → not r ≡ true → 1 ≡ fitRefusal c
-unfolding fitRefusal
-fit-header c r e h =
-    orElse-first 1 (refuse 1 (headerFits c)) _ (refuse-failed 1 (headerFits c) (sym e ∙ not-true r h)) (omega arith)
-
--- past check 1, what is said of the length decides
-fit-past : (c : List ℕ) (r : Bool) (a : ℕ) → r ≡ headerFits c → not r ≡ false → a ≡ refuse 2 (cardFits (geometryOf c) c) → a ≡ fitRefusal c
-unfolding fitRefusal
-fit-past c r a e h q =
-    orElse-next a (refuse 1 (headerFits c)) _ (refuse-passed 1 (headerFits c) (header-passed c r e h)) q
-
-pub fit-both : (c : List ℕ) (r : Bool) (g : Geometry) (n : ℕ) → r ≡ headerFits c → not r ≡ false → g ≡ geometryOf c
-    → n ≡ cardLength g → length c ≡ n → 0 ≡ fitRefusal c
+pub card-fits : (g : Geometry) (c : List ℕ) (n : ℕ) → n ≡ cardLength g → length c ≡ n → 0 ≡ refuse 2 (cardFits g c)
 unfolding cardFits
-fit-both c r g n e h q s t =
-    fit-past c r 0 e h (refuse-passed 2 (cardFits (geometryOf c) c) (eq-eqb _ _ (t ∙ s ∙ ap cardLength q)))
+card-fits g c n e h = refuse-passed 2 (cardFits g c) (eq-eqb (length c) (cardLength g) (h ∙ e))
 
-pub fit-length : (c : List ℕ) (r : Bool) (g : Geometry) (n : ℕ) → r ≡ headerFits c → not r ≡ false → g ≡ geometryOf c
-    → n ≡ cardLength g → (length c ≡ n → ⊥) → 2 ≡ fitRefusal c
+pub card-misfits : (g : Geometry) (c : List ℕ) (n : ℕ) → n ≡ cardLength g → (length c ≡ n → ⊥) → 2 ≡ refuse 2 (cardFits g c)
 unfolding cardFits
-fit-length c r g n e h q s t =
-    fit-past c r 2 e h
-    (refuse-failed 2 (cardFits (geometryOf c) c) (ne-eqb _ _ (λ p. t (p ∙ sym (s ∙ ap cardLength q)))))
+card-misfits g c n e h = refuse-failed 2 (cardFits g c) (ne-eqb (length c) (cardLength g) (λ q. h (q ∙ sym e)))
 
 -- a card that passes both checks fits
 pub fit-long : (c : List ℕ) (r : ℕ) → r ≡ fitRefusal c → r ≡ 0 → 128 ≤ length c
@@ -124,6 +163,35 @@ fit-fitted c g r e z q =
     record {
       good = header-geometry c true g (sym h) refl q;
       long = eqb-true (length c) (cardLength (geometryOf c)) l ∙ ap cardLength (sym q);
+    }
+
+pub fit-header : (c : List ℕ) (r : Bool) → r ≡ headerFits c → not r ≡ true → 1 ≡ fitRefusal c
+unfolding fitRefusal
+fit-header c r e h =
+    orElse-first 1 (refuse 1 (headerFits c)) _ (refuse-failed 1 (headerFits c) (sym e ∙ not-true r h)) (omega arith)
+
+-- past check 1, what is said of the length decides
+pub fit-past : (c : List ℕ) (r : Bool) (g : Geometry) (n : ℕ) → r ≡ headerFits c → not r ≡ false → g ≡ geometryOf c
+    → n ≡ refuse 2 (cardFits g c) → n ≡ fitRefusal c
+unfolding fitRefusal
+fit-past c r g n e h q s =
+    orElse-next n (refuse 1 (headerFits c)) _ (refuse-passed 1 (headerFits c) (header-passed c r e h))
+    (s ∙ ap (λ (x : Geometry). refuse 2 (cardFits x c)) q)
+
+pub fit-length : (c : List ℕ) (r : Bool) (g : Geometry) (n : ℕ) → r ≡ headerFits c → not r ≡ false → g ≡ geometryOf c
+    → n ≡ cardLength g → (length c ≡ n → ⊥) → 2 ≡ fitRefusal c
+fit-length c r g n e h q s t = fit-past c r g 2 e h q (card-misfits g c n s t)
+
+pub opened-none : (c : List ℕ) (r : Bool) (f : Fit) → r ≡ headerFits c → not r ≡ true → f .refusal ≡ 1 → Opened c f
+opened-none c r f e h one = record { refusal-is = one ∙ fit-header c r e h; framed = λ z. absurd (omega arith) }
+
+pub opened-past : (c : List ℕ) (r : Bool) (g : Geometry) (n h t : ℕ) → r ≡ headerFits c → not r ≡ false → g ≡ geometryOf c
+    → n ≡ refuse 2 (cardFits g c) → h ≡ headOf c → t ≡ tailOf c → Opened c (record { refusal = n; geometry = g; head = h; tail = t })
+opened-past c r g n h t e p eg en eh et =
+    let q : n ≡ fitRefusal c = fit-past c r g n e p eg en in
+    record {
+      refusal-is = q;
+      framed = λ z. record { geometry-is = eg; fitted = fit-fitted c g n q z eg; head-is = eh; tail-is = et };
     }
 
 -- ---- check 4
@@ -144,28 +212,35 @@ window-short s tail head t h =
     (below-or-above head tail)
 
 pub window-end : (g : Geometry) (c : List ℕ) (h t n : ℕ) → Placed g c → h ≡ headOf c → t ≡ tailOf c → n ≡ windowLength (g .slots) t h
-    → WindowOf g c (record { tail = t; count = n })
+    → WindowOf g c (record { tail = t; count = n; head = h })
 unfolding windowOf
 window-end g c h t n p eh et en =
     let e : n ≡ windowOf g c = en ∙ ap (λ (x : ℕ). windowLength (g .slots) x h) et ∙ ap (windowLength (g .slots) (tailOf c)) eh in
     record {
       tail = et;
       count = e;
+      head = eh;
       starts = rw et (p .tail);
       ends = rw e (window-short (g .slots) (tailOf c) (headOf c) (p .tail) (p .head));
     }
 
+pub framed-window : (c : List ℕ) (f : Fit) (n : ℕ) → Framed c f → f .head < f .geometry .slots → f .tail < f .geometry .slots
+    → n ≡ windowLength (f .geometry .slots) (f .tail) (f .head) → WindowOf (f .geometry) c (record { tail = f .tail; count = n; head = f .head })
+framed-window c f n h lh lt e =
+    window-end (f .geometry) c (f .head) (f .tail) n (record { head = rw (h .head-is) at lh; tail = rw (h .tail-is) at lt }) (h .head-is) (h .tail-is)
+    e
+
 pub window-on-ring : (g : Geometry) (c : List ℕ) (w : Window) (j : ℕ) → Fitted g c → WindowOf g c w → j < w .count
-    → (w .tail < g .slots) × (j < g .slots) × (g .slots ≤ 256)
+    → (w .tail < g .slots) × (j ≤ g .slots) × (g .slots ≤ 256)
 window-on-ring g c w j f h b = let k : Room g c = room g c f in omega arith
 
-pub around-ahead : (s tail j : ℕ) → tail + j < s → tail + j ≡ around s tail j
+pub around-ahead : (n at j : ℕ) → at + j < n → at + j ≡ around n at j
 unfolding around
-around-ahead s tail j h = rw (lt-ltb (tail + j) s h)
+around-ahead n at j h = rw (lt-ltb (at + j) n h)
 
-pub around-past : (s tail j : ℕ) → s ≤ tail + j → tail + j - s ≡ around s tail j
+pub around-past : (n at j : ℕ) → n ≤ at + j → at + j - n ≡ around n at j
 unfolding around
-around-past s tail j h = rw (le-ltb (tail + j) s h)
+around-past n at j h = rw (le-ltb (at + j) n h)
 
 pub window-at : (g : Geometry) (c : List ℕ) (w : Window) (j q r : ℕ) → WindowOf g c w → q ≡ around (g .slots) (w .tail) j
     → r ≡ numberAt c (128 + 8 * q) 8 → r ≡ windowNumber g c j
@@ -207,9 +282,9 @@ pub tail-off : (g : Geometry) (c : List ℕ) (t : ℕ) → t ≡ tailOf c → g 
 unfolding ringFits
 tail-off g c t e l = sym (and-fails (ltb (headOf c) (g .slots)) _ (rw (le-ltb (tailOf c) (g .slots) (rw e at l))))
 
-pub ring-end : (g : Geometry) (c : List ℕ) (w : Window) (r : Bool) (h t : ℕ) → h ≡ headOf c → h < g .slots → t ≡ tailOf c → t < g .slots
-    → WindowOf g c w → r ≡ allBelow (windowNumberFits g c) (w .count) → r ≡ ringFits g c
+pub ring-end : (c : List ℕ) (f : Fit) (n : ℕ) (r : Bool) → Framed c f → f .head < f .geometry .slots → f .tail < f .geometry .slots
+    → n ≡ windowLength (f .geometry .slots) (f .tail) (f .head) → r ≡ allBelow (windowNumberFits (f .geometry) c) n → r ≡ ringFits (f .geometry) c
 unfolding ringFits
-ring-end g c w r h t eh lh et lt win e =
-    rw (lt-ltb (headOf c) (g .slots) (rw eh at lh), lt-ltb (tailOf c) (g .slots) (rw et at lt))
-    (e ∙ ap (allBelow (windowNumberFits g c)) (win .count))
+ring-end c f n r h lh lt w e =
+    rw (lt-ltb (headOf c) (f .geometry .slots) (rw (h .head-is) at lh), lt-ltb (tailOf c) (f .geometry .slots) (rw (h .tail-is) at lt))
+    (e ∙ ap (allBelow (windowNumberFits (f .geometry) c)) (framed-window c f n h lh lt w .count))

@@ -2,13 +2,13 @@
 use protocol::Geometry;
 ghost use mathlib.Core.Path.{_≡_};
 ghost use mathlib.Core.Bool.{true};
-ghost use Prim.Native.Nat.{_+_, _≤_, _<_};
+ghost use Prim.Native.Nat.{_+_, _*_, _≤_, _<_};
 ghost use lib.ListN.{length};
 ghost use Rattle.protocol.specs.Below.{allBelow, around};
 ghost use Rattle.protocol.specs.Layout.{goodGeometry, geometryOf, diskLength, goodHeader, zeroFrom};
 ghost use Rattle.protocol.specs.Ring.{headOf, tailOf, windowLength, windowNumber, inWindow};
-ghost use Rattle.protocol.specs.Check.{headerFits, fitRefusal, diskRefusal, windowNumberFits, ringFits};
-ghost use Rattle.ring.specs.Fitted.{Fitted, Placed, WindowOf};
+ghost use Rattle.protocol.specs.Check.{refuse, headerFits, cardFits, fitRefusal, diskRefusal, windowNumberFits, ringFits};
+ghost use Rattle.ring.specs.Fitted.{Fitted, Placed, WindowOf, Framed, Opened};
 
 pub fn disk_length(g: Geometry) -> u64
     requires { ⌜ goodGeometry g ≡ true ⌝ }
@@ -30,19 +30,18 @@ pub fn geometry_of(card: &[u8]) -> Geometry
     }
 }
 
-// Whether the n bytes from `at` on are zero.
+// Whether the n words of 8 bytes from `at` on are zero. It reads all of them, so that the compiler joins the reads.
 fn zeros(card: &[u8], at: usize, n: usize) -> bool
-    requires { ⌜ at + n ≤ length (now card) ⌝ }
-    ensures { λ r. ⌜ r ≡ allBelow (zeroFrom (now (card .entry)) at) n ⌝ }
+    requires { ⌜ at + 8 * n ≤ length (now card) ⌝ }
+    ensures { λ r. ⌜ r ≡ allBelow (zeroFrom (now (card .entry)) at) (8 * n) ⌝ }
 {
+    let mut all: u64 = 0;
     let mut i: usize = 0;
     while i < n {
-        if card[at + i] != 0 {
-            return false;
-        }
+        all = all | numbers::get(card, at + 8 * i, 8);
         i += 1;
     }
-    true
+    all == 0
 }
 
 fn good_header(card: &[u8]) -> bool
@@ -51,7 +50,7 @@ fn good_header(card: &[u8]) -> bool
 {
     let long = numbers::get(card, 0, 4) == 64;
     let version = card[4] == 1;
-    long & (version & (codec::good_geometry(geometry_of(card)) & zeros(card, 16, 48)))
+    long & (version & (codec::good_geometry(geometry_of(card)) & zeros(card, 16, 6)))
 }
 
 pub fn header_fits(card: &[u8]) -> bool
@@ -61,38 +60,6 @@ pub fn header_fits(card: &[u8]) -> bool
         return false;
     }
     good_header(card)
-}
-
-// 1 and 2: what the fitter can get wrong on the card.
-pub fn fit_refusal(card: &[u8]) -> u8
-    ensures { λ r. ⌜ r ≡ fitRefusal (now (card .entry)) ⌝ }
-{
-    if !header_fits(card) {
-        return 1;
-    }
-    if card.len() as u64 == codec::card_length(geometry_of(card)) {
-        0
-    } else {
-        2
-    }
-}
-
-// 3: a disk of the wrong length.
-pub fn disk_refusal(g: Geometry, disk: &[u8]) -> u8
-    requires { ⌜ goodGeometry g ≡ true ⌝ }
-    ensures { λ r. ⌜ r ≡ diskRefusal g (now (disk .entry)) ⌝ }
-{
-    if disk.len() as u64 == disk_length(g) {
-        0
-    } else {
-        3
-    }
-}
-
-// The window: where it starts and how many slots it has.
-pub struct Window {
-    pub tail: u64,
-    pub count: u64,
 }
 
 pub fn head_of(card: &[u8]) -> u64
@@ -107,6 +74,88 @@ pub fn tail_of(card: &[u8]) -> u64
     ensures { λ r. ⌜ r ≡ tailOf (now (card .entry)) ⌝ }
 {
     numbers::get(card, 72, 8)
+}
+
+// 2: a card of the wrong length.
+fn length_refusal(g: Geometry, card: &[u8]) -> u8
+    requires { ⌜ goodGeometry g ≡ true ⌝ }
+    ensures { λ r. ⌜ r ≡ refuse 2 (cardFits g (now (card .entry))) ⌝ }
+{
+    if card.len() as u64 == codec::card_length(g) {
+        0
+    } else {
+        2
+    }
+}
+
+// What checks 1 and 2 find, and where they find nothing the geometry, Head and Tail, each read once for whoever goes on.
+pub struct Fit {
+    pub refusal: u8,
+    pub geometry: Geometry,
+    pub head: u64,
+    pub tail: u64,
+}
+
+// Refusal 1, of whose card nothing is read.
+fn unfit() -> Fit
+    ensures { λ r. ⌜ r .refusal ≡ 1 ⌝ }
+{
+    let g = Geometry {
+        k: 0,
+        slots: 0,
+        blocks: 0,
+        disk: 0,
+    };
+    Fit {
+        refusal: 1,
+        geometry: g,
+        head: 0,
+        tail: 0,
+    }
+}
+
+pub fn fit_of(card: &[u8]) -> Fit
+    ensures { λ r. ⌜ Opened (now (card .entry)) r ⌝ }
+{
+    if !header_fits(card) {
+        return unfit();
+    }
+    let g = geometry_of(card);
+    let head = head_of(card);
+    let tail = tail_of(card);
+    Fit {
+        refusal: length_refusal(g, card),
+        geometry: g,
+        head: head,
+        tail: tail,
+    }
+}
+
+// 1 and 2: what the fitter can get wrong on the card.
+pub fn fit_refusal(card: &[u8]) -> u8
+    ensures { λ r. ⌜ r ≡ fitRefusal (now (card .entry)) ⌝ }
+{
+    let f = fit_of(card);
+    f.refusal
+}
+
+// 3: a disk of the wrong length.
+pub fn disk_refusal(g: Geometry, disk: &[u8]) -> u8
+    requires { ⌜ goodGeometry g ≡ true ⌝ }
+    ensures { λ r. ⌜ r ≡ diskRefusal g (now (disk .entry)) ⌝ }
+{
+    if disk.len() as u64 == disk_length(g) {
+        0
+    } else {
+        3
+    }
+}
+
+// The window: where it starts, how many slots it has, and Head, where it ends.
+pub struct Window {
+    pub tail: u64,
+    pub count: u64,
+    pub head: u64,
 }
 
 fn window_length(s: u64, tail: u64, head: u64) -> u64
@@ -124,21 +173,22 @@ pub fn window_of(g: Geometry, card: &[u8]) -> Window
     requires { ⌜ Fitted g (now card) × Placed g (now card) ⌝ }
     ensures { λ r. ⌜ WindowOf g (now (card .entry)) r ⌝ }
 {
-    let head = head_of(card);
-    let tail = tail_of(card);
+    let to = head_of(card);
+    let from = tail_of(card);
     Window {
-        tail: tail,
-        count: window_length(g.slots, tail, head),
+        tail: from,
+        count: window_length(g.slots, from, to),
+        head: to,
     }
 }
 
-// The slot j places forward from `tail`, going round at s.
-pub fn forward(s: u64, tail: u64, j: u64) -> u64
-    requires { ⌜ (tail < s) × (j < s) × (s ≤ 256) ⌝ }
-    ensures { λ r. ⌜ (r ≡ around s tail j) × (r < s) ⌝ }
+// The place j places forward from `at`, going round at n.
+pub fn forward(n: u64, at: u64, j: u64) -> u64
+    requires { ⌜ (at < n) × (j ≤ n) × (n ≤ 256) ⌝ }
+    ensures { λ r. ⌜ (r ≡ around n at j) × (r < n) ⌝ }
 {
-    let ahead = tail + j;
-    if ahead < s { ahead } else { ahead - s }
+    let ahead = at + j;
+    if ahead < n { ahead } else { ahead - n }
 }
 
 // The number in the window's slot j, counted from Tail.
@@ -183,15 +233,21 @@ pub fn in_window(g: Geometry, card: &[u8], w: Window, b: u64) -> bool
 }
 
 // Not 4: Head and Tail below S, the window's numbers below D.
-pub fn ring_fits(g: Geometry, card: &[u8]) -> bool
-    requires { ⌜ Fitted g (now card) ⌝ }
-    ensures { λ r. ⌜ r ≡ ringFits g (now (card .entry)) ⌝ }
+pub fn ring_fits(f: Fit, card: &[u8]) -> bool
+    requires { ⌜ Framed (now card) f ⌝ }
+    ensures { λ r. ⌜ r ≡ ringFits (f .geometry) (now (card .entry)) ⌝ }
 {
-    if head_of(card) >= g.slots {
+    let g = f.geometry;
+    if f.head >= g.slots {
         return false;
     }
-    if tail_of(card) >= g.slots {
+    if f.tail >= g.slots {
         return false;
     }
-    window_fits(g, card, window_of(g, card))
+    let w = Window {
+        tail: f.tail,
+        count: window_length(g.slots, f.tail, f.head),
+        head: f.head,
+    };
+    window_fits(g, card, w)
 }

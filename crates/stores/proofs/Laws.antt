@@ -13,9 +13,9 @@ use lib.Seq.{take-take, take-all}
 use lib.Dec.{ltb}
 use mir.Syntax.{w64}
 use mir.Val.{Fits}
-use borrow.Author.Tests.{eq-eqb, ne-eqb, lt-ltb, le-ltb}
+use borrow.Author.Tests.{eq-eqb, ne-eqb, eqb-true, lt-ltb, le-ltb}
 use Rattle.numbers.specs.Bytes.{part, patch}
-use Rattle.numbers.proofs.Laws.{length-part}
+use Rattle.numbers.proofs.Laws.{length-part, part-patch-same}
 use Rattle.protocol.specs.declared.Answer.{Answer}
 use Rattle.protocol.specs.declared.Answer.the-variants.{Done, Cut, Refused}
 use Rattle.protocol.specs.declared.Entry.{Entry}
@@ -23,11 +23,12 @@ use Rattle.protocol.specs.declared.Geometry.{Geometry}
 use Rattle.protocol.specs.declared.Map.{Map}
 use Rattle.protocol.specs.Entry.{entryBytes}
 use Rattle.protocol.specs.Below.{eachBelow}
-use Rattle.protocol.specs.Layout.{goodGeometry, blockSize, entryPlace, blockPlace, diskPlace, cardLength, diskLength}
+use Rattle.protocol.specs.Layout.{between, goodK, goodSlots, goodGeometry, blockSize, entryPlace, blockPlace, diskPlace, cardLength, diskLength}
 use Rattle.protocol.specs.Store.{Medium, card, disk, Store, Run, Work, isOn, storedOn, madeOn, flat, made, units, words, sectors, entryStore, storesOf, answerOf, afterOn}
 use Rattle.protocol.specs.Map.{mapOf, handedOn, mapAfter}
+use Rattle.protocol.proofs.Codec.{length-entry}
 use Rattle.protocol.proofs.Stores.{length-made, made-cut, flat-append, units-made, length-units}
-use Rattle.protocol.proofs.Below.{below-or-above}
+use Rattle.protocol.proofs.Below.{and-left, and-right, below-or-above}
 use Rattle.protocol.proofs.Checks.{limits}
 use Rattle.protocol.proofs.Region.{block-ends, whole, entry, block, in-card, place-entry, place-block}
 use Rattle.protocol.proofs.Made.{in-disk}
@@ -90,6 +91,23 @@ one-made at bs (suc a) xs ys h e = record { made = e ∙ go a; left = refl }
     go : (a : ℕ) → patch xs at bs ≡ madeOn card (take a []) (patch xs at bs)
     go zero = refl
     go (suc a) = refl
+
+-- the same, of bytes staged in a row of their own
+pub staged-made : (at : ℕ) (e : Entry) (a from : ℕ) (xs ys zs ws : List ℕ) → (a ≡ 0 → ⊥) → from ≡ 0 → ws ≡ patch zs from (entryBytes e)
+    → ys ≡ patch xs at (part ws 0 16) → 16 ≤ length zs → Did card (cardStore at (entryBytes e) ∷ []) a xs ys (a - 1)
+staged-made at e a from xs ys zs ws h z w q l =
+    one-made at (entryBytes e) a xs ys h
+    (q
+    ∙ ap (patch xs at)
+    (ap (λ (r : List ℕ). part r 0 16) (w ∙ ap (λ (k : ℕ). patch zs k (entryBytes e)) z) ∙ part-patch-same zs 0 (entryBytes e) 16 (length-entry e) l))
+
+-- an entry's place is a multiple of sixteen
+pub entry-aligned : (g : Geometry) (i at : ℕ) → goodGeometry g ≡ true → at ≡ entryPlace g i → at % 16 ≡ 0
+unfolding goodGeometry goodSlots entryPlace
+entry-aligned g i at h e =
+    let rest = and-right (goodK (g .k)) _ h in
+    let eights : g .slots % 8 ≡ 0 = eqb-true _ _ (and-right (between 8 256 (g .slots)) _ (and-left (goodSlots (g .slots)) _ rest)) in
+    omega arith
 
 -- ---- units side by side
 

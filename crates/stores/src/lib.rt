@@ -8,7 +8,7 @@ use protocol::Stored;
 ghost use mathlib.Core.Path.{_≡_};
 ghost use mathlib.Core.List.{[], _∷_};
 ghost use mathlib.Core.Bool.{true, cond};
-ghost use Prim.Native.Nat.{_+_, _*_, _^_, _≤_, _<_, min};
+ghost use Prim.Native.Nat.{_+_, _*_, _%_, _^_, _≤_, _<_, min};
 ghost use lib.ListN.{length};
 ghost use lib.Dec.{ltb};
 ghost use Rattle.numbers.specs.Bytes.{part};
@@ -30,15 +30,18 @@ pub fn make_word(s: &mut [u8], at: usize, v: u64, left: u64) -> u64
     left - 1
 }
 
-// The entry e at byte `at` of the card.
+// The entry e at byte `at` of the card, an entry's place. Its bytes are staged, so that one move of sixteen bytes stores them. They are put at
+// at % 16, which is 0, and the compiler does not know it: of bytes put at a place that it knows it would store each by itself.
 pub fn make_entry(s: &mut [u8], at: usize, e: Entry, left: u64) -> u64
-    requires { ⌜ at + 16 ≤ length (now s) ⌝ }
+    requires { ⌜ (at + 16 ≤ length (now s)) × (at % 16 ≡ 0) ⌝ }
     ensures { λ r. ⌜ Did card (cardStore at (entryBytes e) ∷ []) left (now (s .entry)) (now (s .exit)) r ⌝ }
 {
     if left == 0 {
         return left;
     }
-    codec::put_entry(s, at, e);
+    let mut staged = [0u8; 32];
+    codec::put_entry(&mut staged, at % 16, e);
+    numbers::copy(s, at, &staged, 0, 16);
     left - 1
 }
 

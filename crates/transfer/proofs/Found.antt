@@ -1,26 +1,24 @@
 -- Load's and evict's own refusals in their order, the places that they find, and that these lie on the card. A load finds its places as a
 -- commit of its one block would. Assumes nothing.
-use Prim.Native.Nat.{ℕ, _+_, _≤_, _<_}
+use Prim.Native.Nat.{ℕ, _+_, _%_, _≤_, _<_}
 use mathlib.Core.List.{List, [], _∷_}
 use mathlib.Core.Bool.{Bool, true, false, not}
 use mathlib.Core.Path.{_≡_, refl, sym, ap, subst, _∙_}
 use native.Mathlib.Omega.{arith}
 use lib.ListN.{length, getD, replicate, length-replicate}
 use lib.Dec.{ltb}
-use mir.Syntax.{w32}
-use mir.Val.{Fits}
 use borrow.Author.Tests.{ltb-true, lt-ltb, le-ltb, leb-true, not-true}
 use Rattle.protocol.specs.declared.Entry.{Entry}
 use Rattle.protocol.specs.declared.Geometry.{Geometry}
 use Rattle.protocol.specs.declared.Map.{Map}
-use Rattle.protocol.specs.Below.{anyBelow, countBelow, firstBelow}
-use Rattle.protocol.specs.Layout.{geometryOf, blockSize, blockPlace, diskPlace, diskLength}
+use Rattle.protocol.specs.Below.{anyBelow, countBelow, around}
+use Rattle.protocol.specs.Layout.{goodGeometry, geometryOf, blockSize, blockPlace, diskPlace, diskLength}
 use Rattle.protocol.specs.Ring.{findEntry, cached, currentOf}
 use Rattle.protocol.specs.Check.{refuse, _orElse_, goodEntryAt, entriesFit}
 use Rattle.protocol.specs.Entry.{entryAt}
 use Rattle.protocol.specs.Search.{unusedAt, searchStart, freeBlocks, unusedEntries}
 use Rattle.protocol.specs.Store.{card, madeOn, flat}
-use Rattle.protocol.specs.Map.{isMarked, mapOf, freeCount}
+use Rattle.protocol.specs.Map.{isMarked, mapOf}
 use Rattle.protocol.specs.Commit.{numberOf, uncachedAt, newBlock, entryFound, roomFor}
 use Rattle.protocol.specs.Load.{loadRefusal, evictRuns, evictRefusal}
 use Rattle.protocol.proofs.Below.{all-at}
@@ -30,150 +28,177 @@ use Rattle.protocol.proofs.Region.{block, in-card, place-block}
 use Rattle.protocol.proofs.Made.{in-disk}
 use Rattle.protocol.proofs.Left.{evict-map}
 use Rattle.ring.specs.Fitted.{Fitted}
-use Rattle.checks.specs.Keys.{keyed, keyAt}
-use Rattle.checks.proofs.Find.{find-listed}
-use Rattle.ring.proofs.Laws.{fitted-long, fitted-blocks}
-use Rattle.freemap.specs.declared.Taken.{Taken}
+use Rattle.ring.proofs.Laws.{fitted-blocks, fitted-disk}
+use Rattle.checks.specs.Keys.{NONE}
 use Rattle.freemap.specs.Bits.{withoutBit, takenAt}
 use Rattle.freemap.specs.Taken.{Took}
 use Rattle.freemap.proofs.Maps.{without-by}
-use Rattle.plan.specs.declared.Places.{Places}
-use Rattle.plan.specs.Searched.{Searched}
-use Rattle.plan.proofs.Bounds.{Passed, new-below, entry-below}
+use Rattle.plan.specs.Walked.{passedBy, unusedBefore, Reached}
+use Rattle.plan.proofs.Bounds.{Passed, new-below, unused-room, entry-below}
+use Rattle.plan.proofs.Housing.{housed-missed}
 use Rattle.plan.proofs.Room.{no-room, room, take-ready, taken-block, taken-map}
+use Rattle.plan.proofs.Start.{start-is}
+use Rattle.transfer.specs.declared.Basis.{Basis}
 use Rattle.transfer.specs.declared.Room.{Room}
 use Rattle.transfer.specs.declared.Place.{Place}
-use Rattle.transfer.specs.Examined.{sharedRefusal, Listed, Examined, Chosen, Roomed, Located}
-use Rattle.transfer.proofs.Shared.{Shared, shared, own-after}
+use Rattle.transfer.specs.Examined.{sharedRefusal, Searchable, Examined, Chosen, Roomed, Located}
+use Rattle.transfer.proofs.Shared.{Whole, whole-of, Shared, shared, own-after}
 
 -- ---- keys
 
-module _ (g : Geometry) (c : List ℕ) (m : Map) (ids : List ℕ) (k : Listed g c m ids) (b : ℕ) (l : b < g .disk) where
-  pub number-fits : Fits w32 b
-  number-fits = let m : Limits g = limits g (k .fitted .good) in omega arith
+-- a commit of block b alone would pass too
+as-commit : (g : Geometry) (c : List ℕ) (b : ℕ) → Fitted g c → Whole g c → roomFor g c 1 ≡ true → Passed g c (b ∷ []) (replicate (blockSize g) 0)
+unfolding roomFor
+as-commit g c b f w r =
+    let l : Limits g = limits g (f .good) in
+    record {
+      fitted = f;
+      head = w .head;
+      fits = w .fits;
+      distinct = w .distinct;
+      count = omega arith;
+      sized = length-replicate {A = ℕ} (blockSize g) 0 ∙ omega arith;
+      room = leb-true 1 (length (freeBlocks g c)) r;
+    }
 
-  pub few-keys : g .blocks ≤ 128
-  few-keys = let m : Limits g = limits g (k .fitted .good) in omega arith
+module _ (g : Geometry) (c : List ℕ) (h : ℕ) (xs : List ℕ) (m : Map) (free : ℕ) (k : Searchable g c h xs m free) (b : ℕ) where
+  good : goodGeometry g ≡ true
+  good = k .indexed .fitted .good
 
-  module _ (at : ℕ) (e : at ≡ firstBelow (keyed (keyAt ids) b) (g .blocks)) where
-    pub key-finds : at ≡ findEntry g c b
-    key-finds = let m : Limits g = limits g (k .fitted .good) in e ∙ find-listed g c ids b (k .numbers) (omega arith)
+  pub number-key : b < g .disk → b < NONE
+  number-key l = omega (arith, l, fitted-disk g c (k .indexed .fitted))
 
+  module _ (at : ℕ) (e : at ≡ findEntry g c b) where
     cached-is : (t : Bool) → ltb at (g .blocks) ≡ t → cached g c b ≡ t
     unfolding cached
-    cached-is t h = ap (λ (i : ℕ). ltb i (g .blocks)) (sym key-finds) ∙ h
+    cached-is t q = ap (λ (i : ℕ). ltb i (g .blocks)) (sym e) ∙ q
 
     -- ---- load: 12, 14, or the places
 
     pub chosen-cached : (r : Room) → at < g .blocks → r .refusal ≡ 12 → Chosen g c b r
-    chosen-cached r h q =
+    chosen-cached r l q =
         record {
           refusal-is =
               q
               ∙ orElse-first 12 (refuse 12 (not (cached g c b))) _
-              (refuse-failed 12 (not (cached g c b)) (ap not (cached-is true (lt-ltb at (g .blocks) h))))
+              (refuse-failed 12 (not (cached g c b)) (ap not (cached-is true (lt-ltb at (g .blocks) l))))
               (λ z. omega arith);
           free = λ z. absurd (omega arith);
         }
 
-    module _ (h : g .blocks ≤ at) (free : ℕ) (f : free ≡ freeCount m) where
+    module _ (n : g .blocks ≤ at) where
       past-cached : (t : ℕ) → t ≡ refuse 14 (roomFor g c 1) → t ≡ refuse 12 (not (cached g c b)) orElse refuse 14 (roomFor g c 1)
       past-cached t p =
           orElse-next t (refuse 12 (not (cached g c b))) _
-          (refuse-passed 12 (not (cached g c b)) (ap not (cached-is false (le-ltb at (g .blocks) h)))) p
+          (refuse-passed 12 (not (cached g c b)) (ap not (cached-is false (le-ltb at (g .blocks) n)))) p
 
       pub chosen-full : (r : Room) → free < 1 → r .refusal ≡ 14 → Chosen g c b r
       chosen-full r p q =
           record {
-            refusal-is = q ∙ past-cached 14 (refuse-failed 14 (roomFor g c 1) (no-room g c (k .fitted .good) m (k .map-is) free f 1 p));
+            refusal-is = q ∙ past-cached 14 (refuse-failed 14 (roomFor g c 1) (no-room g c good m (k .map-is) free (k .free-is) 1 p));
             free = λ z. absurd (omega arith);
           }
 
-      module _ (p : 1 ≤ free) (start : ℕ) (s : (start ≡ searchStart g c) × (start < g .blocks)) where
+      module _ (p : 1 ≤ free) (start : ℕ) (s : (start ≡ h % g .blocks) × (start < g .blocks)) where
+        begins : (start ≡ searchStart g c) × (start < g .blocks)
+        begins = (start-is g c h start (k .head) (s .0), s .1)
+
+        has-room : roomFor g c 1 ≡ true
+        has-room = room g c good m (k .map-is) free (k .free-is) 1 p
+
         pub choose-ready : (start < 128) × (1 ≤ 128) × ((i : ℕ) → i < 1 → takenAt m start i < 128)
-        choose-ready = take-ready g c (k .fitted .good) m (k .map-is) free f 1 p start s
+        choose-ready = take-ready g c good m (k .map-is) free (k .free-is) 1 p start begins
 
-        pub chosen-room : (taken : Taken) (unused : Places) → Took m start 1 taken → Searched (unusedAt g c) (g .blocks) (searchStart g c) 1 unused
-            → Chosen g c b (record { refusal = 0; block = getD (taken .blocks) 0 0; entry = getD (unused .places) 0 0; map = taken .map })
-        unfolding unusedEntries anyBelow
-        chosen-room taken unused x y =
-            record {
-              refusal-is = past-cached 0 (refuse-passed 14 (roomFor g c 1) (room g c (k .fitted .good) m (k .map-is) free f 1 p));
-              free = λ z.
-                  record {
-                    block = x .blocks 0 (omega arith) ∙ taken-block g c (k .fitted .good) m (k .map-is) free f 1 p start s 0 (omega arith);
-                    entry = y .listed 0 (omega arith);
-                    map-is = x .map ∙ taken-map g c (k .fitted .good) m (k .map-is) free f 1 p start s;
-                  };
-            }
+        -- a card that passed check 6 has an unused entry for its free data block
+        some-unused : unusedBefore g c 0 < length (unusedEntries g c)
+        unfolding unusedBefore passedBy countBelow
+        some-unused = unused-room (as-commit g c b (k .indexed .fitted) (whole-of g c (k .whole)) has-room)
 
-module _ (c d : List ℕ) (m : Map) (b : ℕ) (ids : List ℕ) (s : ℕ) (x : Examined c d m b ids s) where
-  pub roomed-refused : (r : Room) → (s ≡ 0 → ⊥) → r .refusal ≡ s → Roomed c d m b r
+        module _ (j : ℕ) (w : Reached (unusedAt g c) (g .blocks) start 0 j) (place : ℕ) (q : place ≡ around (g .blocks) start j) where
+          first-unused : place ≡ getD (unusedEntries g c) 0 0
+          unfolding unusedBefore passedBy countBelow
+          first-unused =
+              housed-missed g c xs b 0 at (k .indexed) e start j place (begins .0) n w some-unused q .entry
+              ∙ rw (cached-is false (le-ltb at (g .blocks) n))
+
+          pub chosen-room : (bs : List ℕ) (y : Map) → Took m start 1 bs y
+              → Chosen g c b (record { refusal = 0; geometry = g; block = getD bs 0 0; entry = place; map = y })
+          unfolding anyBelow
+          chosen-room bs y x =
+              record {
+                refusal-is = past-cached 0 (refuse-passed 14 (roomFor g c 1) has-room);
+                free = λ z.
+                    record {
+                      geometry-is = refl;
+                      block = x .blocks 0 (omega arith) ∙ taken-block g c good m (k .map-is) free (k .free-is) 1 p start begins 0 (omega arith);
+                      entry = first-unused;
+                      map-is = x .map ∙ taken-map g c good m (k .map-is) free (k .free-is) 1 p start begins;
+                    };
+              }
+
+module _ (c d : List ℕ) (m : Map) (b : ℕ) (xs : List ℕ) (s : Basis) (x : Examined c d m b xs s) where
+  pub roomed-refused : (r : Room) → (s .refusal ≡ 0 → ⊥) → r .refusal ≡ s .refusal → Roomed c d m b r
   unfolding loadRefusal
   roomed-refused r h q =
       record {
-        refusal-is = q ∙ orElse-first s (sharedRefusal c d m b) _ (x .refusal-is) h ∙ sym (own-after c d m b _);
+        refusal-is = q ∙ orElse-first (s .refusal) (sharedRefusal c d m b) _ (x .refusal-is) h ∙ sym (own-after c d m b _);
         free = λ z. absurd (h (sym q ∙ z));
       }
 
-  pub located-refused : (s ≡ 0 → ⊥) → Located c d m b (record { refusal = s; at = 0 })
+  pub located-refused : (s .refusal ≡ 0 → ⊥) → Located c d m b (record { refusal = s .refusal; geometry = s .geometry; at = 0 })
   unfolding evictRefusal
   located-refused h =
       record {
-        refusal-is = orElse-first s (sharedRefusal c d m b) _ (x .refusal-is) h ∙ sym (own-after c d m b _);
+        refusal-is = orElse-first (s .refusal) (sharedRefusal c d m b) _ (x .refusal-is) h ∙ sym (own-after c d m b _);
+        geometry-is = λ z. absurd (h z);
         at = λ z. absurd (h z);
       }
 
-  module _ (z : s ≡ 0) where
-    inside : b < geometryOf c .disk
-    inside = shared c d m b (sym (x .refusal-is) ∙ z) .inside
+  module _ (z : s .refusal ≡ 0) where
+    geometry : s .geometry ≡ geometryOf c
+    geometry = x .geometry-is z
 
-    pub examined-long : 128 ≤ length c
-    examined-long = fitted-long (geometryOf c) c (x .listed z .fitted)
+    pub examined-inside : b < s .geometry .disk
+    examined-inside = subst (λ (h : Geometry). b < h .disk) (sym geometry) (shared c d m b (sym (x .refusal-is) ∙ z) .inside)
 
-    pub examined-number : Fits w32 b
-    examined-number = number-fits (geometryOf c) c m ids (x .listed z) b inside
+    pub examined-key : b < NONE
+    examined-key = number-key (s .geometry) c (s .head) xs m (s .free) (x .searchable z) b examined-inside
 
-    module _ (g : Geometry) (q : g ≡ geometryOf c) where
-      pub examined-few : g .blocks ≤ 128
-      examined-few = fitted-blocks g c (subst (λ (h : Geometry). Fitted h c) (sym q) (x .listed z .fitted))
+    pub roomed-chosen : (r : Room) → Chosen (s .geometry) c b r → Roomed c d m b r
+    unfolding loadRefusal
+    roomed-chosen r y =
+        let own : Chosen (geometryOf c) c b r = subst (λ (h : Geometry). Chosen h c b r) geometry y in
+        record {
+          refusal-is = orElse-next (r .refusal) (sharedRefusal c d m b) _ (sym z ∙ x .refusal-is) (own .refusal-is) ∙ sym (own-after c d m b _);
+          free = own .free;
+        }
 
-      pub examined-keys : Listed g c m ids
-      examined-keys = subst (λ (h : Geometry). Listed h c m ids) (sym q) (x .listed z)
+    -- evict: the place, or 13
+    module _ (at : ℕ) (e : at ≡ findEntry (s .geometry) c b) where
+      finds : at ≡ findEntry (geometryOf c) c b
+      finds = e ∙ ap (λ (h : Geometry). findEntry h c b) geometry
 
-      pub examined-inside : b < g .disk
-      examined-inside = subst (λ (h : Geometry). b < h .disk) (sym q) inside
+      past-shared : (t : ℕ) (k : Bool) → ltb at (s .geometry .blocks) ≡ k → t ≡ refuse 13 k → t ≡ evictRefusal c d m b
+      unfolding evictRefusal cached
+      past-shared t k h p =
+          let same : k ≡ cached (geometryOf c) c b = sym h ∙ (λ j. ltb (finds j) (geometry j .blocks)) in
+          orElse-next t (sharedRefusal c d m b) _ (sym z ∙ x .refusal-is) (p ∙ ap (refuse 13) same) ∙ sym (own-after c d m b _)
 
-      pub roomed-chosen : (r : Room) → Chosen g c b r → Roomed c d m b r
-      unfolding loadRefusal
-      roomed-chosen r y =
-          let own : Chosen (geometryOf c) c b r = subst (λ (h : Geometry). Chosen h c b r) q y in
+      pub located-found : at < s .geometry .blocks → Located c d m b (record { refusal = 0; geometry = s .geometry; at = at })
+      located-found l =
           record {
-            refusal-is = orElse-next (r .refusal) (sharedRefusal c d m b) _ (sym z ∙ x .refusal-is) (own .refusal-is) ∙ sym (own-after c d m b _);
-            free = own .free;
+            refusal-is = past-shared 0 true (lt-ltb at (s .geometry .blocks) l) (refuse-passed 13 true refl);
+            geometry-is = λ k. geometry;
+            at = λ k. finds;
           }
 
-      -- evict: the place, or 13
-      module _ (at : ℕ) (e : at ≡ firstBelow (keyed (keyAt ids) b) (g .blocks)) where
-        finds : at ≡ findEntry (geometryOf c) c b
-        finds = key-finds g c m ids examined-keys b examined-inside at e ∙ ap (λ (h : Geometry). findEntry h c b) q
-
-        past-shared : (t : ℕ) (k : Bool) → ltb at (g .blocks) ≡ k → t ≡ refuse 13 k → t ≡ evictRefusal c d m b
-        unfolding evictRefusal cached
-        past-shared t k h p =
-            let same : k ≡ cached (geometryOf c) c b = sym h ∙ (λ j. ltb (finds j) (q j .blocks)) in
-            orElse-next t (sharedRefusal c d m b) _ (sym z ∙ x .refusal-is) (p ∙ ap (refuse 13) same) ∙ sym (own-after c d m b _)
-
-        pub located-found : at < g .blocks → Located c d m b (record { refusal = 0; at = at })
-        located-found l =
-            record { refusal-is = past-shared 0 true (lt-ltb at (g .blocks) l) (refuse-passed 13 true refl); at = λ k. finds }
-
-        pub located-missing : g .blocks ≤ at → Located c d m b (record { refusal = 13; at = 0 })
-        located-missing l =
-            record {
-              refusal-is = past-shared 13 false (le-ltb at (g .blocks) l) (refuse-failed 13 false refl);
-              at = λ k. absurd (omega arith);
-            }
+      pub located-missing : s .geometry .blocks ≤ at → Located c d m b (record { refusal = 13; geometry = s .geometry; at = 0 })
+      located-missing l =
+          record {
+            refusal-is = past-shared 13 false (le-ltb at (s .geometry .blocks) l) (refuse-failed 13 false refl);
+            geometry-is = λ k. absurd (omega arith);
+            at = λ k. absurd (omega arith);
+          }
 
 -- ---- what a call that is not refused has found
 
@@ -183,23 +208,7 @@ pub record Ready (g : Geometry) (c d : List ℕ) (m : Map) (b : ℕ) : Type 0 wh
   pub block : newBlock g c 0 < g .blocks
   pub entry : getD (unusedEntries g c) 0 0 < g .blocks
 
--- a commit of block b alone would pass too
-as-commit : (g : Geometry) (c d : List ℕ) (m : Map) (b : ℕ) → Shared g c d m b → roomFor g c 1 ≡ true
-    → Passed g c (b ∷ []) (replicate (blockSize g) 0)
-unfolding roomFor
-as-commit g c d m b s r =
-    let l : Limits g = limits g (s .fitted .good) in
-    record {
-      fitted = s .fitted;
-      head = s .head;
-      fits = s .fits;
-      distinct = s .distinct;
-      count = omega arith;
-      sized = length-replicate {A = ℕ} (blockSize g) 0 ∙ omega arith;
-      room = leb-true 1 (length (freeBlocks g c)) r;
-    }
-
--- and its entry would be the first unused one
+-- the entry of a commit of b alone is the first unused one
 as-entry : (g : Geometry) (c : List ℕ) (b : ℕ) → cached g c b ≡ false → entryFound g c (b ∷ []) 0 ≡ getD (unusedEntries g c) 0 0
 unfolding entryFound uncachedAt numberOf countBelow
 as-entry g c b h = rw h
@@ -212,7 +221,7 @@ load-ready c d m b z =
     let (twelve, fourteen) = orElse-none (refuse 12 (not (cached g c b))) _ own in
     let s : Shared g c d m b = shared c d m b first in
     let absent : cached g c b ≡ false = not-true _ (refuse-none 12 (not (cached g c b)) (omega arith) twelve) in
-    let v = as-commit g c d m b s (refuse-none 14 (roomFor g c 1) (omega arith) fourteen) in
+    let v = as-commit g c b (s .fitted) (s .whole) (refuse-none 14 (roomFor g c 1) (omega arith) fourteen) in
     record {
       passed = s;
       block = new-below v 0 (omega arith);
@@ -233,7 +242,7 @@ evict-held c d m b z =
     let s : Shared g c d m b = shared c d m b first in
     let k : Limits g = limits g (s .fitted .good) in
     let here = ltb-true _ _ (refuse-none 13 (cached g c b) (omega arith) own) in
-    let good = all-at (goodEntryAt g c) (g .blocks) (findEntry g c b) (s .fits) here in
+    let good = all-at (goodEntryAt g c) (g .blocks) (findEntry g c b) (s .whole .fits) here in
     record {
       passed = s;
       at = here;
@@ -253,13 +262,10 @@ module _ (c d : List ℕ) (m : Map) (b : ℕ) (r : Room) (x : Roomed c d m b r) 
   ready : Ready (geometryOf c) c d m b
   ready = load-ready c d m b (sym (x .refusal-is) ∙ z)
 
-  pub load-long : 128 ≤ length c
-  load-long = fitted-long (geometryOf c) c (ready .passed .fitted)
-
-  pub load-goes : (g : Geometry) → g ≡ geometryOf c
-      → Fitted g c × (length d ≡ diskLength g) × (b < g .disk) × (r .block < g .blocks) × (r .entry < g .blocks)
-  load-goes g q =
-      rw q (
+  pub load-goes : Fitted (r .geometry) c × (length d ≡ diskLength (r .geometry)) × (b < r .geometry .disk) × (r .block < r .geometry .blocks)
+      × (r .entry < r .geometry .blocks)
+  load-goes =
+      rw (x .free z .geometry-is) (
         ready .passed .fitted,
         ready .passed .disk,
         ready .passed .inside,
@@ -271,37 +277,37 @@ module _ (c d : List ℕ) (m : Map) (b : ℕ) (r : Place) (x : Located c d m b r
   held : Held (geometryOf c) c d m b
   held = evict-held c d m b (sym (x .refusal-is) ∙ z)
 
-  pub evict-long : 128 ≤ length c
-  evict-long = fitted-long (geometryOf c) c (held .passed .fitted)
+  q : r .geometry ≡ geometryOf c
+  q = x .geometry-is z
 
-  module _ (g : Geometry) (q : g ≡ geometryOf c) where
-    pub evict-place : Fitted g c × (r .at < g .blocks)
-    evict-place = rw q (held .passed .fitted, subst (λ (i : ℕ). i < geometryOf c .blocks) (sym (x .at z)) (held .at))
+  pub evict-place : Fitted (r .geometry) c × (r .at < r .geometry .blocks)
+  evict-place = rw q (held .passed .fitted, subst (λ (i : ℕ). i < geometryOf c .blocks) (sym (x .at z)) (held .at))
 
-    module _ (e : Entry) (h : e ≡ entryAt g c (r .at)) where
-      current-is : e .current ≡ currentOf (geometryOf c) c b
-      unfolding currentOf
-      current-is = ap (λ (y : Entry). y .current) (h ∙ (λ t. entryAt (q t) c (x .at z t)))
+  module _ (e : Entry) (h : e ≡ entryAt (r .geometry) c (r .at)) where
+    current-is : e .current ≡ currentOf (geometryOf c) c b
+    unfolding currentOf
+    current-is = ap (λ (y : Entry). y .current) (h ∙ (λ t. entryAt (q t) c (x .at z t)))
 
-      pub evict-few : e .current < 128
-      evict-few = omega (arith, current-is, held .current, fitted-blocks (geometryOf c) c (held .passed .fitted))
+    pub evict-few : e .current < 128
+    evict-few = omega (arith, current-is, held .current, fitted-blocks (geometryOf c) c (held .passed .fitted))
 
-      pub evict-goes : Fitted g c × (length d ≡ diskLength g) × (b < g .disk) × (r .at ≡ findEntry g c b) × (r .at < g .blocks)
-          × (e ≡ entryAt g c (r .at)) × (e .current < g .blocks)
-      evict-goes = (
-        evict-place .0,
-        held .passed .disk ∙ ap diskLength (sym q),
-        subst (λ (y : Geometry). b < y .disk) (sym q) (held .passed .inside),
-        x .at z ∙ ap (λ (y : Geometry). findEntry y c b) (sym q),
-        evict-place .1,
-        h,
-        omega (arith, current-is, held .current, ap (λ (y : Geometry). y .blocks) q),
-      )
+    pub evict-goes : Fitted (r .geometry) c × (length d ≡ diskLength (r .geometry)) × (b < r .geometry .disk)
+        × (r .at ≡ findEntry (r .geometry) c b) × (r .at < r .geometry .blocks) × (e ≡ entryAt (r .geometry) c (r .at))
+        × (e .current < r .geometry .blocks)
+    evict-goes = (
+      evict-place .0,
+      held .passed .disk ∙ ap diskLength (sym q),
+      subst (λ (y : Geometry). b < y .disk) (sym q) (held .passed .inside),
+      x .at z ∙ ap (λ (y : Geometry). findEntry y c b) (sym q),
+      evict-place .1,
+      h,
+      omega (arith, current-is, held .current, ap (λ (y : Geometry). y .blocks) q),
+    )
 
-      -- evict's bit cleared gives the map of the card that its stores leave
-      pub evict-freed : withoutBit m (e .current) ≡ mapOf (madeOn card (flat (evictRuns (geometryOf c) c b)) c)
-      evict-freed =
-          let k : currentOf (geometryOf c) c b < 128 = omega (arith, current-is, evict-few) in
-          (λ t. withoutBit (held .passed .map-is t) (current-is t))
-          ∙ without-by (isMarked (geometryOf c) c) (currentOf (geometryOf c) c b) k
-          ∙ sym (evict-map c d m b (sym (x .refusal-is) ∙ z))
+    -- evict's bit cleared gives the map of the card that its stores leave
+    pub evict-freed : withoutBit m (e .current) ≡ mapOf (madeOn card (flat (evictRuns (geometryOf c) c b)) c)
+    evict-freed =
+        let k : currentOf (geometryOf c) c b < 128 = omega (arith, current-is, evict-few) in
+        (λ t. withoutBit (held .passed .map-is t) (current-is t))
+        ∙ without-by (isMarked (geometryOf c) c) (currentOf (geometryOf c) c b) k
+        ∙ sym (evict-map c d m b (sym (x .refusal-is) ∙ z))

@@ -14,7 +14,7 @@ use Rattle.protocol.specs.declared.Entry.{Entry}
 use Rattle.protocol.specs.declared.Geometry.{Geometry}
 use Rattle.protocol.specs.declared.Map.{Map}
 use Rattle.protocol.specs.declared.Stored.{Stored}
-use Rattle.protocol.specs.Layout.{goodGeometry, geometryOf, blockSize, blockPlace, diskPlace, blockAt, diskBlock}
+use Rattle.protocol.specs.Layout.{goodGeometry, blockSize, blockPlace, diskPlace, blockAt, diskBlock}
 use Rattle.protocol.specs.Entry.{FRESH, unused, entryOf, entryAt, isModified}
 use Rattle.protocol.specs.Ring.{findEntry, currentOf}
 use Rattle.protocol.specs.Store.{Medium, card, disk, Store, Run, Work, madeOn, flat, words, sectors, entryStore, single, storesOf}
@@ -152,15 +152,15 @@ module _ (c d : List ℕ) (m : Map) (b a : ℕ) where
     unfolding loadWork
     load-refused h = refused (loadWork c d m b) a m c d (r .refusal) (x .refusal-is) h
 
-    pub load-finished : r .refusal ≡ 0 → (g : Geometry) → g ≡ geometryOf c → (c′ : List ℕ) (y : Answer) (u : Stored)
-        → Moved (flat (loadedRuns g d b (r .block) (r .entry))) a c c′ d d y
+    pub load-finished : r .refusal ≡ 0 → (c′ : List ℕ) (y : Answer) (u : Stored)
+        → Moved (flat (loadedRuns (r .geometry) d b (r .block) (r .entry))) a c c′ d d y
         → (u .answer ≡ y) × (u .map ≡ handedOn y m (r .map))
         → Finished (loadWork c d m b) a m c c′ d d u
     unfolding loadWork loadRuns cleanEntry
-    load-finished z g q c′ y u k h =
+    load-finished z c′ y u k h =
         let f = x .free z in
         finished (loadWork c d m b) a m c d (r .refusal) (x .refusal-is) z c′ d y (r .map) u
-        (subst (λ (rs : List Run). Moved (flat rs) a c c′ d d y) (λ t. loadedRuns (q t) d b (f .block t) (f .entry t)) k)
+        (subst (λ (rs : List Run). Moved (flat rs) a c c′ d d y) (λ t. loadedRuns (f .geometry-is t) d b (f .block t) (f .entry t)) k)
         (f .map-is ∙ sym (load-map c d m b (sym (x .refusal-is) ∙ z)))
         h
 
@@ -169,14 +169,14 @@ module _ (c d : List ℕ) (m : Map) (b a : ℕ) where
     unfolding evictWork
     evict-refused h = refused (evictWork c d m b) a m c d (r .refusal) (x .refusal-is) h
 
-    pub evict-finished : r .refusal ≡ 0 → (g : Geometry) → g ≡ geometryOf c → (e : Entry) → e ≡ entryAt g c (r .at) → (new : Map)
+    pub evict-finished : r .refusal ≡ 0 → (e : Entry) → e ≡ entryAt (r .geometry) c (r .at) → (new : Map)
         → new ≡ withoutBit m (e .current) → (c′ d′ : List ℕ) (y : Answer) (u : Stored)
-        → Moved (flat (evictRuns g c b)) a c c′ d d′ y
+        → Moved (flat (evictRuns (r .geometry) c b)) a c c′ d d′ y
         → (u .answer ≡ y) × (u .map ≡ handedOn y m new)
         → Finished (evictWork c d m b) a m c c′ d d′ u
     unfolding evictWork
-    evict-finished z g q e i new w c′ d′ y u k h =
+    evict-finished z e i new w c′ d′ y u k h =
         finished (evictWork c d m b) a m c d (r .refusal) (x .refusal-is) z c′ d′ y new u
-        (subst (λ (j : Geometry). Moved (flat (evictRuns j c b)) a c c′ d d′ y) q k)
-        (w ∙ evict-freed c d m b r x z g q e i)
+        (subst (λ (j : Geometry). Moved (flat (evictRuns j c b)) a c c′ d d′ y) (x .geometry-is z) k)
+        (w ∙ evict-freed c d m b r x z e i)
         h

@@ -1,21 +1,21 @@
 -- What load and evict find before they store anything.
 use Prim.Native.Nat.{ℕ}
 use mathlib.Core.List.{List}
-use mathlib.Core.Bool.{true, not, _||_}
+use mathlib.Core.Bool.{not, _||_}
 use mathlib.Core.Path.{_≡_}
 use lib.ListN.{getD}
 use lib.Dec.{eqb}
 use Rattle.protocol.specs.declared.Geometry.{Geometry}
 use Rattle.protocol.specs.declared.Map.{Map}
 use Rattle.protocol.specs.Layout.{geometryOf}
-use Rattle.protocol.specs.Ring.{findEntry, cached}
-use Rattle.protocol.specs.Check.{refuse, _orElse_, entriesFit}
+use Rattle.protocol.specs.Ring.{headOf, findEntry, cached}
+use Rattle.protocol.specs.Check.{refuse, _orElse_, cardRefusal}
 use Rattle.protocol.specs.Search.{unusedEntries}
-use Rattle.protocol.specs.Map.{mapBy, isMarked, mapRefusal}
+use Rattle.protocol.specs.Map.{mapBy, isMarked, mapRefusal, freeCount}
 use Rattle.protocol.specs.Commit.{newBlock, roomFor}
 use Rattle.protocol.specs.Load.{pairRefusal, blockRefusal, loadRefusal, evictRefusal}
-use Rattle.ring.specs.Fitted.{Fitted}
-use Rattle.checks.specs.Keys.{numberKey, Lists}
+use Rattle.checks.specs.Passed.{Indexed}
+use Rattle.transfer.specs.declared.Basis.{Basis}
 use Rattle.transfer.specs.declared.Room.{Room}
 use Rattle.transfer.specs.declared.Place.{Place}
 
@@ -23,20 +23,23 @@ use Rattle.transfer.specs.declared.Place.{Place}
 unfoldable pub sharedRefusal : List ℕ → List ℕ → Map → ℕ → ℕ
 sharedRefusal c d m b = pairRefusal c d orElse mapRefusal c m orElse blockRefusal (geometryOf c) b
 
--- a card that passed checks 1, 2 and 5, its map, and the keys of its entries' numbers
-pub record Listed (g : Geometry) (c : List ℕ) (m : Map) (ids : List ℕ) : Type 0 where
-  pub fitted : Fitted g c
-  pub fits : entriesFit g c ≡ true
+-- what a search goes on from: a card that passed its checks, its Head, the index of its numbers, its map and how many blocks are free
+pub record Searchable (g : Geometry) (c : List ℕ) (h : ℕ) (xs : List ℕ) (m : Map) (free : ℕ) : Type 0 where
+  pub indexed : Indexed g c xs
+  pub whole : cardRefusal g c ≡ 0
+  pub head : h ≡ headOf c
   pub map-is : m ≡ mapBy (isMarked g c)
-  pub numbers : Lists (numberKey g c) ids (g .blocks)
+  pub free-is : free ≡ freeCount m
 
--- what they found, and where none is given the keys
-pub record Examined (c d : List ℕ) (m : Map) (b : ℕ) (ids : List ℕ) (r : ℕ) : Type 0 where
-  pub refusal-is : r ≡ sharedRefusal c d m b
-  pub listed : r ≡ 0 → Listed (geometryOf c) c m ids
+-- what they found, and where none is given what a search goes on from
+pub record Examined (c d : List ℕ) (m : Map) (b : ℕ) (xs : List ℕ) (r : Basis) : Type 0 where
+  pub refusal-is : r .refusal ≡ sharedRefusal c d m b
+  pub geometry-is : r .refusal ≡ 0 → r .geometry ≡ geometryOf c
+  pub searchable : r .refusal ≡ 0 → Searchable (r .geometry) c (r .head) xs m (r .free)
 
 -- the first free data block with the map in which it is marked, and the first unused entry
 pub record Free (g : Geometry) (c : List ℕ) (r : Room) : Type 0 where
+  pub geometry-is : r .geometry ≡ g
   pub block : r .block ≡ newBlock g c 0
   pub entry : r .entry ≡ getD (unusedEntries g c) 0 0
   pub map-is : r .map ≡ mapBy (λ x. isMarked g c x || eqb (newBlock g c 0) x)
@@ -54,4 +57,5 @@ pub record Roomed (c d : List ℕ) (m : Map) (b : ℕ) (r : Room) : Type 0 where
 -- all of evict's refusals, and where none is given the place of the entry for b
 pub record Located (c d : List ℕ) (m : Map) (b : ℕ) (r : Place) : Type 0 where
   pub refusal-is : r .refusal ≡ evictRefusal c d m b
+  pub geometry-is : r .refusal ≡ 0 → r .geometry ≡ geometryOf c
   pub at : r .refusal ≡ 0 → r .at ≡ findEntry (geometryOf c) c b

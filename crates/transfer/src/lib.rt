@@ -14,52 +14,76 @@ ghost use Rattle.protocol.specs.Ring.{findEntry};
 ghost use Rattle.protocol.specs.Store.{flat};
 ghost use Rattle.protocol.specs.Load.{loadWork, evictRuns, evictWork};
 ghost use Rattle.ring.specs.Fitted.{Fitted};
-ghost use Rattle.transfer.specs.Examined.{Listed, Examined, Chosen, Roomed, Located};
+ghost use Rattle.checks.specs.Chain.{Blank};
+ghost use Rattle.transfer.specs.Examined.{Searchable, Examined, Chosen, Roomed, Located};
 ghost use Rattle.transfer.specs.Moved.{loadedRuns, Moved, Finished};
 
-// 1 to 7, 15 and 10, and the keys of the entries' numbers, so that no search decodes them again.
-fn examine(card: &[u8], disk: &[u8], map: Map, b: u64, ids: &mut [u32; 128]) -> u8
-    requires { ⌜ length (now ids) ≡ 128 ⌝ }
-    ensures { λ r. ⌜ Examined (now (card .entry)) (now (disk .entry)) map b (now (ids .exit)) r ⌝ }
-{
-    let misfit = ring::fit_refusal(card);
-    if misfit != 0 {
-        return misfit;
-    }
-    let g = ring::geometry_of(card);
-    let other = ring::disk_refusal(g, disk);
-    if other != 0 {
-        return other;
-    }
-    let mut currents = [0u32; 128];
-    let v = checks::inspect(g, card, ids, &mut currents);
-    if v.refusal != 0 {
-        return v.refusal;
-    }
-    if !v.settled {
-        return 7;
-    }
-    let marks = v.marks;
-    let own = checks::map_of(g, &marks);
-    if !freemap::same(map, own) {
-        return 15;
-    }
-    if b < g.disk { 0 } else { 10 }
+// What load and evict go on from: their refusal, and where there is none the card's geometry, its Head and how many data blocks are free.
+pub struct Basis {
+    pub refusal: u8,
+    pub geometry: Geometry,
+    pub head: u64,
+    pub free: u64,
 }
 
-// Where a load puts its block, with the map in which that is marked, or its refusal.
+fn stopped(g: Geometry, refusal: u8) -> Basis
+    ensures { λ r. ⌜ r .refusal ≡ refusal ⌝ }
+{
+    Basis {
+        refusal: refusal,
+        geometry: g,
+        head: 0,
+        free: 0,
+    }
+}
+
+// 1 to 7, 15 and 10, and the index of the card's numbers, so that no search decodes the entries again.
+fn examine(card: &[u8], disk: &[u8], map: Map, b: u64, index: &mut [u8; 640]) -> Basis
+    requires { ⌜ Blank (now index) ⌝ }
+    ensures { λ r. ⌜ Examined (now (card .entry)) (now (disk .entry)) map b (now (index .exit)) r ⌝ }
+{
+    let f = ring::fit_of(card);
+    let g = f.geometry;
+    if f.refusal != 0 {
+        return stopped(g, f.refusal);
+    }
+    let other = ring::disk_refusal(g, disk);
+    if other != 0 {
+        return stopped(g, other);
+    }
+    let v = checks::examine(f, card, index);
+    if v.refusal != 0 {
+        return stopped(g, v.refusal);
+    }
+    if !freemap::same(map, v.map) {
+        return stopped(g, 15);
+    }
+    if g.disk <= b {
+        return stopped(g, 10);
+    }
+    Basis {
+        refusal: 0,
+        geometry: g,
+        head: f.head,
+        free: v.free,
+    }
+}
+
+// Where a load puts its block on a card of this geometry, with the map in which that is marked, or its refusal.
 pub struct Room {
     pub refusal: u8,
+    pub geometry: Geometry,
     pub block: u8,
     pub entry: u8,
     pub map: Map,
 }
 
-fn no_room(refusal: u8) -> Room
+fn no_room(g: Geometry, refusal: u8) -> Room
     ensures { λ r. ⌜ r .refusal ≡ refusal ⌝ }
 {
     Room {
         refusal: refusal,
+        geometry: g,
         block: 0,
         entry: 0,
         map: Map { low: 0, high: 0 },
@@ -67,26 +91,27 @@ fn no_room(refusal: u8) -> Room
 }
 
 // 12 and 14, and where neither is given the first free data block and the first unused entry of the walk from Head mod N.
-fn choose(g: Geometry, card: &[u8], map: Map, ids: &[u32; 128], b: u64) -> Room
-    requires { ⌜ Listed g (now card) map (now ids) × (b < g .disk) ⌝ }
-    ensures { λ r. ⌜ Chosen g (now (card .entry)) b r ⌝ }
+fn choose(x: Basis, card: &[u8], map: Map, index: &[u8; 640], b: u64) -> Room
+    requires { ⌜ Searchable (x .geometry) (now card) (x .head) (now index) map (x .free) × (b < x .geometry .disk) ⌝ }
+    ensures { λ r. ⌜ Chosen (x .geometry) (now (card .entry)) b r ⌝ }
 {
-    let n = g.blocks as usize;
-    if checks::find_key(ids, n, b as u32) < n {
-        return no_room(12);
+    let g = x.geometry;
+    if checks::find(g, card, index, b) < g.blocks as usize {
+        return no_room(g, 12);
     }
-    if freemap::free_count(map) < 1 {
-        return no_room(14);
+    if x.free < 1 {
+        return no_room(g, 14);
     }
-    let free = freemap::take(map, plan::search_start(g, card), 1);
-    let unused = plan::unused_entries(g, card, ids, 1);
-    let blocks = free.blocks;
-    let entries = unused.places;
-    let marked = free.map;
+    let start = plan::search_start(g, x.head);
+    let mut blocks = [0u8; 128];
+    let marked = freemap::take(map, start, 1, &mut blocks);
+    let j = plan::next_unused(g, card, start, 0);
+    let unused = plan::place_after(g, start, j) as u8;
     Room {
         refusal: 0,
+        geometry: g,
         block: blocks[0],
-        entry: entries[0],
+        entry: unused,
         map: marked,
     }
 }
@@ -94,12 +119,12 @@ fn choose(g: Geometry, card: &[u8], map: Map, ids: &[u32; 128], b: u64) -> Room
 fn find_room(card: &[u8], disk: &[u8], map: Map, b: u64) -> Room
     ensures { λ r. ⌜ Roomed (now (card .entry)) (now (disk .entry)) map b r ⌝ }
 {
-    let mut ids = [0u32; 128];
-    let refusal = examine(card, disk, map, b, &mut ids);
-    if refusal != 0 {
-        return no_room(refusal);
+    let mut index = [0u8; 640];
+    let x = examine(card, disk, map, b, &mut index);
+    if x.refusal != 0 {
+        return no_room(x.geometry, x.refusal);
     }
-    choose(ring::geometry_of(card), card, map, &ids, b)
+    choose(x, card, map, &index, b)
 }
 
 // The words of the block, then its entry: a cut between them leaves the data block free.
@@ -138,14 +163,15 @@ pub fn load(card: &mut [u8], disk: &[u8], map: Map, b: u64, allowance: u64) -> S
             map: map,
         };
     }
-    let g = ring::geometry_of(card);
+    let g = room.geometry;
     let answer = make_load(g, card, disk, b, room.block, room.entry, allowance);
     stores::hand_on(answer, map, room.map)
 }
 
-// The place of an entry, or a refusal.
+// The place of an entry on a card of this geometry, or a refusal.
 pub struct Place {
     pub refusal: u8,
+    pub geometry: Geometry,
     pub at: usize,
 }
 
@@ -153,21 +179,29 @@ pub struct Place {
 fn find_cached(card: &[u8], disk: &[u8], map: Map, b: u64) -> Place
     ensures { λ r. ⌜ Located (now (card .entry)) (now (disk .entry)) map b r ⌝ }
 {
-    let mut ids = [0u32; 128];
-    let refusal = examine(card, disk, map, b, &mut ids);
-    if refusal != 0 {
+    let mut index = [0u8; 640];
+    let x = examine(card, disk, map, b, &mut index);
+    let g = x.geometry;
+    if x.refusal != 0 {
         return Place {
-            refusal: refusal,
+            refusal: x.refusal,
+            geometry: g,
             at: 0,
         };
     }
-    let g = ring::geometry_of(card);
-    let n = g.blocks as usize;
-    let at = checks::find_key(&ids, n, b as u32);
-    if at < n {
-        Place { refusal: 0, at: at }
+    let at = checks::find(g, card, &index, b);
+    if at < g.blocks as usize {
+        Place {
+            refusal: 0,
+            geometry: g,
+            at: at,
+        }
     } else {
-        Place { refusal: 13, at: 0 }
+        Place {
+            refusal: 13,
+            geometry: g,
+            at: 0,
+        }
     }
 }
 
@@ -211,7 +245,7 @@ pub fn evict(card: &mut [u8], disk: &mut [u8], map: Map, b: u64, allowance: u64)
             map: map,
         };
     }
-    let g = ring::geometry_of(card);
+    let g = place.geometry;
     let e = checks::entry_of(g, card, place.at);
     let freed = freemap::without(map, e.current as usize);
     let answer = make_evict(g, card, disk, b, place.at, e, allowance);

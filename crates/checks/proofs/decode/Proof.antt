@@ -1,171 +1,176 @@
--- `decode` answers what the pass over the entries finds. The invariant: check 5 allows the entries passed, their keys are listed, and their
--- current blocks are marked.
+-- `decode` answers what the pass over the entries finds. The invariant: check 5 allows the entries passed, their numbers stand in chains, and
+-- their current blocks are marked.
 use Prim.Native.Nat.{_≤_, _<_, _-_}
+use mathlib.Core.Bool.{Bool, true, false, not, _&&_}
+use mathlib.Core.Logic.{⊎-elim}
+use mathlib.Core.Path.{_≡_, refl, sym, _∙_}
 use denote.Ref.{now}
-use Rattle.ring.proofs.Laws.{fitted-blocks, fitted-disk}
-use Rattle.checks.specs.Keys.{currentKey}
-use Rattle.checks.specs.Passed.{MarkedBy}
-use Rattle.checks.proofs.Laws.{Listed, listed-start, Split, listed-unused, listed-used, listed-bad, listed-end, marked-unused, current-few, marked-used}
-use Rattle.checks.proofs.Marking.{marked-start}
 use native.Mathlib.Omega.{arith}
+use Rattle.protocol.proofs.Below.{and-fails}
+use Rattle.ring.proofs.Laws.{fitted-blocks}
+use Rattle.checks.proofs.Laws.{Passing, pass-start, pass-unused, pass-used, pass-bad, pass-end, and-true}
+use Rattle.checks.proofs.Fields.{Split, split-blank, split-blocks, split-flags, Used, used-modified, used-clean, used-logged}
 use borrow.Author.Needs.{needs}
 use Rattle.checks.proofs.decode.Statement.{statement}
 use Rattle.checks.proofs.decode.Tie as tie
 
 abbrev Inv-loop : tie.InvT-loop
-Inv-loop g card ids₀ currents₀ n quiet₀ again₀ marks₀ i₀ ids currents quiet again marks i =
-    (n ≤ 128) × (i ≤ n) × Listed g card i quiet ids currents × MarkedBy (currentKey g card) i marks again
+Inv-loop g card index₀ n quiet₀ shared₀ count₀ map₀ i₀ index quiet shared count map i = (i ≤ n) × Passing g card index i quiet shared count map
 
 abbrev μ-loop : tie.MeasureT-loop
-μ-loop g card ids₀ currents₀ n quiet₀ again₀ marks₀ i₀ ids currents quiet again marks i = n - i
+μ-loop g card index₀ n quiet₀ shared₀ count₀ map₀ i₀ index quiet shared count map i = n - i
 
--- the four reads of a turn are the entry's quarters
-split-of : (c : tie.After-quarter-of4 Inv-loop μ-loop)
-    → let r = c .before .before .before in
-    let h = r .before .before in
-    Split (h .before .before .args .g) (now (h .before .before .args .card)) (h .loop .i) (r .quarter-of .result)
-    (c .before .before .quarter-of2 .result) (c .before .quarter-of3 .result) (c .quarter-of4 .result)
+-- the three reads of a turn are the entry's fields
+split-of : (c : tie.After-field-of3 Inv-loop μ-loop)
+    → let l = c .before .before .before .before in
+    let a = l .before .before .before .before .args in
+    Split (a .g) (now (a .card)) (l .loop .i) (c .before .before .field-of .result) (c .before .field-of2 .result) (c .field-of3 .result)
 split-of c =
-    let r = c .before .before .before in
-    let h = r .before .before in
+    let w = c .before .before in
+    let l = w .before .before in
     record {
-      fitted = h .before .before .pre .0;
-      below = r .before .loop-test .taken;
-      bytes = λ j m. omega (arith, h .before .shared-slice-known .given j);
-      first = r .quarter-of .ensures;
-      second = c .before .before .quarter-of2 .ensures;
-      third = c .before .quarter-of3 .ensures;
-      fourth = c .quarter-of4 .ensures;
+      fitted = l .before .before .before .before .pre .0;
+      below = w .before .loop-test .taken;
+      bytes = λ j m. omega (arith, l .before .before .before .shared-slice-known .given j);
+      first = w .field-of .ensures;
+      second = c .before .field-of2 .ensures;
+      third = c .field-of3 .ensures;
     }
 
+-- an entry that check 5 allows, with its number and whether it has R
+used-of : (c : tie.Joined3 Inv-loop μ-loop)
+    → let f = c .before .before .before .before .before .before .before in
+    let l = f .before .before .before .before in
+    let a = l .before .before .before .before .args in
+    (role : Bool) × Used (a .g) (now (a .card)) (l .loop .i) (c .if3 .b) (f .field-of3 .result) role × (c .if3 .quiet ≡ l .loop .quiet && not role)
+used-of c =
+    let e = c .before .before .before in
+    let t = e .before .before .before in
+    let s = split-of (t .before) in
+    let z = t .if1 .taken in
+    let o = e .if2 .left in
+    let quiet = t .before .before .before .before .before .loop .quiet in
+    ⊎-elim
+    (λ a. (true, used-logged s z o _ _ (a .8) (a .4 .ensures) (a .6 .left), a .7 ∙ sym (and-fails quiet false refl)))
+    (⊎-elim
+    (λ a. (false, used-clean s z o _ _ (a .5) (a .1 .ensures) (a .3 .left), a .4 ∙ sym (and-true quiet)))
+    (λ a. (false, used-modified s z o _ _ (a .2) (c .before .before .wrapping-sub-u64 .ensures) (a .0 .left), a .1 ∙ sym (and-true quiet))))
+    (c .if3 .came)
+
+sub-count : tie.Need-sub-count Inv-loop μ-loop
+sub-count c = search (fitted-blocks, needs)
+
+beyond-requires : tie.Need-beyond-requires Inv-loop μ-loop
+beyond-requires c κs = search (fitted-blocks, needs)
+
 loop-holds : tie.Need-loop-holds Inv-loop μ-loop
-loop-holds c = (search (fitted-blocks, needs), search needs, search (listed-start, needs), search (marked-start, needs))
+loop-holds c = (search needs, search (pass-start, needs))
 
-quarter-of-requires : tie.Need-quarter-of-requires Inv-loop μ-loop
-quarter-of-requires c κs = search needs
+field-of-requires : tie.Need-field-of-requires Inv-loop μ-loop
+field-of-requires c κs = search needs
 
-quarter-of-requires-2 : tie.Need-quarter-of-requires-2 Inv-loop μ-loop
-quarter-of-requires-2 c κs = search needs
+field-of-requires-2 : tie.Need-field-of-requires-2 Inv-loop μ-loop
+field-of-requires-2 c κs = search needs
 
-quarter-of-requires-3 : tie.Need-quarter-of-requires-3 Inv-loop μ-loop
-quarter-of-requires-3 c κs = search needs
-
-quarter-of-requires-4 : tie.Need-quarter-of-requires-4 Inv-loop μ-loop
-quarter-of-requires-4 c κs = search needs
+field-of-requires-3 : tie.Need-field-of-requires-3 Inv-loop μ-loop
+field-of-requires-3 c κs = search needs
 
 add-i : tie.Need-add-i Inv-loop μ-loop
 add-i c = search needs
 
-mul-ids : tie.Need-mul-ids Inv-loop μ-loop
-mul-ids c = search needs
+add-if2 : tie.Need-add-if2 Inv-loop μ-loop
+add-if2 c = search needs
 
-element-write-ids : tie.Need-element-write-ids Inv-loop μ-loop
-element-write-ids c = search needs
+misfit-requires : tie.Need-misfit-requires Inv-loop μ-loop
+misfit-requires c κs = search needs
 
-mul-currents : tie.Need-mul-currents Inv-loop μ-loop
-mul-currents c = search needs
+returns : tie.Need-returns Inv-loop μ-loop
+returns c =
+    let t = c .before .before .before .before in
+    let l = t .before .before .before .before .before in
+    pass-bad _ _ _ _ _ _ _ _ (l .before .before .before .before .pre .0) (t .before .before .before .before .loop-test .taken) (l .loop .inv .1) _ _
+    (split-blocks (split-of (t .before)) (t .if1 .taken) (c .before .if2 .taken)) (c .misfit .ensures)
 
-element-write-currents : tie.Need-element-write-currents Inv-loop μ-loop
-element-write-currents c = search needs
+wrapping-sub-u64-requires : tie.Need-wrapping-sub-u64-requires Inv-loop μ-loop
+wrapping-sub-u64-requires c κs = search needs
+
+wrapping-sub-u64-requires-2 : tie.Need-wrapping-sub-u64-requires-2 Inv-loop μ-loop
+wrapping-sub-u64-requires-2 c κs = search needs
+
+wrapping-sub-u64-requires-3 : tie.Need-wrapping-sub-u64-requires-3 Inv-loop μ-loop
+wrapping-sub-u64-requires-3 c κs = search needs
+
+misfit-requires-2 : tie.Need-misfit-requires-2 Inv-loop μ-loop
+misfit-requires-2 c κs = search needs
+
+returns-2 : tie.Need-returns-2 Inv-loop μ-loop
+returns-2 c =
+    let y = c .before .before .before in
+    let x = y .before .before .before .before in
+    let e = x .before .before .before in
+    let t = e .before .before .before in
+    let l = t .before .before .before .before .before in
+    pass-bad _ _ _ _ _ _ _ _ (l .before .before .before .before .pre .0) (t .before .before .before .before .loop-test .taken) (l .loop .inv .1) _ _
+    (split-flags (split-of (t .before)) (t .if1 .taken) (e .if2 .left) _ _ _ (search needs) (search needs) (search needs)
+    (x .before .before .wrapping-sub-u64 .ensures) (y .before .before .before .wrapping-sub-u642 .ensures) (y .wrapping-sub-u643 .ensures)
+    (x .if3 .taken) (y .before .if4 .taken) (c .before .if5 .taken))
+    (c .misfit2 .ensures)
+
+narrow-requires : tie.Need-narrow-requires Inv-loop μ-loop
+narrow-requires c κs = search needs
+
+-- the block marked is one of the card's
+few-of : (c : tie.After-narrow Inv-loop μ-loop) → c .narrow .result < 128
+few-of c =
+    let j = c .before in
+    let l = j .before .before .before .before .before .before .before .before .before .before .before in
+    let u = used-of j .1 in
+    omega (arith, c .narrow .ensures, u .current, u .allowed .currentBelow, fitted-blocks _ _ (l .before .before .before .before .pre .0))
+
+with-requires : tie.Need-with-requires Inv-loop μ-loop
+with-requires c κs = few-of c
+
+add-count : tie.Need-add-count Inv-loop μ-loop
+add-count c = search needs
+
+enter-requires : tie.Need-enter-requires Inv-loop μ-loop
+enter-requires c κs =
+    let f = c .before .before .before .before .before .before .before .before .before .before in
+    let l = f .before .before .before .before in
+    (l .loop .inv .1 .chains .long, omega (arith, f .before .before .before .loop-test .taken, fitted-blocks _ _ (l .before .before .before .before .pre .0)))
 
 loop-less : tie.Need-loop-less Inv-loop μ-loop
 loop-less c = search needs
 
 loop-again : tie.Need-loop-again Inv-loop μ-loop
 loop-again c =
-    let s = split-of (c .before) in
-    let l = c .before .before .before .before .before .before .loop in
-    (search needs, search needs, listed-unused s (l .inv .2) (c .if1 .taken), marked-unused s (l .inv .3) (c .if1 .taken))
-
-good-quarters-requires : tie.Need-good-quarters-requires Inv-loop μ-loop
-good-quarters-requires c κs = (search (fitted-disk, needs), c .before .before .quarter-of3 .ensures .below)
-
-returns : tie.Need-returns Inv-loop μ-loop
-returns c = listed-bad (split-of (c .before .before .before)) _ _ (c .before .good-quarters .ensures) (c .if2 .taken) _
-
-cast-ids : tie.Need-cast-ids Inv-loop μ-loop
-cast-ids c = search needs
-
-mul-ids-2 : tie.Need-mul-ids-2 Inv-loop μ-loop
-mul-ids-2 c = search needs
-
-element-write-ids-2 : tie.Need-element-write-ids-2 Inv-loop μ-loop
-element-write-ids-2 c = search needs
-
-cast-currents : tie.Need-cast-currents Inv-loop μ-loop
-cast-currents c = search needs
-
-mul-currents-2 : tie.Need-mul-currents-2 Inv-loop μ-loop
-mul-currents-2 c = search needs
-
-element-write-currents-2 : tie.Need-element-write-currents-2 Inv-loop μ-loop
-element-write-currents-2 c = search needs
-
-narrow-requires : tie.Need-narrow-requires Inv-loop μ-loop
-narrow-requires c κs = search needs
-
--- the block marked has a mark
-few-of : (c : tie.After-narrow Inv-loop μ-loop) → c .narrow .result < 128
-few-of c =
-    let e = c .before in
-    let g = e .before in
-    omega (arith, c .narrow .ensures, current-few (split-of (g .before .before)) (g .before .if1 .left) (g .good-quarters .ensures) (e .if2 .left))
-
-array-read-again : tie.Need-array-read-again Inv-loop μ-loop
-array-read-again c = search (few-of c, needs)
-
-array-write-marks : tie.Need-array-write-marks Inv-loop μ-loop
-array-write-marks c = search (few-of c, needs)
+    let w = c .before .before in
+    let n = w .before in
+    let j = n .before in
+    let f = j .before .before .before .before .before .before .before in
+    let l = f .before .before .before .before in
+    let (role, u, q) = used-of j in (
+      search needs,
+      pass-used _ _ _ _ _ _ _ _ (l .before .before .before .before .pre .0) (f .before .before .before .loop-test .taken) (l .loop .inv .1) _ _ _ _ role _ _ u
+          (n .narrow .ensures) (w .with .ensures) (c .enter .ensures) _ q,
+    )
 
 loop-less-2 : tie.Need-loop-less-2 Inv-loop μ-loop
 loop-less-2 c = search needs
 
 loop-again-2 : tie.Need-loop-again-2 Inv-loop μ-loop
 loop-again-2 c =
-    let e = c .before in
-    let g = e .before in
-    let w = g .before .before in
-    let s = split-of w in
-    let l = w .before .before .before .before .before .loop in
-    let z = g .before .if1 .left in (
+    let l = c .before .before .before .before .before in (
       search needs,
-      search needs,
-      listed-used s (l .inv .2) z (g .good-quarters .ensures) (e .if2 .left),
-      marked-used s z (g .good-quarters .ensures) (e .if2 .left) _ (l .inv .3) (c .narrow .ensures),
+      pass-unused _ _ _ _ _ _ _ _ (l .before .before .before .before .pre .0) (c .before .before .before .before .loop-test .taken) (l .loop .inv .1)
+          (split-blank (split-of (c .before)) (c .if1 .left)),
     )
 
-returns-2 : tie.Need-returns-2 Inv-loop μ-loop
-returns-2 c = search (listed-end, needs)
+returns-3 : tie.Need-returns-3 Inv-loop μ-loop
+returns-3 c = search (pass-end, needs)
 
 pub decode-spec : {M : Type 1} → statement M
 decode-spec =
-    tie.close
-    (tie.spec
-    Inv-loop
-    μ-loop
-    loop-holds
-    quarter-of-requires
-    quarter-of-requires-2
-    quarter-of-requires-3
-    quarter-of-requires-4
-    add-i
-    mul-ids
-    element-write-ids
-    mul-currents
-    element-write-currents
-    loop-less
-    loop-again
-    good-quarters-requires
-    returns
-    cast-ids
-    mul-ids-2
-    element-write-ids-2
-    cast-currents
-    mul-currents-2
-    element-write-currents-2
-    narrow-requires
-    array-read-again
-    array-write-marks
-    loop-less-2
-    loop-again-2
-    returns-2)
+    tie.close (tie.spec Inv-loop μ-loop sub-count beyond-requires loop-holds field-of-requires field-of-requires-2 field-of-requires-3 add-i add-if2
+    misfit-requires returns wrapping-sub-u64-requires wrapping-sub-u64-requires-2 wrapping-sub-u64-requires-3 misfit-requires-2 returns-2
+    narrow-requires with-requires add-count enter-requires loop-less loop-again loop-less-2 loop-again-2 returns-3)

@@ -1,83 +1,96 @@
--- `numbers_apart` answers whether the keys are distinct. The invariant: the keys passed are, and they stand in their chains.
+-- `numbers_apart` answers whether the numbers are distinct. The invariant: those of the entries passed are.
 use Prim.Native.Nat.{_≤_, _-_}
-use mathlib.Core.Path.{refl}
-use Rattle.checks.specs.Keys.{keyAt}
-use Rattle.checks.proofs.Chain.{Chains, chains-start, chain-of, chains-clash, chains-skip, chains-more, chains-end}
+use mathlib.Core.Bool.{true}
+use mathlib.Core.Path.{_≡_, refl, sym}
+use denote.Ref.{now}
+use native.Mathlib.Omega.{arith}
+use Rattle.protocol.specs.Below.{allBelow}
+use Rattle.protocol.proofs.Below.{all-more, all-done}
+use Rattle.ring.proofs.Laws.{fitted-blocks}
+use Rattle.checks.specs.Keys.{NONE, numberKey, lone, distinct}
+use Rattle.checks.proofs.Chain.{linked-key, linked-end, linked-lone, linked-clash, unlinked-lone}
+use Rattle.checks.proofs.Fields.{low-number}
 use borrow.Author.Needs.{needs}
 use Rattle.checks.proofs.numbers_apart.Statement.{statement}
 use Rattle.checks.proofs.numbers_apart.Tie as tie
 
 abbrev Inv-loop : tie.InvT-loop
-Inv-loop keys n heads₀ links₀ i₀ heads links i = (i ≤ n) × Chains (keyAt keys) heads links i
+Inv-loop g card index n i₀ i = (n ≤ 128) × (i ≤ n) × (allBelow (lone (numberKey g card) NONE) i ≡ true)
 
 abbrev μ-loop : tie.MeasureT-loop
-μ-loop keys n heads₀ links₀ i₀ heads links i = n - i
+μ-loop g card index n i₀ i = n - i
 
 loop-holds : tie.Need-loop-holds Inv-loop μ-loop
-loop-holds c = search (chains-start, needs)
+unfolding allBelow
+loop-holds c = (search (fitted-blocks, needs), search needs, search needs)
 
-mul-k : tie.Need-mul-k Inv-loop μ-loop
-mul-k c = search needs
+add-from : tie.Need-add-from Inv-loop μ-loop
+add-from c = search needs
 
-element-copy-out-k : tie.Need-element-copy-out-k Inv-loop μ-loop
-element-copy-out-k c = search needs
+element-copy-out-from : tie.Need-element-copy-out-from Inv-loop μ-loop
+element-copy-out-from c = search needs
 
 add-i : tie.Need-add-i Inv-loop μ-loop
 add-i c = search needs
 
-cast-r : tie.Need-cast-r Inv-loop μ-loop
-cast-r c = search needs
+-- the number of an entry with a link is its key
+key-of : (c : tie.After-field-of Inv-loop μ-loop)
+    → let l = c .before .before .before .before in
+    let a = l .before .before .args in
+    c .field-of .result ≡ numberKey (a .g) (now (a .card)) (l .loop .i)
+key-of c =
+    let n = c .before .before .before in
+    let s = n .before .before .before in
+    low-number _ _ _ _ (s .pre .0) (s .pre .1) (λ j m. omega (arith, n .before .before .shared-slice-known .given j)) (n .loop-test .taken)
+    (linked-key _ _ _ _ _ (s .pre .2) (n .loop-test .taken) refl (c .before .if1 .taken)) (c .field-of .ensures)
 
-array-read-from : tie.Need-array-read-from Inv-loop μ-loop
-array-read-from c = search needs
+field-of-requires : tie.Need-field-of-requires Inv-loop μ-loop
+field-of-requires c κs = search needs
 
-chained-requires : tie.Need-chained-requires Inv-loop μ-loop
-unfolding keyAt
-chained-requires c κs =
-    let l = c .before .before .before .before in
-    chain-of _ _ _ _ (l .loop .inv .1) _ _ _ (c .before .before .before .loop-test .taken) (l .before .pre) (c .before .if1 .taken) refl
+chase-requires : tie.Need-chase-requires Inv-loop μ-loop
+chase-requires c κs =
+    let n = c .before .before .before in
+    let s = n .before .before .before in
+    let h = linked-end _ _ _ _ _ (s .pre .2) (n .loop-test .taken) refl (c .before .if1 .taken) _ (key-of c) in
+    (s .pre .0, s .pre .1, record { chains = s .pre .2; key = h .0; within = h .1; end = h .2 })
 
 returns : tie.Need-returns Inv-loop μ-loop
-unfolding keyAt
 returns c =
-    let k = c .before .before .before in
-    let l = k .before .before .before in
-    chains-clash _ _ _ _ (l .loop .inv .1) _ _ _ _ (k .before .before .loop-test .taken) refl (k .if1 .taken) refl
-    (c .before .chained .ensures) (c .if2 .taken)
-
-array-write-links : tie.Need-array-write-links Inv-loop μ-loop
-array-write-links c = search needs
-
-cast-heads : tie.Need-cast-heads Inv-loop μ-loop
-cast-heads c = search needs
-
-array-write-heads : tie.Need-array-write-heads Inv-loop μ-loop
-array-write-heads c = search needs
+    let f = c .before .before in
+    let n = f .before .before .before in
+    linked-clash _ _ _ _ _ (n .before .before .before .pre .2) (n .loop-test .taken) refl (f .before .if1 .taken) _ _ (key-of f) (c .before .chase .ensures)
+    (c .if2 .taken)
 
 loop-less : tie.Need-loop-less Inv-loop μ-loop
 loop-less c = search needs
 
 loop-again : tie.Need-loop-again Inv-loop μ-loop
-unfolding keyAt
 loop-again c =
-    let k = c .before .before .before in
-    let l = k .before .before .before in (
+    let f = c .before .before in
+    let n = f .before .before .before in (
       search needs,
-      chains-more _ _ _ _ (l .loop .inv .1) _ _ _ _ (k .before .before .loop-test .taken) (l .before .pre) refl (k .if1 .taken) refl
-          (c .before .chained .ensures) (c .if2 .left),
+      search needs,
+      all-more _ _ (n .before .loop .inv .2)
+          (linked-lone _ _ _ _ _ (n .before .before .before .pre .2) (n .loop-test .taken) refl (f .before .if1 .taken) _ _ (key-of f)
+          (c .before .chase .ensures) (c .if2 .left)),
     )
 
 loop-less-2 : tie.Need-loop-less-2 Inv-loop μ-loop
 loop-less-2 c = search needs
 
 loop-again-2 : tie.Need-loop-again-2 Inv-loop μ-loop
-unfolding keyAt
-loop-again-2 c = (search needs, search (chains-skip, needs))
+loop-again-2 c =
+    let n = c .before .before in (
+      search needs,
+      search needs,
+      all-more _ _ (n .before .loop .inv .2) (unlinked-lone _ _ _ _ _ (n .before .before .before .pre .2) (n .loop-test .taken) refl (c .if1 .left)),
+    )
 
 returns-2 : tie.Need-returns-2 Inv-loop μ-loop
-returns-2 c = search (chains-end, needs)
+unfolding distinct
+returns-2 c = sym (search (all-done, needs))
 
 pub numbers-apart-spec : {M : Type 1} → statement M
 numbers-apart-spec =
-    tie.close (tie.spec Inv-loop μ-loop loop-holds mul-k element-copy-out-k add-i cast-r array-read-from chained-requires returns
-    array-write-links cast-heads array-write-heads loop-less loop-again loop-less-2 loop-again-2 returns-2)
+    tie.close (tie.spec Inv-loop μ-loop loop-holds add-from element-copy-out-from add-i field-of-requires chase-requires returns loop-less loop-again
+    loop-less-2 loop-again-2 returns-2)

@@ -1,4 +1,4 @@
--- `put_entry` writes the entry's bytes: three patches side by side and the byte before them.
+-- `put_entry` writes the entry's bytes: three patches side by side, and a byte over the first.
 use native.Mathlib.Omega.{arith}
 use lib.ListN.{length-set}
 use borrow.Author.Needs.{needs}
@@ -6,14 +6,11 @@ use Rattle.codec.proofs.Laws.{put-fields}
 use Rattle.codec.proofs.put_entry.Statement.{statement}
 use Rattle.codec.proofs.put_entry.Tie as tie
 
-add-put : tie.Need-add-put
-add-put c = search needs
-
 put-requires : tie.Need-put-requires
 put-requires c κs = search needs
 
-add-put-2 : tie.Need-add-put-2
-add-put-2 c = search needs
+add-put : tie.Need-add-put
+add-put c = search needs
 
 cast-put : tie.Need-cast-put
 cast-put c = search needs
@@ -21,8 +18,8 @@ cast-put c = search needs
 put-requires-2 : tie.Need-put-requires-2
 put-requires-2 c κs = search needs
 
-add-put-3 : tie.Need-add-put-3
-add-put-3 c = search needs
+add-put-2 : tie.Need-add-put-2
+add-put-2 c = search needs
 
 cast-put-2 : tie.Need-cast-put-2
 cast-put-2 c = search needs
@@ -44,4 +41,4 @@ returns c =
     put-fields _ _ _ _ _ _ p1 p2 p3
 
 pub put-entry-spec : {M : Type 1} → statement M
-put-entry-spec = tie.close (tie.spec add-put put-requires add-put-2 cast-put put-requires-2 add-put-3 cast-put-2 put-requires-3 slice-write-s same-length returns)
+put-entry-spec = tie.close (tie.spec put-requires add-put cast-put put-requires-2 add-put-2 cast-put-2 put-requires-3 slice-write-s same-length returns)

@@ -1,5 +1,5 @@
 -- `commit` answers as its definition does, hands on the map and leaves the card so: refused with nothing changed, or planned and made.
-use Rattle.commit.proofs.Whole.{commit-refused, commit-long, commit-fitted, commit-good, commit-few, commit-plans, commit-ready, commit-made}
+use Rattle.commit.proofs.Whole.{commit-refused, commit-fitted, commit-few, commit-plans, commit-ready, commit-made}
 use borrow.Author.Needs.{needs}
 use Rattle.commit.proofs.commit.Statement.{statement}
 use Rattle.commit.proofs.commit.Tie as tie
@@ -16,41 +16,27 @@ same-length c = search needs
 returns : tie.Need-returns
 returns c = search (commit-refused, needs)
 
-geometry-of-requires : tie.Need-geometry-of-requires
-geometry-of-requires c κs = search (commit-long, needs)
-
-head-of-requires : tie.Need-head-of-requires
-head-of-requires c κs = search (commit-long, needs)
-
 plan-of-requires : tie.Need-plan-of-requires
 plan-of-requires c κs =
-    let g = c .before .before .before .before .before in
-    let e = g .before .before in
+    let e = c .before .before .before .before .before .before in
     let a = e .before .before in
-    let x = a .before .before .before .before .before .before .before .args in
-    commit-plans _ _ _ (x .«data» .now) _ _ _ (a .admit .ensures) (e .if1 .left) _ (g .geometry-of .ensures)
+    (commit-plans _ _ _ (a .before .before .before .before .before .before .args .«data» .now) _ _ (a .admit .ensures) (e .if1 .left), search needs, search needs, search needs)
 
 make-plan-requires : tie.Need-make-plan-requires
 make-plan-requires c κs =
-    let p = c .before in
-    let h = p .before .before .before .before in
-    let g = h .before .before in
-    let e = g .before .before in
+    let p = c .before .before .before .before in
+    let e = p .before .before .before .before .before .before .before in
     let a = e .before .before in
-    let x = a .before .before .before .before .before .before .before .args in
-    let q = g .geometry-of .ensures in (
-      commit-fitted _ _ _ (x .«data» .now) _ _ _ (a .admit .ensures) (e .if1 .left) _ q,
-      commit-ready _ _ _ (x .«data» .now) _ _ _ (a .admit .ensures) (e .if1 .left) _ _ _ q (h .head-of .ensures) (p .plan-of .ensures),
-    )
+    let x = a .before .before .before .before .before .before .args in
+    (commit-fitted _ _ _ (x .«data» .now) _ _ (a .admit .ensures) (e .if1 .left), commit-ready _ _ _ (x .«data» .now) _ _ (a .admit .ensures) (e .if1 .left) _ _ _ _ (p .plan-of .ensures))
 
 count-of-requires : tie.Need-count-of-requires
 count-of-requires c κs =
-    let g = c .before .before .before .before .before .before .before .before .before .before in
-    let e = g .before .before in
+    let p = c .before .before .before .before .before .before .before in
+    let e = p .before .before .before .before .before .before .before in
     let a = e .before .before in
-    let x = a .before .before .before .before .before .before .before .args in
-    let q = g .geometry-of .ensures in
-    (commit-good _ _ _ (x .«data» .now) _ _ _ (a .admit .ensures) (e .if1 .left) _ q, commit-few _ _ _ (x .«data» .now) _ _ _ (a .admit .ensures) (e .if1 .left) _ q)
+    let x = a .before .before .before .before .before .before .args in
+    (commit-fitted _ _ _ (x .«data» .now) _ _ (a .admit .ensures) (e .if1 .left) .good, commit-few _ _ _ (x .«data» .now) _ _ (a .admit .ensures) (e .if1 .left))
 
 answer-requires : tie.Need-answer-requires
 answer-requires c κs = search needs
@@ -65,29 +51,14 @@ returns-2 : tie.Need-returns-2
 returns-2 c =
     let n = c .before .before in
     let w = n .before .before .before in
-    let p = w .before .before in
-    let h = p .before .before .before .before in
-    let g = h .before .before in
-    let e = g .before .before in
+    let p = w .before .before .before .before .before in
+    let e = p .before .before .before .before .before .before .before in
     let a = e .before .before in
-    let x = a .before .before .before .before .before .before .before .args in
-    commit-made _ _ _ (x .«data» .now) _ _ _ (a .admit .ensures) (e .if1 .left) _ _ _ _ _ _ _ _ _ (g .geometry-of .ensures)
-    (h .head-of .ensures) (p .plan-of .ensures) (w .make-plan .ensures) (n .count-of .ensures) (c .before .answer .ensures) (c .hand-on2 .ensures)
+    let x = a .before .before .before .before .before .before .args in
+    commit-made _ _ _ (x .«data» .now) _ _ (a .admit .ensures) (e .if1 .left) _ _ _ _ (p .plan-of .ensures) _ _ _ _ _ _ (w .make-plan .ensures)
+    (n .count-of .ensures) (c .before .answer .ensures) (c .hand-on2 .ensures)
 
 pub commit-spec : {M : Type 1} → statement M
 commit-spec =
-    tie.close
-    (tie.spec
-    admit-requires
-    hand-on-requires
-    same-length
-    returns
-    geometry-of-requires
-    head-of-requires
-    plan-of-requires
-    make-plan-requires
-    count-of-requires
-    answer-requires
-    hand-on-requires-2
-    same-length-2
-    returns-2)
+    tie.close (tie.spec admit-requires hand-on-requires same-length returns plan-of-requires make-plan-requires count-of-requires answer-requires
+    hand-on-requires-2 same-length-2 returns-2)

@@ -1,22 +1,24 @@
 -- `make_blocks` makes the stores of every block. The invariant: those of the blocks passed are made.
 use Prim.Native.Nat.{_≤_, _-_}
-use mathlib.Core.Path.{_≡_}
+use mathlib.Core.Path.{_≡_, ap}
 use lib.ListN.{length}
+use Rattle.protocol.specs.declared.Entry.{Entry}
 use Rattle.protocol.specs.Below.{eachBelow}
 use Rattle.protocol.specs.Store.{Medium, flat}
 use Rattle.stores.specs.Did.{Did}
 use Rattle.stores.proofs.Laws.{did-start}
-use Rattle.commit.specs.Making.{plannedBlock}
+use Rattle.commit.specs.Making.{planBy, plannedBlock}
 use Rattle.commit.proofs.Loops.{entry-on, block-on, data-on, block-turn, each-all}
 use borrow.Author.Needs.{needs}
 use Rattle.commit.proofs.make_blocks.Statement.{statement}
 use Rattle.commit.proofs.make_blocks.Tie as tie
 
 abbrev Inv-loop : tie.InvT-loop
-Inv-loop g card₀ numbers «data» head left p a₀ i₀ card a i = (i ≤ length numbers) × (length card ≡ length card₀) × Did Medium.card (flat (eachBelow (plannedBlock g p head numbers «data») i)) left card₀ card a
+Inv-loop g card₀ entries previous blocks numbers «data» head left a₀ i₀ card a i =
+    (i ≤ length numbers) × (length card ≡ length card₀) × Did Medium.card (flat (eachBelow (plannedBlock g (planBy entries previous blocks) head numbers «data») i)) left card₀ card a
 
 abbrev μ-loop : tie.MeasureT-loop
-μ-loop g card₀ numbers «data» head left p a₀ i₀ card a i = length numbers - i
+μ-loop g card₀ entries previous blocks numbers «data» head left a₀ i₀ card a i = length numbers - i
 
 loop-holds : tie.Need-loop-holds Inv-loop μ-loop
 loop-holds c = search (did-start, needs)
@@ -27,9 +29,6 @@ mul-log-entry c = search needs
 shared-slice-read-log-entry : tie.Need-shared-slice-read-log-entry Inv-loop μ-loop
 shared-slice-read-log-entry c = search needs
 
-mul-log-entry-2 : tie.Need-mul-log-entry-2 Inv-loop μ-loop
-mul-log-entry-2 c = search needs
-
 element-copy-out-log-entry : tie.Need-element-copy-out-log-entry Inv-loop μ-loop
 element-copy-out-log-entry c = search needs
 
@@ -37,7 +36,9 @@ element-copy-out-log-entry-2 : tie.Need-element-copy-out-log-entry-2 Inv-loop μ
 element-copy-out-log-entry-2 c = search needs
 
 log-entry-requires : tie.Need-log-entry-requires Inv-loop μ-loop
-log-entry-requires c κs = search needs
+log-entry-requires c κs =
+    let n = c .before .before .before in
+    n .before .before .before .before .before .pre .1 .named .low _ (n .loop-test .taken)
 
 element-copy-out-wide : tie.Need-element-copy-out-wide Inv-loop μ-loop
 element-copy-out-wide c = search needs
@@ -46,7 +47,20 @@ wide-requires : tie.Need-wide-requires Inv-loop μ-loop
 wide-requires c κs = search needs
 
 make-block-requires : tie.Need-make-block-requires Inv-loop μ-loop
-make-block-requires c κs = (record { good = search needs; long = search needs }, search (entry-on, needs), search (block-on, needs), search (data-on, needs), search needs, search needs)
+make-block-requires c κs =
+    let placed = c .before in
+    let logged = placed .before .before in
+    let n = logged .before .before .before .before in
+    let r = n .before .before .before .before .before .pre .1 in (
+      record { good = search needs; long = search needs },
+      entry-on _ _ _ _ (r .named) (n .loop-test .taken) _ (placed .wide .ensures),
+      block-on _ _ _ _ (r .named) (n .loop-test .taken) _ _ _ (logged .log-entry .ensures),
+      data-on _ _ _ _ _ _ r (n .loop-test .taken),
+      r .head,
+      search (r .count, needs),
+      n .loop-test .taken,
+      ap (λ (x : Entry). x .number) (logged .log-entry .ensures),
+    )
 
 add-i : tie.Need-add-i Inv-loop μ-loop
 add-i c = search needs
@@ -57,8 +71,8 @@ loop-less c = search needs
 loop-again : tie.Need-loop-again Inv-loop μ-loop
 loop-again c =
     let made = c .before .before in
-    let placed = made .before in
-    let logged = placed .before .before .before in
+    let placed = made .before .before in
+    let logged = placed .before .before in
     let head = logged .before .before .before .before .before in (
       search needs,
       search needs,
@@ -73,22 +87,5 @@ returns c = search (each-all, needs)
 
 pub make-blocks-spec : {M : Type 1} → statement M
 make-blocks-spec =
-    tie.close
-    (tie.spec
-    Inv-loop
-    μ-loop
-    loop-holds
-    mul-log-entry
-    shared-slice-read-log-entry
-    mul-log-entry-2
-    element-copy-out-log-entry
-    element-copy-out-log-entry-2
-    log-entry-requires
-    element-copy-out-wide
-    wide-requires
-    make-block-requires
-    add-i
-    loop-less
-    loop-again
-    same-length
-    returns)
+    tie.close (tie.spec Inv-loop μ-loop loop-holds mul-log-entry shared-slice-read-log-entry element-copy-out-log-entry element-copy-out-log-entry-2
+    log-entry-requires element-copy-out-wide wide-requires make-block-requires add-i loop-less loop-again same-length returns)

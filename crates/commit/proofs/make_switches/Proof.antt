@@ -6,17 +6,18 @@ use Rattle.protocol.specs.Below.{eachBelow}
 use Rattle.protocol.specs.Store.{Medium, flat}
 use Rattle.stores.specs.Did.{Did}
 use Rattle.stores.proofs.Laws.{did-start}
-use Rattle.commit.specs.Making.{plannedSwitch}
+use Rattle.commit.specs.Making.{planBy, plannedSwitch}
 use Rattle.commit.proofs.Loops.{entry-on, switch-turn, each-all}
 use borrow.Author.Needs.{needs}
 use Rattle.commit.proofs.make_switches.Statement.{statement}
 use Rattle.commit.proofs.make_switches.Tie as tie
 
 abbrev Inv-loop : tie.InvT-loop
-Inv-loop g card₀ numbers left p a₀ i₀ card a i = (i ≤ length numbers) × (length card ≡ length card₀) × Did Medium.card (flat (eachBelow (plannedSwitch g p numbers) i)) left card₀ card a
+Inv-loop g card₀ entries previous blocks numbers left a₀ i₀ card a i =
+    (i ≤ length numbers) × (length card ≡ length card₀) × Did Medium.card (flat (eachBelow (plannedSwitch g (planBy entries previous blocks) numbers) i)) left card₀ card a
 
 abbrev μ-loop : tie.MeasureT-loop
-μ-loop g card₀ numbers left p a₀ i₀ card a i = length numbers - i
+μ-loop g card₀ entries previous blocks numbers left a₀ i₀ card a i = length numbers - i
 
 loop-holds : tie.Need-loop-holds Inv-loop μ-loop
 loop-holds c = search (did-start, needs)
@@ -27,9 +28,6 @@ mul-log-entry c = search needs
 shared-slice-read-log-entry : tie.Need-shared-slice-read-log-entry Inv-loop μ-loop
 shared-slice-read-log-entry c = search needs
 
-mul-log-entry-2 : tie.Need-mul-log-entry-2 Inv-loop μ-loop
-mul-log-entry-2 c = search needs
-
 element-copy-out-log-entry : tie.Need-element-copy-out-log-entry Inv-loop μ-loop
 element-copy-out-log-entry c = search needs
 
@@ -37,7 +35,9 @@ element-copy-out-log-entry-2 : tie.Need-element-copy-out-log-entry-2 Inv-loop μ
 element-copy-out-log-entry-2 c = search needs
 
 log-entry-requires : tie.Need-log-entry-requires Inv-loop μ-loop
-log-entry-requires c κs = search needs
+log-entry-requires c κs =
+    let n = c .before .before .before in
+    n .before .before .before .before .pre .1 .low _ (n .loop-test .taken)
 
 switch-role-requires : tie.Need-switch-role-requires Inv-loop μ-loop
 switch-role-requires c κs = search needs
@@ -49,7 +49,11 @@ wide-requires : tie.Need-wide-requires Inv-loop μ-loop
 wide-requires c κs = search needs
 
 make-entry-at-requires : tie.Need-make-entry-at-requires Inv-loop μ-loop
-make-entry-at-requires c κs = search (entry-on, needs)
+make-entry-at-requires c κs =
+    let placed = c .before in
+    let n = placed .before .before .before .before .before .before .before in
+    let s = n .before .before .before .before in
+    (search needs, search needs, entry-on _ _ _ _ (s .pre .1) (n .loop-test .taken) _ (placed .wide .ensures))
 
 add-i : tie.Need-add-i Inv-loop μ-loop
 add-i c = search needs
@@ -60,8 +64,8 @@ loop-less c = search needs
 loop-again : tie.Need-loop-again Inv-loop μ-loop
 loop-again c =
     let made = c .before .before in
-    let placed = made .before in
-    let switch = placed .before .before .before in
+    let placed = made .before .before in
+    let switch = placed .before .before in
     let logged = switch .before in
     let head = logged .before .before .before .before .before in (
       search needs,
@@ -78,23 +82,5 @@ returns c = search (each-all, needs)
 
 pub make-switches-spec : {M : Type 1} → statement M
 make-switches-spec =
-    tie.close
-    (tie.spec
-    Inv-loop
-    μ-loop
-    loop-holds
-    mul-log-entry
-    shared-slice-read-log-entry
-    mul-log-entry-2
-    element-copy-out-log-entry
-    element-copy-out-log-entry-2
-    log-entry-requires
-    switch-role-requires
-    element-copy-out-wide
-    wide-requires
-    make-entry-at-requires
-    add-i
-    loop-less
-    loop-again
-    same-length
-    returns)
+    tie.close (tie.spec Inv-loop μ-loop loop-holds mul-log-entry shared-slice-read-log-entry element-copy-out-log-entry element-copy-out-log-entry-2
+    log-entry-requires switch-role-requires element-copy-out-wide wide-requires make-entry-at-requires add-i loop-less loop-again same-length returns)

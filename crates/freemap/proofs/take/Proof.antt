@@ -20,8 +20,8 @@ next-free-requires c κs = search needs
 cast-blocks : tie.Need-cast-blocks Inv-loop μ-loop
 cast-blocks c = search needs
 
-array-write-blocks : tie.Need-array-write-blocks Inv-loop μ-loop
-array-write-blocks c = search needs
+element-write-blocks : tie.Need-element-write-blocks Inv-loop μ-loop
+element-write-blocks c = search needs
 
 with-requires : tie.Need-with-requires Inv-loop μ-loop
 with-requires c κs = search (take-below, needs)
@@ -40,16 +40,5 @@ returns c = search (take-end, needs)
 
 pub take-spec : {M : Type 1} → statement M
 take-spec =
-    tie.close
-    (tie.spec
-    Inv-loop
-    μ-loop
-    loop-holds
-    next-free-requires
-    cast-blocks
-    array-write-blocks
-    with-requires
-    add-i
-    loop-less
-    loop-again
+    tie.close (tie.spec Inv-loop μ-loop loop-holds next-free-requires cast-blocks element-write-blocks with-requires add-i loop-less loop-again
     returns)

@@ -1,23 +1,19 @@
--- `homes_of` names each block's entry and previous data block. The invariant: so it does for the numbers passed.
+-- `homes_of` fills in the entries and the previous blocks. The invariant: those of the numbers passed are filled in.
 use Prim.Native.Nat.{_≤_, _-_}
 use lib.ListN.{length}
-use Rattle.ring.proofs.Laws.{fitted-blocks}
-use Rattle.plan.proofs.Housing.{number-key, Filled, filled-start, filled-room, filled-turn, filled-end}
+use Rattle.plan.proofs.Housing.{Filled, filled-start, filled-room, filled-turn, filled-end, number-key}
 use borrow.Author.Needs.{needs}
 use Rattle.plan.proofs.homes_of.Statement.{statement}
 use Rattle.plan.proofs.homes_of.Tie as tie
 
 abbrev Inv-loop : tie.InvT-loop
-Inv-loop g card ids currents numbers unused entries₀ previous₀ misses₀ i₀ entries previous misses i = (i ≤ length numbers) × Filled g card numbers i entries previous misses
+Inv-loop g card index start numbers entries₀ previous₀ walked₀ i₀ entries previous walked i = (i ≤ length numbers) × Filled g card numbers i entries previous walked
 
 abbrev μ-loop : tie.MeasureT-loop
-μ-loop g card ids currents numbers unused entries₀ previous₀ misses₀ i₀ entries previous misses i = length numbers - i
-
-unused-entries-requires : tie.Need-unused-entries-requires Inv-loop μ-loop
-unused-entries-requires c κs = search needs
+μ-loop g card index start numbers entries₀ previous₀ walked₀ i₀ entries previous walked i = length numbers - i
 
 loop-holds : tie.Need-loop-holds Inv-loop μ-loop
-loop-holds c = search (filled-start, needs)
+loop-holds c = (search needs, search (filled-start, needs))
 
 mul-home-of : tie.Need-mul-home-of Inv-loop μ-loop
 mul-home-of c = search needs
@@ -26,16 +22,18 @@ shared-slice-read-home-of : tie.Need-shared-slice-read-home-of Inv-loop μ-loop
 shared-slice-read-home-of c = search needs
 
 home-of-requires : tie.Need-home-of-requires Inv-loop μ-loop
-home-of-requires c κs = search (fitted-blocks, number-key, filled-room, needs)
+home-of-requires c κs =
+    let n = c .before in
+    let l = n .before in
+    let s = l .before .before .before in
+    let f = l .loop .inv .1 in
+    (s .pre .0, number-key _ _ _ _ _ (s .pre .0) (s .pre .3) (n .loop-test .taken), s .pre .1, s .pre .2, f .most, filled-room _ _ _ _ _ _ _ f (n .loop-test .taken) (s .pre .4))
 
-array-write-entries : tie.Need-array-write-entries Inv-loop μ-loop
-array-write-entries c = search needs
+element-write-entries : tie.Need-element-write-entries Inv-loop μ-loop
+element-write-entries c = let l = c .before .before .before in search (l .loop .inv .1 .long .0, l .before .before .before .pre .5, needs)
 
-mul-previous : tie.Need-mul-previous Inv-loop μ-loop
-mul-previous c = search needs
-
-array-write-previous : tie.Need-array-write-previous Inv-loop μ-loop
-array-write-previous c = search needs
+element-write-previous : tie.Need-element-write-previous Inv-loop μ-loop
+element-write-previous c = let l = c .before .before .before in search (l .loop .inv .1 .long .1, l .before .before .before .pre .5, needs)
 
 add-i : tie.Need-add-i Inv-loop μ-loop
 add-i c = search needs
@@ -44,26 +42,15 @@ loop-less : tie.Need-loop-less Inv-loop μ-loop
 loop-less c = search needs
 
 loop-again : tie.Need-loop-again Inv-loop μ-loop
-loop-again c = (search needs, search (filled-turn, needs))
+loop-again c =
+    let n = c .before .before in
+    let l = n .before in
+    (search needs, filled-turn _ _ _ _ _ _ _ (l .loop .inv .1) _ (n .loop-test .taken) (l .before .before .before .pre .5) (c .home-of .ensures))
 
 returns : tie.Need-returns Inv-loop μ-loop
 returns c = search (filled-end, needs)
 
 pub homes-of-spec : {M : Type 1} → statement M
 homes-of-spec =
-    tie.close
-    (tie.spec
-    Inv-loop
-    μ-loop
-    unused-entries-requires
-    loop-holds
-    mul-home-of
-    shared-slice-read-home-of
-    home-of-requires
-    array-write-entries
-    mul-previous
-    array-write-previous
-    add-i
-    loop-less
-    loop-again
-    returns)
+    tie.close (tie.spec Inv-loop μ-loop loop-holds mul-home-of shared-slice-read-home-of home-of-requires element-write-entries
+    element-write-previous add-i loop-less loop-again returns)

@@ -10,29 +10,15 @@ request-refusal-requires c κs = search needs
 returns : tie.Need-returns
 returns c = own-request _ _ _ _ _ (c .before .request-refusal .ensures) (c .if1 .taken)
 
-free-count-requires : tie.Need-free-count-requires
-free-count-requires c κs = search needs
-
 returns-2 : tie.Need-returns-2
 returns-2 c =
-    let f = c .before in
-    let e = f .before in
-    let q = e .before in
-    own-full _ _ _ _ _ (q .request-refusal .ensures) (e .if1 .left) (q .before .before .pre) _ (f .free-count .ensures) (c .if2 .taken)
+    let q = c .before .before in
+    own-full _ _ _ _ _ (q .request-refusal .ensures) (c .before .if1 .left) (q .before .before .pre) (c .if2 .taken)
 
 returns-3 : tie.Need-returns-3
 returns-3 c =
-    let f = c .before in
-    let e = f .before in
-    let q = e .before in
-    own-passed _ _ _ _ _ (q .request-refusal .ensures) (e .if1 .left) (q .before .before .pre) _ (f .free-count .ensures) (c .if2 .left)
+    let q = c .before .before in
+    own-passed _ _ _ _ _ (q .request-refusal .ensures) (c .before .if1 .left) (q .before .before .pre) (c .if2 .left)
 
 pub save-refusal-spec : {M : Type 1} → statement M
-save-refusal-spec =
-    tie.close
-    (tie.spec
-    request-refusal-requires
-    returns
-    free-count-requires
-    returns-2
-    returns-3)
+save-refusal-spec = tie.close (tie.spec request-refusal-requires returns returns-2 returns-3)

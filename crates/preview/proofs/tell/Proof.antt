@@ -46,17 +46,5 @@ returns c = search (tell-end, needs)
 
 pub tell-spec : {M : Type 1} → statement M
 tell-spec =
-    tie.close
-    (tie.spec
-    Inv-loop
-    μ-loop
-    loop-holds
-    element-copy-out-wide
-    wide-requires
-    mul-blocks
-    slice-write-blocks
-    add-i
-    loop-less
-    loop-again
-    same-length
-    returns)
+    tie.close (tie.spec Inv-loop μ-loop loop-holds element-copy-out-wide wide-requires mul-blocks slice-write-blocks add-i loop-less loop-again
+    same-length returns)

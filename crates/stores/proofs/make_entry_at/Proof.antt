@@ -1,6 +1,6 @@
 -- `make_entry_at` makes the entry at its place, which lies on the card.
 use borrow.Author.Needs.{needs}
-use Rattle.stores.proofs.Laws.{entry-fits, entry-did}
+use Rattle.stores.proofs.Laws.{entry-fits, entry-did, entry-aligned}
 use Rattle.stores.proofs.make_entry_at.Statement.{statement}
 use Rattle.stores.proofs.make_entry_at.Tie as tie
 
@@ -8,7 +8,7 @@ entry-place-requires : tie.Need-entry-place-requires
 entry-place-requires c κs = search needs
 
 make-entry-requires : tie.Need-make-entry-requires
-make-entry-requires c κs = search (entry-fits, needs)
+make-entry-requires c κs = search (entry-fits, entry-aligned, needs)
 
 same-length : tie.Need-same-length
 same-length c = search needs

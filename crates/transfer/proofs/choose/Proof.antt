@@ -1,67 +1,77 @@
--- `choose` answers load's own refusals, or the first free data block and the first unused entry: one law for each answer.
+-- `choose` answers 12 or 14, or the places that the searches find: one law for each answer.
 use borrow.Author.Needs.{needs}
-use Rattle.transfer.proofs.Found.{number-fits, few-keys, chosen-cached, chosen-full, choose-ready, chosen-room}
+use Rattle.ring.proofs.Laws.{fitted-blocks}
+use Rattle.transfer.proofs.Found.{number-key, chosen-cached, chosen-full, choose-ready, chosen-room}
 use Rattle.transfer.proofs.choose.Statement.{statement}
 use Rattle.transfer.proofs.choose.Tie as tie
 
-cast-find-key : tie.Need-cast-find-key
-cast-find-key c = search (number-fits, needs)
-
-find-key-requires : tie.Need-find-key-requires
-find-key-requires c κs = search (few-keys, needs)
+find-requires : tie.Need-find-requires
+find-requires c κs =
+    let s = c .before .before in
+    (s .pre .0 .indexed, number-key _ _ _ _ _ _ (s .pre .0) _ (s .pre .1))
 
 no-room-requires : tie.Need-no-room-requires
 no-room-requires c κs = search needs
 
 returns : tie.Need-returns
-returns c = search (chosen-cached, needs)
-
-free-count-requires : tie.Need-free-count-requires
-free-count-requires c κs = search needs
+returns c =
+    let t = c .before in
+    let f = t .before in
+    let s = f .before .before .before in
+    chosen-cached _ _ _ _ _ _ (s .pre .0) _ _ (f .find .ensures) _ (t .if1 .taken) (c .no-room .ensures)
 
 no-room-requires-2 : tie.Need-no-room-requires-2
 no-room-requires-2 c κs = search needs
 
 returns-2 : tie.Need-returns-2
-returns-2 c = search (chosen-full, needs)
+returns-2 c =
+    let t = c .before in
+    let e = t .before .before in
+    let f = e .before in
+    let s = f .before .before .before in
+    chosen-full _ _ _ _ _ _ (s .pre .0) _ _ (f .find .ensures) (e .if1 .left) _ (t .if2 .taken) (c .no-room2 .ensures)
 
 search-start-requires : tie.Need-search-start-requires
 search-start-requires c κs = search needs
 
 take-requires : tie.Need-take-requires
 take-requires c κs =
-    let f = c .before .before in
-    let k = f .before .before in
-    let s = k .before .before in
-    choose-ready _ _ _ _ (s .pre .0) _ (s .pre .1) _ (k .find-key .ensures) (f .before .if1 .left) _ (f .free-count .ensures) (c .before .if2 .left) _
-    (c .search-start .ensures)
+    let u = c .before in
+    let n = u .before in
+    let e = n .before .before in
+    let f = e .before in
+    let s = f .before .before .before in
+    let r = choose-ready _ _ _ _ _ _ (s .pre .0) _ _ (f .find .ensures) (e .if1 .left) (n .if2 .left) _ (u .search-start .ensures) in
+    (r .0, r .1, search needs, r .2)
 
-unused-entries-requires : tie.Need-unused-entries-requires
-unused-entries-requires c κs = search needs
+next-unused-requires : tie.Need-next-unused-requires
+next-unused-requires c κs = search needs
+
+place-after-requires : tie.Need-place-after-requires
+place-after-requires c κs = search needs
+
+cast-unused : tie.Need-cast-unused
+cast-unused c =
+    let f = c .before .before .before .before .before .before .before .before in
+    let s = f .before .before .before in
+    search (c .place-after .ensures .1, fitted-blocks _ _ (s .pre .0 .indexed .fitted), needs)
 
 array-read-t18 : tie.Need-array-read-t18
 array-read-t18 c = search needs
 
-array-read-t21 : tie.Need-array-read-t21
-array-read-t21 c = search needs
-
 returns-3 : tie.Need-returns-3
-returns-3 c = search (chosen-room, needs)
+returns-3 c =
+    let j = c .before in
+    let t = j .before in
+    let u = t .before .before in
+    let n = u .before in
+    let e = n .before .before in
+    let f = e .before in
+    let s = f .before .before .before in
+    chosen-room _ _ _ _ _ _ (s .pre .0) _ _ (f .find .ensures) (e .if1 .left) (n .if2 .left) _ (u .search-start .ensures) _ (j .next-unused .ensures) _
+    (c .place-after .ensures .0) _ _ (t .take .ensures)
 
 pub choose-spec : {M : Type 1} → statement M
 choose-spec =
-    tie.close
-    (tie.spec
-    cast-find-key
-    find-key-requires
-    no-room-requires
-    returns
-    free-count-requires
-    no-room-requires-2
-    returns-2
-    search-start-requires
-    take-requires
-    unused-entries-requires
-    array-read-t18
-    array-read-t21
-    returns-3)
+    tie.close (tie.spec find-requires no-room-requires returns no-room-requires-2 returns-2 search-start-requires take-requires next-unused-requires
+    place-after-requires cast-unused array-read-t18 returns-3)

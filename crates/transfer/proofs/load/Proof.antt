@@ -1,6 +1,6 @@
 -- `load` answers its definition, hands its map on and leaves the card as defined, refused or not; the disk stays.
 use borrow.Author.Needs.{needs}
-use Rattle.transfer.proofs.Found.{load-long, load-goes}
+use Rattle.transfer.proofs.Found.{load-goes}
 use Rattle.transfer.proofs.Moving.{load-refused, load-finished}
 use Rattle.transfer.proofs.load.Statement.{statement}
 use Rattle.transfer.proofs.load.Tie as tie
@@ -14,14 +14,10 @@ same-length c = search needs
 returns : tie.Need-returns
 returns c = search (load-refused, needs)
 
-geometry-of-requires : tie.Need-geometry-of-requires
-geometry-of-requires c κs = search (load-long, needs)
-
 make-load-requires : tie.Need-make-load-requires
 make-load-requires c κs =
-    let g = c .before in
-    let e = g .before .before in
-    load-goes _ _ _ _ _ (e .before .before .find-room .ensures) (e .if1 .left) _ (g .geometry-of .ensures)
+    let e = c .before .before in
+    load-goes _ _ _ _ _ (e .before .before .find-room .ensures) (e .if1 .left)
 
 hand-on-requires : tie.Need-hand-on-requires
 hand-on-requires c κs = search needs
@@ -34,13 +30,4 @@ returns-2 c = search (load-finished, needs)
 
 pub load-spec : {M : Type 1} → statement M
 load-spec =
-    tie.close
-    (tie.spec
-    find-room-requires
-    same-length
-    returns
-    geometry-of-requires
-    make-load-requires
-    hand-on-requires
-    same-length-2
-    returns-2)
+    tie.close (tie.spec find-room-requires same-length returns make-load-requires hand-on-requires same-length-2 returns-2)

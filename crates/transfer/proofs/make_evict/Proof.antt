@@ -52,20 +52,5 @@ returns-2 c = search (evicted-modified, needs)
 
 pub make-evict-spec : {M : Type 1} → statement M
 make-evict-spec =
-    tie.close
-    (tie.spec
-    is-modified-requires
-    make-entry-at-requires
-    answer-requires
-    same-length
-    returns
-    cast-block-place
-    block-place-requires
-    make-sectors-requires
-    make-entry-at-requires-2
-    block-size-requires
-    add-answer
-    answer-requires-2
-    same-length-2
-    same-length-3
-    returns-2)
+    tie.close (tie.spec is-modified-requires make-entry-at-requires answer-requires same-length returns cast-block-place block-place-requires
+    make-sectors-requires make-entry-at-requires-2 block-size-requires add-answer answer-requires-2 same-length-2 same-length-3 returns-2)

@@ -31,13 +31,5 @@ returns c = search (loaded, needs)
 
 pub make-load-spec : {M : Type 1} → statement M
 make-load-spec =
-    tie.close
-    (tie.spec
-    disk-place-requires
-    make-words-requires
-    make-entry-at-requires
-    block-size-requires
-    add-answer
-    answer-requires
-    same-length
+    tie.close (tie.spec disk-place-requires make-words-requires make-entry-at-requires block-size-requires add-answer answer-requires same-length
     returns)

@@ -1,0 +1,242 @@
+//! Instructions of each call, what it calls among them, under callgrind: `--count` runs this program again as `--count ROW ROUNDS`, with
+//! some rounds and with twice as many. The difference is the rounds' own, so what the set-up calls drops out.
+
+use super::*;
+use std::process::Command;
+
+/// A whole turn of Head round N 128 in commits of one block: what a call costs depends on where its search begins.
+const ROUNDS: usize = 128;
+const UNCACHED: u64 = 1000;
+
+/// A card with half its entries in use, each saved by a commit of its own, the disk behind it and what is saved.
+struct Station {
+    k: u64,
+    card: Vec<u8>,
+    map: [u64; 2],
+    disk: Vec<u8>,
+    numbers: Vec<u64>,
+    data: Vec<u8>,
+    turn: usize,
+}
+
+impl Station {
+    fn new(k: u64, data_blocks: u64, numbers: Vec<u64>) -> Station {
+        let card = formatted(k, 256, data_blocks, 65_536);
+        let map = map_of(&card).unwrap();
+        let (disk, data) = (vec![0; 65_536 << k], vec![7; 16 << k]);
+        let mut station = Station { k, card, map, disk, numbers, data, turn: 0 };
+        (0..station.numbers.len()).for_each(|_| station.commit(1));
+        station.turn = 0;
+        station
+    }
+
+    /// The next n of the numbers in use, in turn.
+    fn next(&mut self, n: usize) -> Vec<u64> {
+        let from = self.turn * n;
+        self.turn += 1;
+        (from..from + n).map(|i| self.numbers[i % self.numbers.len()]).collect()
+    }
+
+    fn commit_of(&mut self, numbers: &[u64], allowance: u64) -> Answer {
+        let data = &self.data[..numbers.len() << self.k];
+        commit(&mut self.card, &mut self.map, numbers, data, allowance)
+    }
+
+    fn commit(&mut self, n: usize) {
+        let numbers = self.next(n);
+        assert!(matches!(self.commit_of(&numbers, ALL), Answer::Done(_)));
+    }
+
+    fn unproved_commit(&mut self, n: usize) {
+        let numbers = self.next(n);
+        let data = &self.data[..n << self.k];
+        assert!(matches!(unproved::commit(&mut self.card, &mut self.map, &numbers, data, ALL), Answer::Done(_)));
+    }
+
+    fn preview(&mut self, n: usize) {
+        let (numbers, mut blocks) = (self.next(n), vec![0; n]);
+        let (card, map, data) = (&self.card, &self.map, &self.data[..n << self.k]);
+        done(unsafe {
+            tinca_preview(
+                card.as_ptr(),
+                card.len(),
+                map.as_ptr(),
+                2,
+                numbers.as_ptr(),
+                n,
+                data.as_ptr(),
+                data.len(),
+                blocks.as_mut_ptr(),
+                n,
+            )
+        });
+        black_box(blocks);
+    }
+
+    fn load(&mut self, block: u64) {
+        let (card, disk, map) = (&mut self.card, &self.disk, self.map.as_mut_ptr());
+        done(unsafe { tinca_load(card.as_mut_ptr(), card.len(), disk.as_ptr(), disk.len(), map, 2, block, ALL) });
+    }
+
+    fn evict(&mut self, block: u64) {
+        let (card, disk, map) = (&mut self.card, &mut self.disk, self.map.as_mut_ptr());
+        done(unsafe { tinca_evict(card.as_mut_ptr(), card.len(), disk.as_mut_ptr(), disk.len(), map, 2, block, ALL) });
+    }
+
+    /// Whether the disk, and not the card, had the block.
+    fn read(&mut self, block: u64) -> bool {
+        let (card, disk, mut out) = (&self.card, &self.disk, vec![0; 1 << self.k]);
+        let (from, to) = ((card.as_ptr(), card.len()), (out.as_mut_ptr(), out.len()));
+        let place = unsafe { tinca_read(from.0, from.1, disk.as_ptr(), disk.len(), block, to.0, to.1) };
+        assert_eq!(place.refusal, 0);
+        black_box(out);
+        place.kind == 1
+    }
+
+    fn recover(&mut self) {
+        let card = &mut self.card;
+        done(unsafe { tinca_recover(card.as_mut_ptr(), card.len(), self.map.as_mut_ptr(), 2, ALL) });
+    }
+
+    /// A commit of four of the numbers in use, without its last store.
+    fn cut(&mut self) {
+        let numbers = self.next(4);
+        assert_eq!(self.commit_of(&numbers, 4 * ((1 << self.k) / 8 + 4)), Answer::Cut);
+        self.map = map_of(&self.card).unwrap();
+    }
+}
+
+type Round = Box<dyn Fn(&mut Station)>;
+
+/// What a round does, and of which function in it the instructions count.
+struct Row {
+    symbol: &'static str,
+    k: u64,
+    data_blocks: u64,
+    random: bool,
+    round: Round,
+}
+
+impl Row {
+    fn numbers(&self) -> Vec<u64> {
+        let (count, mut state) = (self.data_blocks as usize / 2, 5);
+        if !self.random {
+            return (0..count as u64).collect();
+        }
+        let mut numbers = Vec::new();
+        while numbers.len() < count {
+            let number = next(&mut state) % 65_536;
+            if !numbers.contains(&number) {
+                numbers.push(number);
+            }
+        }
+        numbers
+    }
+
+    fn run(&self, rounds: usize) {
+        let mut station = Station::new(self.k, self.data_blocks, self.numbers());
+        (0..rounds).for_each(|_| (self.round)(&mut station));
+    }
+}
+
+/// The rows of commit: their names, and each of the library and unproved.
+fn commits() -> Vec<(String, [Row; 2])> {
+    let row = |name: &str, k: u64, data_blocks: u64, n: usize, random: bool| {
+        let of = |symbol, round| Row { symbol, k, data_blocks, random, round };
+        let library = of("tinca_commit", Box::new(move |station: &mut Station| station.commit(n)) as Round);
+        let unproved =
+            of("unproved_commit", Box::new(move |station: &mut Station| station.unproved_commit(n)) as Round);
+        (format!("{n} x {}{name}", 1 << k), [library, unproved])
+    };
+    let mut rows = Vec::new();
+    for k in [9, 12] {
+        rows.extend([1, 4, 16].map(|n| row("", k, 128, n, false)));
+    }
+    rows.extend([4, 16, 64, 128].map(|data_blocks| row(&format!(", N {data_blocks}"), 9, data_blocks, 1, false)));
+    rows.extend([1, 16].map(|n| row(", random numbers", 9, 128, n, true)));
+    rows
+}
+
+/// The rows of the other calls, each at both sizes of a block.
+fn others() -> Vec<(String, [Row; 2])> {
+    let row = |name: &str, symbol, round: fn(&mut Station)| {
+        let of = |k| Row { symbol, k, data_blocks: 128, random: false, round: Box::new(round) };
+        (name.to_string(), [of(9), of(12)])
+    };
+    let load_evict = |station: &mut Station| {
+        station.load(UNCACHED);
+        station.evict(UNCACHED);
+    };
+    vec![
+        row("load", "tinca_load", load_evict),
+        row("evict, clean", "tinca_evict", load_evict),
+        row("evict, modified", "tinca_evict", |station| {
+            assert!(matches!(station.commit_of(&[UNCACHED], ALL), Answer::Done(_)));
+            station.evict(UNCACHED);
+        }),
+        row("read from card", "tinca_read", |station| {
+            let block = station.next(1)[0];
+            assert!(!station.read(block));
+        }),
+        row("read from disk", "tinca_read", |station| assert!(station.read(UNCACHED))),
+        row("state", "tinca_state_of", |station| {
+            let state = unsafe { tinca_state_of(station.card.as_ptr(), station.card.len()) };
+            assert_eq!((state.kind, state.counts[0]), (0, 64));
+        }),
+        row("make map", "tinca_make_map", |station| assert_eq!(map_of(&station.card), Some(station.map))),
+        row("recover, settled", "tinca_recover", Station::recover),
+        row("recover, 4 to undo", "tinca_recover", |station| {
+            station.cut();
+            station.recover();
+        }),
+        row("preview, 4 blocks", "tinca_preview", |station| station.preview(4)),
+    ]
+}
+
+fn rows() -> Vec<(String, [Row; 2])> {
+    commits().into_iter().chain(others()).collect()
+}
+
+/// Instructions of the row's function in that many rounds and the set-up.
+fn collected(row: usize, symbol: &str, rounds: usize) -> u64 {
+    let file = std::env::temp_dir().join(format!("bench_count_{}", std::process::id()));
+    let output = Command::new("valgrind")
+        .args(["--tool=callgrind", &format!("--toggle-collect={symbol}")])
+        .arg(format!("--callgrind-out-file={}", file.display()))
+        .arg(std::env::current_exe().unwrap())
+        .args(["--count", &row.to_string(), &rounds.to_string()])
+        .output()
+        .unwrap();
+    assert!(output.status.success(), "{}", String::from_utf8_lossy(&output.stderr));
+    let text = std::fs::read_to_string(&file).unwrap();
+    std::fs::remove_file(&file).unwrap();
+    let total = text.lines().find_map(|line| line.strip_prefix("totals: ")).expect("callgrind gives no total");
+    total.trim().parse().unwrap()
+}
+
+fn counted(row: usize, symbol: &str) -> u64 {
+    let (once, twice) = (collected(row, symbol, ROUNDS), collected(row, symbol, 2 * ROUNDS));
+    assert!(twice > once, "callgrind does not find {symbol}");
+    (twice - once + ROUNDS as u64 / 2) / ROUNDS as u64
+}
+
+pub fn run(words: &[String]) {
+    if let [row, rounds] = words {
+        let row: usize = row.parse().unwrap();
+        return rows()[row / 2].1[row % 2].run(rounds.parse().unwrap());
+    }
+    if Command::new("valgrind").arg("--version").output().is_err() {
+        println!("valgrind is not installed: no instructions are counted.");
+        return;
+    }
+    println!("Instructions of a commit of n blocks; S 256, N 128 or as said, D 65,536, N / 2 entries in use. Numbers in turn or random.\n");
+    println!("| commit of | library | unproved |\n|---|---|---|");
+    for (index, (name, pair)) in rows().iter().enumerate() {
+        if index == commits().len() {
+            println!("\nInstructions of the other calls; S 256, N 128, D 65,536, 64 entries in use.\n");
+            println!("| call | B 512 | B 4096 |\n|---|---|---|");
+        }
+        let [one, other] = [0, 1].map(|column| counted(2 * index + column, pair[column].symbol));
+        println!("| {name} | {one} | {other} |");
+    }
+}
