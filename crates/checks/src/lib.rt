@@ -64,6 +64,18 @@ pub struct Seen {
     pub map: Map,
 }
 
+fn found(quiet: bool, shared: u8, count: u64, map: Map) -> Seen
+    ensures { λ r. ⌜ r ≡ record { fits = true; quiet = quiet; shared = shared; count = count; map = map } ⌝ }
+{
+    Seen {
+        fits: true,
+        quiet: quiet,
+        shared: shared,
+        count: count,
+        map: map,
+    }
+}
+
 fn misfit() -> Seen
     ensures { λ r. ⌜ r .fits ≡ false ⌝ }
 {
@@ -114,13 +126,7 @@ fn decode(g: Geometry, card: &[u8], index: &mut [u8; 640]) -> Seen
             shared = shared | enter(index, at, b);
         }
     }
-    Seen {
-        fits: true,
-        quiet: quiet,
-        shared: shared,
-        count: count,
-        map: map,
-    }
+    found(quiet, shared, count, map)
 }
 
 fn wide(k: u32) -> usize

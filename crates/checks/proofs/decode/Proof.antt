@@ -3,11 +3,12 @@
 use Prim.Native.Nat.{_≤_, _<_, _-_}
 use mathlib.Core.Bool.{Bool, true, false, not, _&&_}
 use mathlib.Core.Logic.{⊎-elim}
-use mathlib.Core.Path.{_≡_, refl, sym, _∙_}
+use mathlib.Core.Path.{_≡_, refl, sym, subst, _∙_}
 use denote.Ref.{now}
 use native.Mathlib.Omega.{arith}
 use Rattle.protocol.proofs.Below.{and-fails}
 use Rattle.ring.proofs.Laws.{fitted-blocks}
+use Rattle.checks.specs.Passed.{Decoded}
 use Rattle.checks.proofs.Laws.{Passing, pass-start, pass-unused, pass-used, pass-bad, pass-end, and-true}
 use Rattle.checks.proofs.Fields.{Split, split-blank, split-blocks, split-flags, Used, used-modified, used-clean, used-logged}
 use borrow.Author.Needs.{needs}
@@ -166,11 +167,17 @@ loop-again-2 c =
           (split-blank (split-of (c .before)) (c .if1 .left)),
     )
 
+found-requires : tie.Need-found-requires Inv-loop μ-loop
+found-requires c κs = search needs
+
 returns-3 : tie.Need-returns-3 Inv-loop μ-loop
-returns-3 c = search (pass-end, needs)
+returns-3 c =
+    let l = c .before .before in
+    subst (Decoded _ _ _) (sym (c .found .ensures))
+    (pass-end _ _ _ _ _ _ _ _ (l .before .before .before .before .pre .0) (l .loop .inv .1) (c .before .loop-test .left) (l .loop .inv .0))
 
 pub decode-spec : {M : Type 1} → statement M
 decode-spec =
     tie.close (tie.spec Inv-loop μ-loop sub-count beyond-requires loop-holds field-of-requires field-of-requires-2 field-of-requires-3 add-i add-if2
     misfit-requires returns wrapping-sub-u64-requires wrapping-sub-u64-requires-2 wrapping-sub-u64-requires-3 misfit-requires-2 returns-2
-    narrow-requires with-requires add-count enter-requires loop-less loop-again loop-less-2 loop-again-2 returns-3)
+    narrow-requires with-requires add-count enter-requires loop-less loop-again loop-less-2 loop-again-2 found-requires returns-3)
