@@ -8,10 +8,10 @@
  * call leaves are those after so many stores of its list. Each call takes every input, always returns, and refuses by number
  * before any store, so that a refusal changes nothing.
  *
- * Not promised. That units become durable as they are stored: compiled for x86-64 each is one instruction, in this order, but
- * a processor's cache hands them to the card in an order of its own. A unit that reaches the card in part or before its turn
- * can leave a save torn, or a card that is refused. docs/ORDER.md says what a station must do. The card has no checksum: some
- * damage by other hands reads as another lawful card.
+ * Not promised. That units become durable as they are stored: compiled for x86-64 no instruction leaves one of the card's in
+ * part, and they come in this order, but a processor's cache hands them to the card in an order of its own. A unit that
+ * reaches the card in part or before its turn can leave a save torn, or a card that is refused. docs/ORDER.md says what a
+ * station must do. The card has no checksum: some damage by other hands reads as another lawful card.
  *
  * The names. k, S, N, D are given to tinca_format and stand in the card's header from then on; tinca_state_of tells them.
  *

@@ -10,7 +10,7 @@ use Rattle.protocol.specs.Entry.{entryAt, inUse, hasLogRole}
 use Rattle.protocol.specs.Ring.{inWindow, usedAt, undoableAt, settledBlock, isSettled}
 use Rattle.protocol.specs.Check.{entriesApart}
 use Rattle.protocol.proofs.Below.{and-fails}
-use Rattle.checks.specs.Keys.{NONE, key, numberKey, currentKey, settledKey, undoableEntry, distinct, keyAt, Lists}
+use Rattle.checks.specs.Keys.{NONE, key, numberKey, currentKey, settledKey, undoableEntry, distinct}
 use Rattle.checks.specs.Passed.{Comparable}
 use Rattle.checks.proofs.Keys.{distinct-same, apart-keys, settled-keys}
 
