@@ -8,7 +8,7 @@ use mathlib.Core.Path.{_≡_, refl, sym, ap, subst, _∙_}
 use mathlib.Core.Logic.{_⊎_, inl, inr, ⊎-elim}
 use native.Mathlib.Numerals.{add-one}
 use native.Mathlib.Omega.{arith}
-use lib.ListN.{length, take, getD}
+use lib.ListN.{length, getD}
 use lib.Dec.{eqb}
 use borrow.Author.Tests.{leb-true, ltb-true, eqb-true, eqb-false, eq-eqb, ne-eqb, lt-ltb, le-ltb, not-true}
 use Rattle.numbers.proofs.Laws.{length-part}
@@ -18,7 +18,7 @@ use Rattle.protocol.specs.Below.{anyBelow, countBelow, eachBelow, around
 use Rattle.protocol.specs.Layout.{blockSize, blockAt, diskBlock}
 use Rattle.protocol.specs.Entry.{FRESH, entryAt, inUse, isModified, hasLogRole, goodEntry, switched}
 use Rattle.protocol.specs.Ring.{headOf, tailOf, slotAt, windowLength, windowOf, windowNumber, windowHas, inWindow, usedAt, findEntry, cached, currentOf}
-use Rattle.protocol.specs.Store.{card, disk, Store, storedOn, madeOn, flat, single, words, entryStore, slotStore, headStore, tailStore}
+use Rattle.protocol.specs.Store.{card, disk, Store, Run, storedOn, madeOn, flat, made, single, words, entryStore, slotStore, headStore, tailStore}
 use Rattle.protocol.specs.Search.{freeBlocks, unusedEntries}
 use Rattle.protocol.specs.Commit.{numberOf, uncachedAt, newBlock, entryFound, oldBlock, logEntry, dataOf, headAfter, blockRuns, switchRuns, commitRuns, countFits, dataFits, numberFits, numbersFit, numbersDiffer, newNumber, numbersApart, roomFor}
 use Rattle.protocol.specs.History.{placeAmong, replaced}
@@ -35,7 +35,7 @@ use Rattle.protocol.proofs.Recovered.{fits-entry}
 use Rattle.protocol.proofs.Region.{entry, block, slot, head, tail, block-ends}
 use Rattle.protocol.proofs.Shape.{Changed, head-kept, tail-kept, slot-kept, entry-kept, block-kept, window-empty, window-kept, number-kept, kindOf, kindAt, viewOf, Seen, seen-idle, seen-live, seen-pending, see, previousOf, previous-none, previous-is, previous-some, Inv}
 use Rattle.protocol.proofs.Steps.{entry-changes, entry-stays, run-in-block, slot-changes, head-moves, window-longer, number-stays, number-last, tail-moves, tail-settled, window-below, head-after}
-use Rattle.protocol.proofs.Stores.{Along, along-then, along-one, along-run, along-each, flat-append, flat-single, made-append}
+use Rattle.protocol.proofs.Stores.{Some, Along, along-then, along-one, along-run, along-each, flat-append, flat-single, made-append}
 
 -- k is one of f's values below a, or none of them
 among : (f : ℕ → ℕ) (a k : ℕ) → ((j : ℕ) × (j < a) × (f j ≡ k)) ⊎ ((j : ℕ) → j < a → f j ≡ k → ⊥)
@@ -369,7 +369,7 @@ module _ {g : Geometry} {row : ℕ → List ℕ} {c d : List ℕ} (ns bs : List 
   ahead i l = record { a-low = l; h-low = omega arith; t-low = omega arith }
 
   filling : (i : ℕ) (c′ d′ : List ℕ) → i < length ns → Mid i i 0 c′ d′
-      → Along (Inv g row) (Filled i) (words g (newBlock g c i) (dataOf g bs i)) c′ d′
+      → Along (Inv g row) (Filled i) (words g (newBlock g c i) (dataOf g bs i) ∷ []) c′ d′
   filling i c′ d′ l m = along-run (words g q (dataOf g bs i)) c′ d′ cut end
     where
       q : ℕ
@@ -378,14 +378,16 @@ module _ {g : Geometry} {row : ℕ → List ℕ} {c d : List ℕ} (ns bs : List 
       o : Order i i 0
       o = even i (omega arith)
 
-      cut : (a : ℕ) → Inv g row (madeOn card (take a (words g q (dataOf g bs i))) c′) (madeOn disk (take a (words g q (dataOf g bs i))) d′)
-      cut a =
-          subst (Inv g row (madeOn card (take a (words g q (dataOf g bs i))) c′)) (sym (words-elsewhere g fit q (dataOf g bs i) (q-below i l) a d′))
-          (run-in-block q (m .inv) (words-changed g fit q (dataOf g bs i) (q-below i l) a c′)
+      ws : List Store
+      ws = words g q (dataOf g bs i) .stores
+
+      cut : (ts : List Store) → Some ts ws → Inv g row (madeOn card ts c′) (madeOn disk ts d′)
+      cut ts w =
+          subst (Inv g row (madeOn card ts c′)) (sym (words-elsewhere g fit q (dataOf g bs i) (q-below i l) ts w d′))
+          (run-in-block q (m .inv) (words-changed g fit q (dataOf g bs i) (q-below i l) ts w c′)
           (λ k h e. unnamed-current m o i k (omega arith) l h e) (λ k h e. unnamed-previous m o i k l h e))
 
-      end : Inv g row (madeOn card (words g q (dataOf g bs i)) c′) (madeOn disk (words g q (dataOf g bs i)) d′)
-          → Filled i (madeOn card (words g q (dataOf g bs i)) c′) (madeOn disk (words g q (dataOf g bs i)) d′)
+      end : Inv g row (madeOn card ws c′) (madeOn disk ws d′) → Filled i (madeOn card ws c′) (madeOn disk ws d′)
       end w =
           record {
             mid =
@@ -398,7 +400,7 @@ module _ {g : Geometry} {row : ℕ → List ℕ} {c d : List ℕ} (ns bs : List 
             filled = words-stored g fit q (dataOf g bs i) (q-below i l) c′ (data-length i l) (m .inv .shape .cardSized);
           }
         where
-          x : Changed g (block q) c′ (madeOn card (words g q (dataOf g bs i)) c′)
+          x : Changed g (block q) c′ (madeOn card ws c′)
           x = words-changed-all g fit q (dataOf g bs i) (q-below i l) c′
 
   log-good : (i : ℕ) → i < length ns → goodEntry (g .blocks) (g .disk) (logEntry g c ns i) ≡ true
@@ -497,7 +499,7 @@ module _ {g : Geometry} {row : ℕ → List ℕ} {c d : List ℕ} (ns bs : List 
               nothing (sym n ∙ q)
 
   logging : (i : ℕ) (c′ d′ : List ℕ) → i < length ns → Filled i c′ d′
-      → Along (Inv g row) (Mid (suc i) i 0) (entryStore g (entryFound g c ns i) (logEntry g c ns i) ∷ []) c′ d′
+      → Along (Inv g row) (Mid (suc i) i 0) (single (entryStore g (entryFound g c ns i) (logEntry g c ns i))) c′ d′
   unfolding logEntry
   logging i c′ d′ l f = along-one (entryStore g e x) c′ d′ (m .inv) after progress
     where
@@ -571,7 +573,7 @@ module _ {g : Geometry} {row : ℕ → List ℕ} {c d : List ℕ} (ns bs : List 
           }
 
   slotting : (i : ℕ) (c′ d′ : List ℕ) → i < length ns → Mid (suc i) i 0 c′ d′
-      → Along (Inv g row) (Slotted i) (slotStore (headAfter g c i) (numberOf ns i) ∷ []) c′ d′
+      → Along (Inv g row) (Slotted i) (single (slotStore (headAfter g c i) (numberOf ns i))) c′ d′
   slotting i c′ d′ l m =
       along-one (slotStore h (numberOf ns i)) c′ d′ (m .inv) after
       (record {
@@ -614,7 +616,7 @@ module _ {g : Geometry} {row : ℕ → List ℕ} {c d : List ℕ} (ns bs : List 
           (slot-changes (m .inv) (subst (λ (z : ℕ). Changed g (slot z) c′ c″) (sym (m .headIs)) ch))
 
   heading : (i : ℕ) (c′ d′ : List ℕ) → i < length ns → Slotted i c′ d′
-      → Along (Inv g row) (Mid (suc i) (suc i) 0) (headStore (headAfter g c (i + 1)) ∷ []) c′ d′
+      → Along (Inv g row) (Mid (suc i) (suc i) 0) (single (headStore (headAfter g c (i + 1)))) c′ d′
   heading i c′ d′ l f = along-one (headStore h) c′ d′ (m .inv) after progress
     where
       m : Mid (suc i) i 0 c′ d′
@@ -692,19 +694,19 @@ module _ {g : Geometry} {row : ℕ → List ℕ} {c d : List ℕ} (ns bs : List 
           }
 
   -- all stores of one block
-  block-step : (i : ℕ) (c′ d′ : List ℕ) → i < length ns → Mid i i 0 c′ d′ → Along (Inv g row) (Mid (suc i) (suc i) 0) (flat (blockRuns g c ns bs i)) c′ d′
-  unfolding blockRuns flat single
+  block-step : (i : ℕ) (c′ d′ : List ℕ) → i < length ns → Mid i i 0 c′ d′ → Along (Inv g row) (Mid (suc i) (suc i) 0) (blockRuns g c ns bs i) c′ d′
+  unfolding blockRuns
   block-step i c′ d′ l m =
-      along-then (words g (newBlock g c i) (dataOf g bs i)) _ c′ d′ (filling i c′ d′ l m)
-      (λ c₁ d₁ f. along-then (entryStore g (entryFound g c ns i) (logEntry g c ns i) ∷ []) _ c₁ d₁ (logging i c₁ d₁ l f)
-      (λ c₂ d₂ t. along-then (slotStore (headAfter g c i) (numberOf ns i) ∷ []) _ c₂ d₂ (slotting i c₂ d₂ l t)
+      along-then (words g (newBlock g c i) (dataOf g bs i) ∷ []) _ c′ d′ (filling i c′ d′ l m)
+      (λ c₁ d₁ f. along-then (single (entryStore g (entryFound g c ns i) (logEntry g c ns i))) _ c₁ d₁ (logging i c₁ d₁ l f)
+      (λ c₂ d₂ t. along-then (single (slotStore (headAfter g c i) (numberOf ns i))) _ c₂ d₂ (slotting i c₂ d₂ l t)
       (λ c₃ d₃ u. heading i c₃ d₃ l u)))
 
   -- ---- the role switches
 
   switch-step : (i : ℕ) (c′ d′ : List ℕ) → i < length ns → Mid (length ns) (length ns) i c′ d′
-      → Along (Inv g row) (Mid (length ns) (length ns) (suc i)) (flat (switchRuns g c ns i)) c′ d′
-  unfolding switchRuns flat single switched logEntry
+      → Along (Inv g row) (Mid (length ns) (length ns) (suc i)) (switchRuns g c ns i) c′ d′
+  unfolding switchRuns switched logEntry
   switch-step i c′ d′ l m = along-one (entryStore g e x) c′ d′ (m .inv) after progress
     where
       o : Order (length ns) (length ns) i
@@ -852,14 +854,14 @@ module _ {g : Geometry} {row : ℕ → List ℕ} {c d : List ℕ} (ns bs : List 
       tail-settled (m .inv) last-changed last-tail no-role,
     )
 
-  -- all stores but Tail's
-  pub front : List Store
-  front = flat (eachBelow (blockRuns g c ns bs) (length ns)) ++ flat (eachBelow (switchRuns g c ns) (length ns))
+  -- all runs but Tail's
+  pub front : List Run
+  front = eachBelow (blockRuns g c ns bs) (length ns) ++ eachBelow (switchRuns g c ns) (length ns)
 
   front-along : Along (Inv g row) (Mid (length ns) (length ns) (length ns)) front c d
   unfolding front
   front-along =
-      along-then (flat (eachBelow (blockRuns g c ns bs) (length ns))) (flat (eachBelow (switchRuns g c ns) (length ns))) c d
+      along-then (eachBelow (blockRuns g c ns bs) (length ns)) (eachBelow (switchRuns g c ns) (length ns)) c d
       (along-each (λ i. Mid i i 0) (blockRuns g c ns bs) (length ns) c d v start (λ i c′ d′ l m. block-step i c′ d′ l m))
       (λ c′ d′ m. along-each (λ i. Mid (length ns) (length ns) i) (switchRuns g c ns) (length ns) c′ d′ (m .inv) m
       (λ i c″ d″ l w. switch-step i c″ d″ l w))
@@ -878,27 +880,28 @@ module _ {g : Geometry} {row : ℕ → List ℕ} {c d : List ℕ} (ns bs : List 
             blocks = λ j l. absurd (omega arith);
           }
 
-  pub commit-flat : flat (commitRuns g c ns bs) ≡ front ++ (tailStore (headAfter g c (length ns)) ∷ [])
+  pub commit-front : commitRuns g c ns bs ≡ front ++ single (tailStore (headAfter g c (length ns)))
   unfolding commitRuns front
-  commit-flat =
-      flat-append (eachBelow (blockRuns g c ns bs) (length ns)) _
-      ∙ ap (λ (ss : List Store). flat (eachBelow (blockRuns g c ns bs) (length ns)) ++ ss)
-      (flat-append (eachBelow (switchRuns g c ns) (length ns)) _
-      ∙ ap (λ (ss : List Store). flat (eachBelow (switchRuns g c ns) (length ns)) ++ ss) (flat-single (tailStore (headAfter g c (length ns)))))
-      ∙ sym (append-assoc (flat (eachBelow (blockRuns g c ns bs) (length ns))) (flat (eachBelow (switchRuns g c ns) (length ns))) (tailStore (headAfter g c (length ns)) ∷ []))
+  commit-front = sym (append-assoc (eachBelow (blockRuns g c ns bs) (length ns)) (eachBelow (switchRuns g c ns) (length ns)) _)
 
-  -- wherever the commit is cut before Tail's store, the row stays
-  pub commit-cut : (a : ℕ) → Inv g row (madeOn card (take a front) c) (madeOn disk (take a front) d)
-  commit-cut a = front-along .during a
+  pub commit-flat : flat (commitRuns g c ns bs) ≡ flat front ++ (tailStore (headAfter g c (length ns)) ∷ [])
+  commit-flat =
+      ap flat commit-front
+      ∙ flat-append front _
+      ∙ ap (λ (ss : List Store). flat front ++ ss) (flat-single (tailStore (headAfter g c (length ns))))
+
+  -- wherever the commit is cut before Tail's store, whatever is chosen there, the row stays
+  pub commit-cut : (a : ℕ) (ch : List ℕ) → Inv g row (madeOn card (made a ch front) c) (madeOn disk (made a ch front) d)
+  commit-cut a ch = front-along .during a ch
 
   -- with Tail's store, the row's blocks are replaced, and the card is settled
   pub commit-done : Rest g (replaced g ns bs row) (madeOn card (flat (commitRuns g c ns bs)) c) (madeOn disk (flat (commitRuns g c ns bs)) d)
   unfolding madeOn
   commit-done =
       subst (λ (ss : List Store). Rest g (replaced g ns bs row) (madeOn card ss c) (madeOn disk ss d)) (sym commit-flat)
-      (subst (λ (z : List ℕ). Rest g (replaced g ns bs row) z (madeOn disk (front ++ last) d)) (sym (made-append card front last c))
-      (subst (Rest g (replaced g ns bs row) (madeOn card last (madeOn card front c))) (sym (made-append disk front last d))
-      (committed (madeOn card front c) (madeOn disk front d) (front-along .end))))
+      (subst (λ (z : List ℕ). Rest g (replaced g ns bs row) z (madeOn disk (flat front ++ last) d)) (sym (made-append card (flat front) last c))
+      (subst (Rest g (replaced g ns bs row) (madeOn card last (madeOn card (flat front) c))) (sym (made-append disk (flat front) last d))
+      (committed (madeOn card (flat front) c) (madeOn disk (flat front) d) (front-along .end))))
     where
       last : List Store
       last = tailStore (headAfter g c (length ns)) ∷ []
@@ -912,15 +915,15 @@ module _ {g : Geometry} {row : ℕ → List ℕ} {c d : List ℕ} (ns bs : List 
   pub commit-entries : Entries (madeOn card (flat (commitRuns g c ns bs)) c)
   unfolding madeOn
   commit-entries =
-      subst Entries (sym (ap (λ (ss : List Store). madeOn card ss c) commit-flat ∙ made-append card front _ c))
+      subst Entries (sym (ap (λ (ss : List Store). madeOn card ss c) commit-flat ∙ made-append card (flat front) _ c))
       (record {
         others = λ i l un. entry-kept ch i l (λ a b. omega arith) ∙ m .others i l un;
         planned = λ j l. entry-kept ch (entryFound g c ns j) (e-below j l) (λ a b. omega arith) ∙ m .switcheds j l;
         filled = λ j l. block-kept ch (newBlock g c j) (q-below j l) (λ a b. omega arith) ∙ m .blocks j l;
       })
     where
-      m : Mid (length ns) (length ns) (length ns) (madeOn card front c) (madeOn disk front d)
+      m : Mid (length ns) (length ns) (length ns) (madeOn card (flat front) c) (madeOn disk (flat front) d)
       m = front-along .end
 
-      ch : Changed g tail (madeOn card front c) (storedOn card (tailStore (headAfter g c (length ns))) (madeOn card front c))
-      ch = tail-changed g (madeOn card front c) (headAfter g c (length ns))
+      ch : Changed g tail (madeOn card (flat front) c) (storedOn card (tailStore (headAfter g c (length ns))) (madeOn card (flat front) c))
+      ch = tail-changed g (madeOn card (flat front) c) (headAfter g c (length ns))

@@ -4,8 +4,8 @@ use Rattle.protocol.specs.Below.{allBelow, anyBelow, countBelow, firstBe
 use Rattle.protocol.specs.Layout.{between, goodK, goodSlots, goodBlocks, goodDisk, goodGeometry, blockSize, slotPlace, entryPlace, blockPlace, cardLength, diskPlace, diskLength, blockAt, diskBlock, headerBytes, geometryOf, zeroFrom, goodHeader}
 use Rattle.protocol.specs.Entry.{entryBytes, entryIn, entryAt, inUse, isModified, hasLogRole, allowedFlags, isUnused, goodEntry, switched, undone}
 use Rattle.protocol.specs.Ring.{headOf, tailOf, slotAt, windowLength, windowSlots, windowOf, windowNumber, windowHas, inWindow, usedAt, undoableAt, settledBlock, roleFreeAt, isSettled, entryFor, findEntry, cached, currentOf, contents}
-use Rattle.protocol.specs.Check.{refuse, _orElse_, headerFits, cardFits, diskFits, windowNumberFits, ringFits, goodEntryAt, entriesFit, alike, apart, apartBefore, entriesApart, fitRefusal, diskRefusal, damageRefusal, cardRefusal}
-use Rattle.protocol.specs.Store.{isOn, storedOn, madeOn, flat, made, units, words, sectors, entryStore, wordStore, slotStore, headStore, tailStore, single, storesOf, answerOf, afterOn}
+use Rattle.protocol.specs.Check.{refuse, _orElse_, headerFits, cardFits, diskFits, windowNumberFits, ringFits, goodEntryAt, entriesFit, alike, apart, apartBefore, entriesApart, fitRefusal, diskRefusal, damageRefusal, cardRefusal, choiceByteFits, choiceFits, choiceRefusal}
+use Rattle.protocol.specs.Store.{isOn, storedOn, madeOn, flat, chosen, landed, made, units, words, sectors, entryStore, wordStore, slotStore, headStore, tailStore, single, storesOf, answerOf, afterOn}
 use Rattle.protocol.specs.Format.{outcomeOf, formatRefusal, formatted, afterFormat, entryRefusal, decoded, encoded}
 use Rattle.protocol.specs.Search.{takenBy, isFree, unusedAt, searchStart, freeBlocks, unusedEntries}
 use Rattle.protocol.specs.Map.{word, mapBy, isMarked, mapOf, sameMap, mapRefusal, makeRefusal}
@@ -17,5 +17,5 @@ use Rattle.protocol.specs.Table.{oneTaken}
 use Rattle.protocol.specs.Example.{firstByte}
 
 unfoldable pub computing : Unit {0}
-unfolding beFrom be bytesBE part numberAt patch allBelow anyBelow countBelow firstBelow eachBelow keep around walked between goodK goodSlots goodBlocks goodDisk goodGeometry blockSize slotPlace entryPlace blockPlace cardLength diskPlace diskLength blockAt diskBlock headerBytes geometryOf zeroFrom goodHeader entryBytes entryIn entryAt inUse isModified hasLogRole allowedFlags isUnused goodEntry switched undone headOf tailOf slotAt windowLength windowSlots windowOf windowNumber windowHas inWindow usedAt undoableAt settledBlock roleFreeAt isSettled entryFor findEntry cached currentOf contents refuse _orElse_ headerFits cardFits diskFits windowNumberFits ringFits goodEntryAt entriesFit alike apart apartBefore entriesApart fitRefusal diskRefusal damageRefusal cardRefusal isOn storedOn madeOn flat made units words sectors entryStore wordStore slotStore headStore tailStore single storesOf answerOf afterOn outcomeOf formatRefusal formatted afterFormat entryRefusal decoded encoded takenBy isFree unusedAt searchStart freeBlocks unusedEntries word mapBy isMarked mapOf sameMap mapRefusal makeRefusal numberOf uncachedAt newBlock entryFound oldBlock logEntry dataOf headAfter blockRuns switchRuns commitRuns countFits dataFits numberFits numbersFit numbersDiffer newNumber numbersApart roomFor saveRefusal commitRefusal commitWork pairRefusal blockRefusal cleanEntry loadRuns loadRefusal loadWork writeBack evictRuns evictRefusal evictWork sameBytes ifChanging undoRuns recoverRuns recoverRefusal recoverWork workOf answerTo after run answers fresh placeAmong replaced rowStep rowAfter oneTaken firstByte
+unfolding beFrom be bytesBE part numberAt patch allBelow anyBelow countBelow firstBelow eachBelow keep around walked between goodK goodSlots goodBlocks goodDisk goodGeometry blockSize slotPlace entryPlace blockPlace cardLength diskPlace diskLength blockAt diskBlock headerBytes geometryOf zeroFrom goodHeader entryBytes entryIn entryAt inUse isModified hasLogRole allowedFlags isUnused goodEntry switched undone headOf tailOf slotAt windowLength windowSlots windowOf windowNumber windowHas inWindow usedAt undoableAt settledBlock roleFreeAt isSettled entryFor findEntry cached currentOf contents refuse _orElse_ headerFits cardFits diskFits windowNumberFits ringFits goodEntryAt entriesFit alike apart apartBefore entriesApart fitRefusal diskRefusal damageRefusal cardRefusal choiceByteFits choiceFits choiceRefusal isOn storedOn madeOn flat chosen landed made units words sectors entryStore wordStore slotStore headStore tailStore single storesOf answerOf afterOn outcomeOf formatRefusal formatted afterFormat entryRefusal decoded encoded takenBy isFree unusedAt searchStart freeBlocks unusedEntries word mapBy isMarked mapOf sameMap mapRefusal makeRefusal numberOf uncachedAt newBlock entryFound oldBlock logEntry dataOf headAfter blockRuns switchRuns commitRuns countFits dataFits numberFits numbersFit numbersDiffer newNumber numbersApart roomFor saveRefusal commitRefusal commitWork pairRefusal blockRefusal cleanEntry loadRuns loadRefusal loadWork writeBack evictRuns evictRefusal evictWork sameBytes ifChanging undoRuns recoverRuns recoverRefusal recoverWork workOf answerTo after run answers fresh placeAmong replaced rowStep rowAfter oneTaken firstByte
 computing = tt

@@ -6,8 +6,7 @@ use mathlib.Core.Option.{Option, none, some}
 use mathlib.Core.Path.{_≡_, refl, sym, ap, subst, _∙_}
 use mathlib.Core.Logic.{_⊎_, inl, inr}
 use native.Mathlib.Omega.{arith}
-use lib.ListN.{length, take, length-append}
-use lib.Seq.{take-all, take-length, take-append-le}
+use lib.ListN.{length, length-append}
 use lib.Dec.{eqb, ltb}
 use borrow.Author.Tests.{eqb-true, eqb-false, eq-eqb, ltb-true, ltb-false}
 use Rattle.numbers.specs.Bytes.{beFrom, be, part, numberAt}
@@ -20,7 +19,7 @@ use Rattle.protocol.specs.Layout.{goodGeometry, cardLength, diskLength, 
 use Rattle.protocol.specs.Entry.{unused, entryIn, entryAt, inUse, hasLogRole, goodEntry}
 use Rattle.protocol.specs.Ring.{headOf, tailOf, windowLength, windowOf, usedAt, undoableAt, isSettled}
 use Rattle.protocol.specs.Check.{refuse, cardFits}
-use Rattle.protocol.specs.Store.{Medium, card, disk, Store, Work, madeOn, flat, made, storesOf, answerOf, afterOn, tailStore}
+use Rattle.protocol.specs.Store.{Medium, card, disk, Store, Run, Work, madeOn, flat, made, single, storesOf, answerOf, afterOn, tailStore}
 use Rattle.protocol.specs.Format.{outcomeOf, formatRefusal, formatted, afterFormat}
 use Rattle.protocol.specs.Commit.{commitRefusal, commitRuns, commitWork, headAfter}
 use Rattle.protocol.specs.Load.{loadRuns, loadWork, evictRuns, evictWork}
@@ -31,26 +30,26 @@ use Rattle.protocol.proofs.Allowed.{unused-good, unused-used, unused-ro
 use Rattle.protocol.proofs.Below.{either, absurd-bool, and-left}
 use Rattle.protocol.proofs.Checks.{Limits, limits}
 use Rattle.protocol.proofs.Codec.{entry-of-part, good-header, geometry-of-header, header-formatted, length-formatted, zero-formatted}
-use Rattle.protocol.proofs.Committed.{front, commit-flat, commit-cut, commit-done}
+use Rattle.protocol.proofs.Committed.{front, commit-front, commit-flat, commit-cut, commit-done}
 use Rattle.protocol.proofs.Holds.{geometry-is, recover-refuses, map-made, contents-hold, read-holds, look-holds, read-refuses, look-refuses, idle-kind}
 use Rattle.protocol.proofs.Invariant.{Kind, idle, kindNumber, kindCurrent, kindPrevious}
 use Rattle.protocol.proofs.Loaded.{Rest, eviction, loading}
 use Rattle.protocol.proofs.Passed.{first-zero, second-zero, passed, evict-passed, load-passed, commit-passed}
 use Rattle.protocol.proofs.Recovered.{recovery, settled-by}
 use Rattle.protocol.proofs.Shape.{kindAt, Shape, Inv, window-empty}
-use Rattle.protocol.proofs.Stores.{Along}
+use Rattle.protocol.proofs.Stores.{runs-covered, runs-before, Along}
 
 -- ---- what a call leaves, by its answer
 
 pub data Answered (a : ℕ) (w : Work) : Type 0 where
   refused : (w .refusal ≡ 0 → ⊥) → answerOf a w ≡ Refused (w .refusal) → ((m : Medium) (xs : List ℕ) → afterOn m a w xs ≡ xs) → Answered a w
   cut : w .refusal ≡ 0 → a < length (flat (w .runs)) → answerOf a w ≡ Cut
-      → ((m : Medium) (xs : List ℕ) → afterOn m a w xs ≡ madeOn m (take a (flat (w .runs))) xs) → Answered a w
+      → ((m : Medium) (xs : List ℕ) → afterOn m a w xs ≡ madeOn m (made a (w .choice) (w .runs)) xs) → Answered a w
   done : w .refusal ≡ 0 → answerOf a w ≡ Done (length (flat (w .runs)))
       → ((m : Medium) (xs : List ℕ) → afterOn m a w xs ≡ madeOn m (flat (w .runs)) xs) → Answered a w
 
 pub answered : (a : ℕ) (w : Work) → Answered a w
-unfolding answerOf afterOn storesOf made
+unfolding answerOf afterOn storesOf
 answered a w = go (either (eqb (w .refusal) 0)) (either (ltb a (length (flat (w .runs)))))
   where
     go : (eqb (w .refusal) 0 ≡ true) ⊎ (eqb (w .refusal) 0 ≡ false)
@@ -58,7 +57,7 @@ answered a w = go (either (eqb (w .refusal) 0)) (either (ltb a (length (flat (w 
     go (inr r) s = refused (eqb-false _ _ r) (rw r) (λ m xs. rw r)
     go (inl r) (inl s) = cut (eqb-true _ _ r) (ltb-true _ _ s) (rw (r, s)) (λ m xs. rw r)
     go (inl r) (inr s) =
-        done (eqb-true _ _ r) (rw (r, s)) (λ m xs. rw r (ap (λ (ss : List Store). madeOn m ss xs) (take-all a (flat (w .runs)) (ltb-false _ _ s))))
+        done (eqb-true _ _ r) (rw (r, s)) (λ m xs. rw r (ap (λ (ss : List Store). madeOn m ss xs) (runs-covered a (w .choice) (w .runs) (ltb-false _ _ s))))
 
 -- what the media are after a call of w
 abbrev Left : (List ℕ → List ℕ → Type 0) → ℕ → Work → Media → Type 0
@@ -71,18 +70,20 @@ left-by P a w m {c} {d} p q h =
 
 -- a call whose stores keep P wherever they are cut, and leave Q at their end
 keeps : {P Q : List ℕ → List ℕ → Type 0} (a : ℕ) (w : Work) (m : Media) → P (m .onCard) (m .onDisk)
-    → (w .refusal ≡ 0 → Along P Q (flat (w .runs)) (m .onCard) (m .onDisk)) → Left P a w m
+    → (w .refusal ≡ 0 → Along P Q (w .runs) (m .onCard) (m .onDisk)) → Left P a w m
 keeps {P} {Q} a w m p f = go (answered a w)
   where
     go : Answered a w → Left P a w m
     go (refused n e k) = left-by P a w m (k card (m .onCard)) (k disk (m .onDisk)) p
-    go (cut n l e k) = left-by P a w m (k card (m .onCard)) (k disk (m .onDisk)) (f n .during a)
+    go (cut n l e k) = left-by P a w m (k card (m .onCard)) (k disk (m .onDisk)) (f n .during a (w .choice))
     go (done n e k) =
         left-by P a w m (k card (m .onCard)) (k disk (m .onDisk))
-        (subst (λ (ss : List Store). P (madeOn card ss (m .onCard)) (madeOn disk ss (m .onDisk))) (take-length (flat (w .runs))) (f n .during (length (flat (w .runs)))))
+        (subst (λ (ss : List Store). P (madeOn card ss (m .onCard)) (madeOn disk ss (m .onDisk)))
+        (runs-covered (length (flat (w .runs))) (w .choice) (w .runs) (omega arith))
+        (f n .during (length (flat (w .runs))) (w .choice)))
 
 ends : {P Q : List ℕ → List ℕ → Type 0} (a n : ℕ) (w : Work) (m : Media) → answerOf a w ≡ Done n
-    → (w .refusal ≡ 0 → Along P Q (flat (w .runs)) (m .onCard) (m .onDisk)) → Left Q a w m
+    → (w .refusal ≡ 0 → Along P Q (w .runs) (m .onCard) (m .onDisk)) → Left Q a w m
 ends {P} {Q} a n w m e f = go (answered a w)
   where
     go : Answered a w → Left Q a w m
@@ -93,89 +94,93 @@ ends {P} {Q} a n w m e f = go (answered a w)
 -- ---- the four calls
 
 module _ {g : Geometry} {row : Row} (m : Media) (s : Map) (v : Inv g row (m .onCard) (m .onDisk)) where
-  along-load : (b : ℕ) → loadWork (m .onCard) (m .onDisk) s b .refusal ≡ 0
-      → Along (Inv g row) (Rest g row) (flat (loadWork (m .onCard) (m .onDisk) s b .runs)) (m .onCard) (m .onDisk)
+  along-load : (b : ℕ) (ch : List ℕ) → loadWork (m .onCard) (m .onDisk) s b ch .refusal ≡ 0
+      → Along (Inv g row) (Rest g row) (loadWork (m .onCard) (m .onDisk) s b ch .runs) (m .onCard) (m .onDisk)
   unfolding loadWork
-  along-load b z =
-      subst (λ (y : Geometry). Along (Inv g row) (Rest g row) (flat (loadRuns y (m .onCard) (m .onDisk) b)) (m .onCard) (m .onDisk))
-      (sym (geometry-is v)) (loading v b (load-passed v s b z))
+  along-load b ch z =
+      subst (λ (y : Geometry). Along (Inv g row) (Rest g row) (loadRuns y (m .onCard) (m .onDisk) b) (m .onCard) (m .onDisk))
+      (sym (geometry-is v)) (loading v b (load-passed v s b ch z))
 
-  along-evict : (b : ℕ) → evictWork (m .onCard) (m .onDisk) s b .refusal ≡ 0
-      → Along (Inv g row) (Rest g row) (flat (evictWork (m .onCard) (m .onDisk) s b .runs)) (m .onCard) (m .onDisk)
+  along-evict : (b : ℕ) (ch : List ℕ) → evictWork (m .onCard) (m .onDisk) s b ch .refusal ≡ 0
+      → Along (Inv g row) (Rest g row) (evictWork (m .onCard) (m .onDisk) s b ch .runs) (m .onCard) (m .onDisk)
   unfolding evictWork
-  along-evict b z =
-      subst (λ (y : Geometry). Along (Inv g row) (Rest g row) (flat (evictRuns y (m .onCard) b)) (m .onCard) (m .onDisk))
-      (sym (geometry-is v)) (eviction v b (evict-passed v s b z))
+  along-evict b ch z =
+      subst (λ (y : Geometry). Along (Inv g row) (Rest g row) (evictRuns y (m .onCard) b) (m .onCard) (m .onDisk))
+      (sym (geometry-is v)) (eviction v b (evict-passed v s b ch z))
 
-  along-recover : Along (Inv g row) (Rest g row) (flat (recoverWork (m .onCard) s .runs)) (m .onCard) (m .onDisk)
+  along-recover : Along (Inv g row) (Rest g row) (recoverWork (m .onCard) s .runs) (m .onCard) (m .onDisk)
   unfolding recoverWork
   along-recover =
-      subst (λ (y : Geometry). Along (Inv g row) (Rest g row) (flat (recoverRuns y (m .onCard))) (m .onCard) (m .onDisk))
+      subst (λ (y : Geometry). Along (Inv g row) (Rest g row) (recoverRuns y (m .onCard)) (m .onCard) (m .onDisk))
       (sym (geometry-is v)) (recovery v)
 
   -- a commit: cut before Tail's store it leaves the row, done it replaces its blocks
-  commit-cut-inv : (ns bs : List ℕ) (a : ℕ) → commitRefusal (m .onCard) s ns bs ≡ 0 → a < length (flat (commitRuns g (m .onCard) ns bs))
-      → Inv g row (madeOn card (take a (flat (commitRuns g (m .onCard) ns bs))) (m .onCard)) (madeOn disk (take a (flat (commitRuns g (m .onCard) ns bs))) (m .onDisk))
-  commit-cut-inv ns bs a z l =
-      let ps = commit-passed v s ns bs z in
-      let last = tailStore (headAfter g (m .onCard) (length ns)) ∷ [] in
-      let e = commit-flat ns bs v ps in
-      let short : a ≤ length (front ns bs v ps) = omega (arith, ap length e, length-append (front ns bs v ps) last) in
-      let t : take a (flat (commitRuns g (m .onCard) ns bs)) ≡ take a (front ns bs v ps) = ap (take a) e ∙ take-append-le a (front ns bs v ps) last short in
-      subst (λ (ss : List Store). Inv g row (madeOn card ss (m .onCard)) (madeOn disk ss (m .onDisk))) (sym t) (commit-cut ns bs v ps a)
+  module _ (ns bs ch : List ℕ) where
+    abbrev saving : Work
+    saving = commitWork (m .onCard) s ns bs ch
 
-  keeps-commit : (ns bs : List ℕ) (a : ℕ)
-      → Left (Inv g (rowStep g (commit ns bs) (answerOf a (commitWork (m .onCard) s ns bs)) row)) a (commitWork (m .onCard) s ns bs) m
-  unfolding commitWork rowStep
-  keeps-commit ns bs a = go (answered a (commitWork (m .onCard) s ns bs))
-    where
-      w : Work
-      w = commitWork (m .onCard) s ns bs
+    abbrev runs : Geometry → List Run
+    runs y = commitRuns y (m .onCard) ns bs
 
-      to : {ans : Answer} → answerOf a w ≡ ans → Left (Inv g (rowStep g (commit ns bs) ans row)) a w m → Left (Inv g (rowStep g (commit ns bs) (answerOf a w) row)) a w m
-      to e h = subst (λ (y : Answer). Left (Inv g (rowStep g (commit ns bs) y row)) a w m) (sym e) h
+    commit-cut-inv : (a : ℕ) → commitRefusal (m .onCard) s ns bs ch ≡ 0 → a < length (flat (runs g))
+        → Inv g row (madeOn card (made a ch (runs g)) (m .onCard)) (madeOn disk (made a ch (runs g)) (m .onDisk))
+    commit-cut-inv a z l =
+        let ps = commit-passed v s ns bs ch z in
+        let last = tailStore (headAfter g (m .onCard) (length ns)) in
+        let short : a ≤ length (flat (front ns bs v ps)) =
+        omega (arith, ap length (commit-flat ns bs v ps), length-append (flat (front ns bs v ps)) (last ∷ [])) in
+        let t : made a ch (runs g) ≡ made a ch (front ns bs v ps) =
+        ap (made a ch) (commit-front ns bs v ps) ∙ runs-before a ch (front ns bs v ps) last short in
+        subst (λ (ss : List Store). Inv g row (madeOn card ss (m .onCard)) (madeOn disk ss (m .onDisk))) (sym t) (commit-cut ns bs v ps a ch)
 
-      go : Answered a w → Left (Inv g (rowStep g (commit ns bs) (answerOf a w) row)) a w m
-      go (refused n e k) = to e (left-by (Inv g row) a w m (k card (m .onCard)) (k disk (m .onDisk)) v)
-      go (cut n l e k) =
-          to e
-          (left-by (Inv g row) a w m (k card (m .onCard)) (k disk (m .onDisk))
-          (subst (λ (y : Geometry). Inv g row (madeOn card (take a (flat (commitRuns y (m .onCard) ns bs))) (m .onCard)) (madeOn disk (take a (flat (commitRuns y (m .onCard) ns bs))) (m .onDisk)))
-          (sym (geometry-is v))
-          (commit-cut-inv ns bs a n (subst (λ (y : Geometry). a < length (flat (commitRuns y (m .onCard) ns bs))) (geometry-is v) l))))
-      go (done n e k) =
-          to e
-          (left-by (Inv g (replaced g ns bs row)) a w m (k card (m .onCard)) (k disk (m .onDisk))
-          (subst (λ (y : Geometry). Inv g (replaced g ns bs row) (madeOn card (flat (commitRuns y (m .onCard) ns bs)) (m .onCard)) (madeOn disk (flat (commitRuns y (m .onCard) ns bs)) (m .onDisk)))
-          (sym (geometry-is v)) (commit-done ns bs v (commit-passed v s ns bs n) .0)))
+    keeps-commit : (a : ℕ) → Left (Inv g (rowStep g (commit ns bs ch) (answerOf a saving) row)) a saving m
+    unfolding commitWork rowStep
+    keeps-commit a = go (answered a saving)
+      where
+        to : {ans : Answer} → answerOf a saving ≡ ans → Left (Inv g (rowStep g (commit ns bs ch) ans row)) a saving m
+            → Left (Inv g (rowStep g (commit ns bs ch) (answerOf a saving) row)) a saving m
+        to e h = subst (λ (y : Answer). Left (Inv g (rowStep g (commit ns bs ch) y row)) a saving m) (sym e) h
 
-  settles-commit : (ns bs : List ℕ) (a n : ℕ) → answerOf a (commitWork (m .onCard) s ns bs) ≡ Done n
-      → isSettled g (afterOn card a (commitWork (m .onCard) s ns bs) (m .onCard)) ≡ true
-  unfolding commitWork
-  settles-commit ns bs a n e = go (answered a (commitWork (m .onCard) s ns bs))
-    where
-      go : Answered a (commitWork (m .onCard) s ns bs) → isSettled g (afterOn card a (commitWork (m .onCard) s ns bs) (m .onCard)) ≡ true
-      go (refused z x k) = let y : _≡_ {A = ℕ} 0 1 = cc in absurd (omega arith)
-      go (cut z l x k) = let y : _≡_ {A = ℕ} 0 1 = cc in absurd (omega arith)
-      go (done z x k) =
-          ap (isSettled g) (k card (m .onCard))
-          ∙ subst (λ (y : Geometry). isSettled g (madeOn card (flat (commitRuns y (m .onCard) ns bs)) (m .onCard)) ≡ true)
-          (sym (geometry-is v)) (commit-done ns bs v (commit-passed v s ns bs z) .1)
+        go : Answered a saving → Left (Inv g (rowStep g (commit ns bs ch) (answerOf a saving) row)) a saving m
+        go (refused n e k) = to e (left-by (Inv g row) a saving m (k card (m .onCard)) (k disk (m .onDisk)) v)
+        go (cut n l e k) =
+            to e
+            (left-by (Inv g row) a saving m (k card (m .onCard)) (k disk (m .onDisk))
+            (subst (λ (y : Geometry). Inv g row (madeOn card (made a ch (runs y)) (m .onCard)) (madeOn disk (made a ch (runs y)) (m .onDisk)))
+            (sym (geometry-is v))
+            (commit-cut-inv a n (subst (λ (y : Geometry). a < length (flat (runs y))) (geometry-is v) l))))
+        go (done n e k) =
+            to e
+            (left-by (Inv g (replaced g ns bs row)) a saving m (k card (m .onCard)) (k disk (m .onDisk))
+            (subst (λ (y : Geometry). Inv g (replaced g ns bs row) (madeOn card (flat (runs y)) (m .onCard)) (madeOn disk (flat (runs y)) (m .onDisk)))
+            (sym (geometry-is v)) (commit-done ns bs v (commit-passed v s ns bs ch n) .0)))
+
+    settles-commit : (a n : ℕ) → answerOf a saving ≡ Done n → isSettled g (afterOn card a saving (m .onCard)) ≡ true
+    unfolding commitWork
+    settles-commit a n e = go (answered a saving)
+      where
+        go : Answered a saving → isSettled g (afterOn card a saving (m .onCard)) ≡ true
+        go (refused z x k) = let y : _≡_ {A = ℕ} 0 1 = cc in absurd (omega arith)
+        go (cut z l x k) = let y : _≡_ {A = ℕ} 0 1 = cc in absurd (omega arith)
+        go (done z x k) =
+            ap (isSettled g) (k card (m .onCard))
+            ∙ subst (λ (y : Geometry). isSettled g (madeOn card (flat (runs y)) (m .onCard)) ≡ true)
+            (sym (geometry-is v)) (commit-done ns bs v (commit-passed v s ns bs ch z) .1)
 
   -- every call keeps the invariant, of the row that its answer leaves
   call-keeps : (q : Call) (a : ℕ) → Left (Inv g (rowStep g q (answerOf a (workOf q s m)) row)) a (workOf q s m) m
   unfolding workOf rowStep
-  call-keeps (commit ns bs) a = keeps-commit ns bs a
-  call-keeps (load b) a = keeps a (loadWork (m .onCard) (m .onDisk) s b) m v (along-load b)
-  call-keeps (evict b) a = keeps a (evictWork (m .onCard) (m .onDisk) s b) m v (along-evict b)
+  call-keeps (commit ns bs ch) a = keeps-commit ns bs ch a
+  call-keeps (load b ch) a = keeps a (loadWork (m .onCard) (m .onDisk) s b ch) m v (along-load b ch)
+  call-keeps (evict b ch) a = keeps a (evictWork (m .onCard) (m .onDisk) s b ch) m v (along-evict b ch)
   call-keeps recover a = keeps a (recoverWork (m .onCard) s) m v (λ z. along-recover)
 
   -- every call that answers done leaves the card settled
   call-settles : (q : Call) (a n : ℕ) → answerOf a (workOf q s m) ≡ Done n → isSettled g (afterOn card a (workOf q s m) (m .onCard)) ≡ true
   unfolding workOf
-  call-settles (commit ns bs) a n e = settles-commit ns bs a n e
-  call-settles (load b) a n e = ends {P = Inv g row} {Q = Rest g row} a n (loadWork (m .onCard) (m .onDisk) s b) m e (along-load b) .1
-  call-settles (evict b) a n e = ends {P = Inv g row} {Q = Rest g row} a n (evictWork (m .onCard) (m .onDisk) s b) m e (along-evict b) .1
+  call-settles (commit ns bs ch) a n e = settles-commit ns bs ch a n e
+  call-settles (load b ch) a n e = ends {P = Inv g row} {Q = Rest g row} a n (loadWork (m .onCard) (m .onDisk) s b ch) m e (along-load b ch) .1
+  call-settles (evict b ch) a n e = ends {P = Inv g row} {Q = Rest g row} a n (evictWork (m .onCard) (m .onDisk) s b ch) m e (along-evict b ch) .1
   call-settles recover a n e = ends {P = Inv g row} {Q = Rest g row} a n (recoverWork (m .onCard) s) m e (λ z. along-recover) .1
 
 -- ---- the formatted card

@@ -14,7 +14,7 @@ use Rattle.protocol.specs.declared.Map.{Map}
 use Rattle.protocol.specs.declared.Mapped.{Mapped}
 use Rattle.protocol.specs.declared.Mapped.the-variants.{Is, Refused as RefusedMap}
 use Rattle.protocol.specs.Layout.{geometryOf}
-use Rattle.protocol.specs.Check.{refuse, _orElse_, fitRefusal, diskRefusal, damageRefusal, cardRefusal}
+use Rattle.protocol.specs.Check.{refuse, _orElse_, fitRefusal, diskRefusal, damageRefusal, cardRefusal, choiceRefusal}
 use Rattle.protocol.specs.Store.{card, Work, answerOf, afterOn}
 use Rattle.protocol.specs.Map.{mapOf, sameMap, mapRefusal, makeRefusal, madeMap, handedOn, mapAfter}
 use Rattle.protocol.specs.Commit.{saveRefusal, commitRefusal, commitWork}
@@ -71,28 +71,35 @@ module _ (c : List ℕ) where
   unfolding blockRefusal
   other-block b = other-refuse 10 _ (λ e. omega arith)
 
-  other-commit : (ns bs : List ℕ) → Other (commitRefusal c (mapOf c) ns bs)
+  other-choice : (ch : List ℕ) → Other (choiceRefusal (geometryOf c) ch)
+  unfolding choiceRefusal
+  other-choice ch = other-refuse 17 _ (λ e. omega arith)
+
+  other-commit : (ns bs ch : List ℕ) → Other (commitRefusal c (mapOf c) ns bs ch)
   unfolding commitRefusal saveRefusal
-  other-commit ns bs =
+  other-commit ns bs ch =
       other-else _ _ other-fit
       (other-else _ _ (other-card (geometryOf c))
       (other-else _ _ other-map
       (other-else _ _ (other-refuse 8 _ (λ e. omega arith))
       (other-else _ _ (other-refuse 9 _ (λ e. omega arith))
+      (other-else _ _ (other-choice ch)
       (other-else _ _ (other-refuse 10 _ (λ e. omega arith))
-      (other-else _ _ (other-refuse 11 _ (λ e. omega arith)) (other-refuse 14 _ (λ e. omega arith))))))))
+      (other-else _ _ (other-refuse 11 _ (λ e. omega arith)) (other-refuse 14 _ (λ e. omega arith)))))))))
 
-  other-load : (d : List ℕ) (b : ℕ) → Other (loadRefusal c d (mapOf c) b)
+  other-load : (d : List ℕ) (b : ℕ) (ch : List ℕ) → Other (loadRefusal c d (mapOf c) b ch)
   unfolding loadRefusal
-  other-load d b =
+  other-load d b ch =
       other-else _ _ (other-pair d)
       (other-else _ _ other-map
-      (other-else _ _ (other-block b) (other-else _ _ (other-refuse 12 _ (λ e. omega arith)) (other-refuse 14 _ (λ e. omega arith)))))
+      (other-else _ _ (other-choice ch)
+      (other-else _ _ (other-block b) (other-else _ _ (other-refuse 12 _ (λ e. omega arith)) (other-refuse 14 _ (λ e. omega arith))))))
 
-  other-evict : (d : List ℕ) (b : ℕ) → Other (evictRefusal c d (mapOf c) b)
+  other-evict : (d : List ℕ) (b : ℕ) (ch : List ℕ) → Other (evictRefusal c d (mapOf c) b ch)
   unfolding evictRefusal
-  other-evict d b =
-      other-else _ _ (other-pair d) (other-else _ _ other-map (other-else _ _ (other-block b) (other-refuse 13 _ (λ e. omega arith))))
+  other-evict d b ch =
+      other-else _ _ (other-pair d)
+      (other-else _ _ other-map (other-else _ _ (other-choice ch) (other-else _ _ (other-block b) (other-refuse 13 _ (λ e. omega arith)))))
 
   other-recover : Other (recoverRefusal c (mapOf c))
   unfolding recoverRefusal makeRefusal
@@ -100,9 +107,9 @@ module _ (c : List ℕ) where
 
 other-call : (q : Call) (m : Media) → Other (workOf q (mapOf (m .onCard)) m .refusal)
 unfolding workOf commitWork loadWork evictWork recoverWork
-other-call (commit ns bs) m = other-commit (m .onCard) ns bs
-other-call (load b) m = other-load (m .onCard) (m .onDisk) b
-other-call (evict b) m = other-evict (m .onCard) (m .onDisk) b
+other-call (commit ns bs ch) m = other-commit (m .onCard) ns bs ch
+other-call (load b ch) m = other-load (m .onCard) (m .onDisk) b ch
+other-call (evict b ch) m = other-evict (m .onCard) (m .onDisk) b ch
 other-call recover m = other-recover (m .onCard)
 
 -- ---- the station's calls

@@ -8,7 +8,6 @@ use mathlib.Core.Path.{_≡_, refl, sym, ap, subst, _∙_}
 use mathlib.Core.Logic.{_⊎_, inr, ⊎-elim}
 use native.Mathlib.Omega.{arith}
 use lib.ListN.{length, getD}
-use lib.Seq.{take-length}
 use lib.Dec.{eqb, leb}
 use borrow.Author.Tests.{eq-eqb, eqb-true, eqb-false, leb-true, ltb-true}
 use Rattle.numbers.specs.Bytes.{part}
@@ -19,7 +18,7 @@ use Rattle.protocol.specs.Below.{anyBelow, eachBelow}
 use Rattle.protocol.specs.Layout.{geometryOf, blockAt, diskBlock, entryPlace}
 use Rattle.protocol.specs.Entry.{FRESH, entryOf, unused, entryBytes, entryIn, entryAt, inUse, isModified, goodEntry, switched, undone}
 use Rattle.protocol.specs.Ring.{headOf, usedAt, undoableAt, isSettled, findEntry, cached, currentOf}
-use Rattle.protocol.specs.Check.{refuse, _orElse_, goodEntryAt, entriesFit, fitRefusal, diskRefusal, damageRefusal, cardRefusal}
+use Rattle.protocol.specs.Check.{refuse, _orElse_, goodEntryAt, entriesFit, fitRefusal, diskRefusal, damageRefusal, cardRefusal, choiceRefusal}
 use Rattle.protocol.specs.Store.{card, Store, Run, storedOn, madeOn, flat, single, words, sectors, entryStore, tailStore}
 use Rattle.protocol.specs.Search.{freeBlocks, unusedEntries}
 use Rattle.protocol.specs.Map.{mapBy, isMarked, mapOf, mapRefusal, makeRefusal}
@@ -105,24 +104,24 @@ made-evict g fit c b = go (isModified (entryAt g c (findEntry g c b)))
         → madeOn card (flat (cond t (sectors g b (blockAt g c (currentOf g c b)) ∷ []) [] ++ single (entryStore g (findEntry g c b) unused))) c
         ≡ storedOn card (entryStore g (findEntry g c b) unused) c
     go true =
-        made-append card (sectors g b (blockAt g c (currentOf g c b))) (entryStore g (findEntry g c b) unused ∷ []) c
+        let ss = sectors g b (blockAt g c (currentOf g c b)) .stores in
+        made-append card ss (entryStore g (findEntry g c b) unused ∷ []) c
         ∙ ap (storedOn card (entryStore g (findEntry g c b) unused))
-        (subst (λ (ss : List Store). madeOn card ss c ≡ c) (take-length (sectors g b (blockAt g c (currentOf g c b))))
-        (sectors-elsewhere g fit b (blockAt g c (currentOf g c b)) (length (sectors g b (blockAt g c (currentOf g c b)))) c))
+        (sectors-elsewhere g fit b (blockAt g c (currentOf g c b)) ss (λ m at n h. h) c)
     go false = refl
 
 -- a bit cleared, and nothing set
 cleared : (a b e : Bool) → b ≡ true → (a && not (b && e)) || (false && false) ≡ a && not e
 cleared a b e h = rw h (or-none (a && not e))
 
-pub evict-map : (c d : List ℕ) (m : Map) (b : ℕ) → evictRefusal c d m b ≡ 0
+pub evict-map : (c d : List ℕ) (m : Map) (b : ℕ) (ch : List ℕ) → evictRefusal c d m b ch ≡ 0
     → mapOf (madeOn card (flat (evictRuns (geometryOf c) c b)) c)
     ≡ mapBy (λ x. isMarked (geometryOf c) c x && not (eqb (currentOf (geometryOf c) c b) x))
 unfolding evictRefusal pairRefusal currentOf
-evict-map c d m b z =
+evict-map c d m b ch z =
     let g = geometryOf c in
     let (pair, more) = orElse-none (pairRefusal c d) _ z in
-    let own = orElse-none (blockRefusal g b) _ (orElse-none (mapRefusal c m) _ more .1) .1 in
+    let own = orElse-none (blockRefusal g b) _ (orElse-none (choiceRefusal g ch) _ (orElse-none (mapRefusal c m) _ more .1) .1) .1 in
     let (fit, rest) = orElse-none (fitRefusal c) _ pair in
     let w = pair-intact c fit d rest .0 in
     let k = cached-entry g c b (refuse-none 13 _ (omega arith) own) in
@@ -146,14 +145,14 @@ put a b x e f p q = (λ t. (a && not (p t && x)) || (q t && e)) ∙ ap (λ (y : 
     and-true true = refl
     and-true false = refl
 
-pub load-map : (c d : List ℕ) (m : Map) (b : ℕ) → loadRefusal c d m b ≡ 0
+pub load-map : (c d : List ℕ) (m : Map) (b : ℕ) (ch : List ℕ) → loadRefusal c d m b ch ≡ 0
     → mapOf (madeOn card (flat (loadRuns (geometryOf c) c d b)) c)
     ≡ mapBy (λ x. isMarked (geometryOf c) c x || eqb (newBlock (geometryOf c) c 0) x)
 unfolding loadRefusal pairRefusal blockRefusal roomFor loadRuns flat single cleanEntry madeOn
-load-map c d m b z =
+load-map c d m b ch z =
     let g = geometryOf c in
     let (pair, more) = orElse-none (pairRefusal c d) _ z in
-    let (ten, own) = orElse-none (blockRefusal g b) _ (orElse-none (mapRefusal c m) _ more .1) in
+    let (ten, own) = orElse-none (blockRefusal g b) _ (orElse-none (choiceRefusal g ch) _ (orElse-none (mapRefusal c m) _ more .1) .1) in
     let last = orElse-none (refuse 12 (not (cached g c b))) _ own .1 in
     let room : 1 ≤ length (freeBlocks g c) = leb-true _ _ (refuse-none 14 (leb 1 (length (freeBlocks g c))) (omega arith) last) in
     let (fit, rest) = orElse-none (fitRefusal c) _ pair in
@@ -163,7 +162,7 @@ load-map c d m b z =
     let i = getD (unusedEntries g c) 0 0 in
     let bs = diskBlock g d b in
     let e = entryOf 0x80 b FRESH q in
-    let c₁ = madeOn card (words g q bs) c in
+    let c₁ = madeOn card (words g q bs .stores) c in
     let free = new-below v 0 (omega arith) in
     let few : 0 < length (unusedEntries g c) = omega (arith, enough-unused v) in
     let spare = unused-below v 0 few in
@@ -173,7 +172,7 @@ load-map c d m b z =
     used-good (g .blocks) (g .disk) e
     (record { flag = clean refl; numberBelow = ltb-true _ _ (refuse-none 10 _ (omega arith) ten); currentBelow = free; previousBelow = inr refl }) in
     let now = entry-stored g c₁ i e spare (ch₁ .sized ∙ w .sized) (entry-fits g (w .good) e good) in
-    ap mapOf (made-append card (words g q bs) (entryStore g i e ∷ []) c)
+    ap mapOf (made-append card (words g q bs .stores) (entryStore g i e ∷ []) c)
     ∙ one-entry _ w i e spare
     (header-kept ch (λ x y. omega arith) ∙ header-kept ch₁ (λ x y. omega arith))
     (λ j h n. entry-kept ch j h (λ x y. n (sym y)) ∙ entry-kept ch₁ j h (λ x y. omega arith))
@@ -279,18 +278,18 @@ module _ {g : Geometry} {row : ℕ → List ℕ} {c d : List ℕ} (ns bs : List 
       map-moves w commit-moves
       ∙ map-cong _ _ (λ x l. either-way (isMarked g c x) (among (oldBlock g c ns) (length ns) x) (among (newBlock g c) (length ns) x) (apart x l))
 
-pub commit-map : (c : List ℕ) (m : Map) (ns bs : List ℕ) → commitRefusal c m ns bs ≡ 0
+pub commit-map : (c : List ℕ) (m : Map) (ns bs ch : List ℕ) → commitRefusal c m ns bs ch ≡ 0
     → mapOf (madeOn card (flat (commitRuns (geometryOf c) c ns bs)) c)
     ≡ mapBy (λ x.
     (isMarked (geometryOf c) c x || anyBelow (λ j. eqb (newBlock (geometryOf c) c j) x) (length ns))
     && not (anyBelow (λ j. eqb (oldBlock (geometryOf c) c ns j) x) (length ns)))
 unfolding commitRefusal
-commit-map c m ns bs z =
+commit-map c m ns bs ch z =
     let g = geometryOf c in
     let (fit, more) = orElse-none (fitRefusal c) _ z in
     let (w, s) = card-intact c fit (orElse-none (cardRefusal g c) _ more .0) in
     let v = lawful w s in
-    commit-leaves ns bs w v (commit-passed v m ns bs z)
+    commit-leaves ns bs w v (commit-passed v m ns bs ch z)
 
 -- ---- recovery
 

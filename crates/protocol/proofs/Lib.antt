@@ -7,6 +7,7 @@ pub mod Committed
 pub mod Computing
 pub mod CutRule
 pub mod Example
+pub mod Fence
 pub mod Handed
 pub mod Holds
 pub mod Invariant

@@ -6,8 +6,7 @@ use mathlib.Core.Option.{Option, none, some}
 use mathlib.Core.Path.{_≡_, refl, sym, ap, subst, _∙_}
 use mathlib.Core.Logic.{_⊎_, inl, inr, ⊎-elim}
 use native.Mathlib.Omega.{arith}
-use lib.ListN.{length, take, getD}
-use lib.Seq.{take-length}
+use lib.ListN.{length, getD}
 use lib.Dec.{eqb}
 use borrow.Author.Tests.{leb-true, ltb-true, ltb-false, eqb-true, not-true}
 use Rattle.numbers.proofs.Laws.{length-part}
@@ -32,7 +31,7 @@ use Rattle.protocol.proofs.Recovered.{fits-entry, idle-owes, settled-by
 use Rattle.protocol.proofs.Region.{entry, block, in-card, place-block}
 use Rattle.protocol.proofs.Shape.{Changed, head-kept, tail-kept, entry-kept, kindOf, kindAt, viewOf, Seen, seen-idle, seen-live, seen-pending, see, Inv}
 use Rattle.protocol.proofs.Steps.{undoable, entry-changes, run-in-block, run-in-home, block-kinds}
-use Rattle.protocol.proofs.Stores.{Along, along-then, along-none, along-one, along-run, flat-append, flat-single, length-made}
+use Rattle.protocol.proofs.Stores.{Some, Along, along-then, along-none, along-one, along-run, length-made}
 
 -- the invariant, of a settled card
 abbrev pub Rest : (g : Geometry) (row : ℕ → List ℕ) → List ℕ → List ℕ → Type 0
@@ -122,44 +121,41 @@ module _ {g : Geometry} {row : ℕ → List ℕ} {c d : List ℕ} (v : Inv g row
       length-part c (blockPlace g (e .current)) (blockSize g)
       (omega (arith, v .shape .cardSized, in-card g (block (e .current)) (omega arith) l, place-block g (e .current)))
 
-  written : Along (Inv g row) Written (flat (writeBack g c b)) c d
-  unfolding writeBack flat currentOf e i
+  written : Along (Inv g row) Written (writeBack g c b) c d
+  unfolding writeBack currentOf e i
   written = go (isModified e) refl
     where
       fit : Limits g
       fit = limits g (v .shape .good)
 
       go : (m : Bool) → isModified e ≡ m
-          → Along (Inv g row) Written (flat (cond m (sectors g b (blockAt g c (e .current)) ∷ []) [])) c d
+          → Along (Inv g row) Written (cond m (sectors g b (blockAt g c (e .current)) ∷ []) []) c d
       go false h =
           along-none c d v
           (record { inv = v; same = refl; home = sym (v .safe .clean i b (e .current) (at .below) (live-at ∙ ap (λ (m : Bool). live m b (e .current)) h)) ∙ held-at })
       go true h =
-          subst (λ (ss : List Store). Along (Inv g row) Written ss c d) (sym (append-nil (sectors g b (blockAt g c (e .current)))))
-          (along-run (sectors g b (blockAt g c (e .current))) c d cut end)
+          along-run (sectors g b (blockAt g c (e .current))) c d cut end
         where
           bs : List ℕ
           bs = blockAt g c (e .current)
 
-          cut : (a : ℕ) → Inv g row (madeOn card (take a (sectors g b bs)) c) (madeOn disk (take a (sectors g b bs)) d)
-          cut a =
-              subst (λ (z : List ℕ). Inv g row z (madeOn disk (take a (sectors g b bs)) d)) (sym (sectors-elsewhere g fit b bs a c))
-              (run-in-home b i (e .current) v (length-made disk (take a (sectors g b bs)) d)
-              (λ x l k. sectors-others g fit b bs a d x k)
+          cut : (ts : List Store) → Some ts (sectors g b bs .stores) → Inv g row (madeOn card ts c) (madeOn disk ts d)
+          cut ts w =
+              subst (λ (z : List ℕ). Inv g row z (madeOn disk ts d)) (sym (sectors-elsewhere g fit b bs ts w c))
+              (run-in-home b i (e .current) v (length-made disk ts d)
+              (λ x l k. sectors-others g fit b bs ts w d x k)
               (at .below) (live-at ∙ ap (λ (m : Bool). live m b (e .current)) h))
 
-          end : Inv g row (madeOn card (sectors g b bs) c) (madeOn disk (sectors g b bs) d)
-              → Written (madeOn card (sectors g b bs) c) (madeOn disk (sectors g b bs) d)
+          end : Inv g row (madeOn card (sectors g b bs .stores) c) (madeOn disk (sectors g b bs .stores) d)
+              → Written (madeOn card (sectors g b bs .stores) c) (madeOn disk (sectors g b bs .stores) d)
           end w =
               record {
                 inv = w;
-                same =
-                    subst (λ (ss : List Store). madeOn card ss c ≡ c) (take-length (sectors g b bs))
-                    (sectors-elsewhere g fit b bs (length (sectors g b bs)) c);
+                same = sectors-elsewhere g fit b bs (sectors g b bs .stores) (λ m at n h. h) c;
                 home = sectors-stored g fit b bs d block-length (v .shape .diskSized) (p .inDisk) ∙ held-at;
               }
 
-  cleared : (c′ d′ : List ℕ) → Written c′ d′ → Along (Inv g row) (Rest g row) (entryStore g i unused ∷ []) c′ d′
+  cleared : (c′ d′ : List ℕ) → Written c′ d′ → Along (Inv g row) (Rest g row) (single (entryStore g i unused)) c′ d′
   cleared c′ d′ w = along-one (entryStore g i unused) c′ d′ (w .inv) after (after, settled-entry i settled′ ch (ap hasLogRole new ∙ unused-role))
     where
       ch : Changed g (entry i) c′ (storedOn card (entryStore g i unused) c′)
@@ -197,12 +193,9 @@ module _ {g : Geometry} {row : ℕ → List ℕ} {c d : List ℕ} (v : Inv g row
           undoable-is : (x : Bool) → undoable x unused ≡ inUse unused && (hasLogRole unused || x)
           undoable-is x = unfold undoable in refl
 
-  pub eviction : Along (Inv g row) (Rest g row) (flat (evictRuns g c b)) c d
+  pub eviction : Along (Inv g row) (Rest g row) (evictRuns g c b) c d
   unfolding evictRuns i
-  eviction =
-      subst (λ (ss : List Store). Along (Inv g row) (Rest g row) ss c d)
-      (sym (flat-append (writeBack g c b) (single (entryStore g i unused)) ∙ ap (λ (ss : List Store). flat (writeBack g c b) ++ ss) (flat-single (entryStore g i unused))))
-      (along-then (flat (writeBack g c b)) (entryStore g i unused ∷ []) c d written cleared)
+  eviction = along-then (writeBack g c b) (single (entryStore g i unused)) c d written cleared
 
 -- ---- load
 
@@ -258,7 +251,7 @@ module _ {g : Geometry} {row : ℕ → List ℕ} {c d : List ℕ} (v : Inv g row
     same : d′ ≡ d
     copy : blockAt g c′ q ≡ diskBlock g d b
 
-  copied : Along (Inv g row) Copied (words g q (diskBlock g d b)) c d
+  copied : Along (Inv g row) Copied (words g q (diskBlock g d b) ∷ []) c d
   copied = along-run (words g q (diskBlock g d b)) c d cut end
     where
       fit : Limits g
@@ -270,22 +263,22 @@ module _ {g : Geometry} {row : ℕ → List ℕ} {c d : List ℕ} (v : Inv g row
       bs-length : length (diskBlock g d b) ≡ blockSize g
       bs-length = disk-block-length g d b (v .shape .diskSized) (p .inDisk)
 
-      cut : (a : ℕ) → Inv g row (madeOn card (take a (words g q bs)) c) (madeOn disk (take a (words g q bs)) d)
-      cut a =
-          subst (Inv g row (madeOn card (take a (words g q bs)) c)) (sym (words-elsewhere g fit q bs q-below a d))
-          (run-in-block q v (words-changed g fit q bs q-below a c) no-current (λ i l e. never-previous i q l e))
+      cut : (ts : List Store) → Some ts (words g q bs .stores) → Inv g row (madeOn card ts c) (madeOn disk ts d)
+      cut ts w =
+          subst (Inv g row (madeOn card ts c)) (sym (words-elsewhere g fit q bs q-below ts w d))
+          (run-in-block q v (words-changed g fit q bs q-below ts w c) no-current (λ i l e. never-previous i q l e))
 
-      end : Inv g row (madeOn card (words g q bs) c) (madeOn disk (words g q bs) d)
-          → Copied (madeOn card (words g q bs) c) (madeOn disk (words g q bs) d)
+      end : Inv g row (madeOn card (words g q bs .stores) c) (madeOn disk (words g q bs .stores) d)
+          → Copied (madeOn card (words g q bs .stores) c) (madeOn disk (words g q bs .stores) d)
       end w =
           record {
             inv = w;
             changed = words-changed-all g fit q bs q-below c;
-            same = subst (λ (ss : List Store). madeOn disk ss d ≡ d) (take-length (words g q bs)) (words-elsewhere g fit q bs q-below (length (words g q bs)) d);
+            same = words-elsewhere g fit q bs q-below (words g q bs .stores) (λ m at n h. h) d;
             copy = words-stored g fit q bs q-below c bs-length (v .shape .cardSized);
           }
 
-  entered : (c′ d′ : List ℕ) → Copied c′ d′ → Along (Inv g row) (Rest g row) (entryStore g place-of new-entry ∷ []) c′ d′
+  entered : (c′ d′ : List ℕ) → Copied c′ d′ → Along (Inv g row) (Rest g row) (single (entryStore g place-of new-entry)) c′ d′
   unfolding new-entry
   entered c′ d′ w =
       along-one (entryStore g place-of new-entry) c′ d′ (w .inv) after
@@ -349,6 +342,6 @@ module _ {g : Geometry} {row : ℕ → List ℕ} {c d : List ℕ} (v : Inv g row
           undoable-is : (x : Bool) → undoable x new-entry ≡ inUse new-entry && (hasLogRole new-entry || x)
           undoable-is x = unfold undoable in refl
 
-  pub loading : Along (Inv g row) (Rest g row) (flat (loadRuns g c d b)) c d
-  unfolding loadRuns cleanEntry flat single q place-of new-entry
-  loading = along-then (words g q (diskBlock g d b)) (entryStore g place-of new-entry ∷ []) c d copied entered
+  pub loading : Along (Inv g row) (Rest g row) (loadRuns g c d b) c d
+  unfolding loadRuns cleanEntry q place-of new-entry
+  loading = along-then (words g q (diskBlock g d b) ∷ []) (single (entryStore g place-of new-entry)) c d copied entered

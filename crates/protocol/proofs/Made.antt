@@ -5,8 +5,7 @@ use mathlib.Core.List.{List}
 use mathlib.Core.Path.{_≡_, refl, sym, ap, subst, _∙_}
 use mathlib.Core.Logic.{_⊎_, inl, inr, ⊎-elim}
 use native.Mathlib.Omega.{arith}
-use lib.ListN.{length, take}
-use lib.Seq.{take-length}
+use lib.ListN.{length}
 use Rattle.numbers.specs.Bytes.{bytesBE, part, patch, numberAt}
 use Rattle.numbers.proofs.Laws.{length-bytes, length-patch, number-patch-same}
 use Rattle.protocol.specs.declared.Entry.{Entry}
@@ -20,7 +19,7 @@ use Rattle.protocol.proofs.Checks.{Limits}
 use Rattle.protocol.proofs.Codec.{EntryFits, entry-read-back, length-entry}
 use Rattle.protocol.proofs.Region.{Region, head, tail, slot, entry, block, place, size, Inside, whole, cell, cell-other, in-card, block-ends, regions-apart, place-slot, place-entry, place-block}
 use Rattle.protocol.proofs.Shape.{Changed}
-use Rattle.protocol.proofs.Stores.{Confined, confined-take, confined-part, confined-elsewhere, units-confined, units-stored, length-made}
+use Rattle.protocol.proofs.Stores.{Confined, Some, confined-part, confined-elsewhere, units-confined, units-stored, length-made}
 
 -- bytes put over a part change that part alone
 put-changes : (g : Geometry) (c : List ℕ) (r : Region) (at : ℕ) (bs : List ℕ) → Inside g r → place g r ≡ at → length bs ≡ size g r
@@ -90,37 +89,35 @@ slot-elsewhere i v d = refl
 -- ---- the words of a data block
 
 module _ (g : Geometry) (fit : Limits g) (q : ℕ) (bs : List ℕ) (l : q < g .blocks) where
-  words-confined : Confined card (place g (block q)) (blockSize g) (words g q bs)
+  words-confined : Confined card (place g (block q)) (blockSize g) (words g q bs .stores)
   unfolding words
   words-confined =
       subst (λ (n : ℕ). Confined card (place g (block q)) n (units card 8 (blockSize g / 8) (blockPlace g q) bs)) (whole g fit .in-words)
       (subst (λ (at : ℕ). Confined card at (blockSize g / 8 * 8) (units card 8 (blockSize g / 8) (blockPlace g q) bs)) (sym (place-block g q))
       (units-confined card 8 (blockSize g / 8) (blockPlace g q) bs))
 
-  -- wherever the run is cut, nothing outside the block has changed
-  pub words-changed : (a : ℕ) (c : List ℕ) → Changed g (block q) c (madeOn card (take a (words g q bs)) c)
+  -- whichever of its stores are made, nothing outside the block has changed
+  pub words-changed : (ts : List Store) → Some ts (words g q bs .stores) → (c : List ℕ) → Changed g (block q) c (madeOn card ts c)
   unfolding cell
-  words-changed a c =
+  words-changed ts w c =
       record {
-        sized = length-made card (take a (words g q bs)) c;
+        sized = length-made card ts c;
         others = λ s i d.
-            confined-part card (place g (block q)) (blockSize g) (take a (words g q bs)) c (place g s) (size g s)
-            (confined-take card (place g (block q)) (blockSize g) a (words g q bs) words-confined)
+            confined-part card (place g (block q)) (blockSize g) ts c (place g s) (size g s)
+            (w card (place g (block q)) (blockSize g) words-confined)
             (regions-apart g (block q) s l i d);
       }
 
-  pub words-changed-all : (c : List ℕ) → Changed g (block q) c (madeOn card (words g q bs) c)
-  words-changed-all c =
-      subst (λ (ss : List Store). Changed g (block q) c (madeOn card ss c)) (take-length (words g q bs)) (words-changed (length (words g q bs)) c)
+  pub words-changed-all : (c : List ℕ) → Changed g (block q) c (madeOn card (words g q bs .stores) c)
+  words-changed-all c = words-changed (words g q bs .stores) (λ m at n h. h) c
 
-  pub words-elsewhere : (a : ℕ) (d : List ℕ) → madeOn disk (take a (words g q bs)) d ≡ d
+  pub words-elsewhere : (ts : List Store) → Some ts (words g q bs .stores) → (d : List ℕ) → madeOn disk ts d ≡ d
   unfolding isOn
-  words-elsewhere a d =
-      confined-elsewhere card disk (place g (block q)) (blockSize g) (take a (words g q bs)) d
-      (confined-take card (place g (block q)) (blockSize g) a (words g q bs) words-confined) refl
+  words-elsewhere ts w d =
+      confined-elsewhere card disk (place g (block q)) (blockSize g) ts d (w card (place g (block q)) (blockSize g) words-confined) refl
 
   -- and once it is made, the block holds the bytes
-  pub words-stored : (c : List ℕ) → length bs ≡ blockSize g → length c ≡ cardLength g → blockAt g (madeOn card (words g q bs) c) q ≡ bs
+  pub words-stored : (c : List ℕ) → length bs ≡ blockSize g → length c ≡ cardLength g → blockAt g (madeOn card (words g q bs .stores) c) q ≡ bs
   unfolding words blockAt
   words-stored c n e =
       let h : blockPlace g q + length bs ≤ length c = omega (arith, in-card g (block q) (omega arith) l, place-block g q) in
@@ -145,28 +142,27 @@ homes-apart g a b h =
     (below-or-above a b)
 
 module _ (g : Geometry) (fit : Limits g) (b : ℕ) (bs : List ℕ) where
-  sectors-confined : Confined disk (diskPlace g b) (blockSize g) (sectors g b bs)
+  sectors-confined : Confined disk (diskPlace g b) (blockSize g) (sectors g b bs .stores)
   unfolding sectors
   sectors-confined =
       subst (λ (n : ℕ). Confined disk (diskPlace g b) n (units disk 512 (blockSize g / 512) (diskPlace g b) bs)) (whole g fit .in-sectors)
       (units-confined disk 512 (blockSize g / 512) (diskPlace g b) bs)
 
-  -- wherever the run is cut, no other disk block has changed
-  pub sectors-others : (k : ℕ) (d : List ℕ) (a : ℕ) → (a ≡ b → ⊥) → diskBlock g (madeOn disk (take k (sectors g b bs)) d) a ≡ diskBlock g d a
+  -- whichever of its stores are made, no other disk block has changed
+  pub sectors-others : (ts : List Store) → Some ts (sectors g b bs .stores) → (d : List ℕ) (a : ℕ) → (a ≡ b → ⊥)
+      → diskBlock g (madeOn disk ts d) a ≡ diskBlock g d a
   unfolding diskBlock
-  sectors-others k d a h =
-      confined-part disk (diskPlace g b) (blockSize g) (take k (sectors g b bs)) d (diskPlace g a) (blockSize g)
-      (confined-take disk (diskPlace g b) (blockSize g) k (sectors g b bs) sectors-confined)
+  sectors-others ts w d a h =
+      confined-part disk (diskPlace g b) (blockSize g) ts d (diskPlace g a) (blockSize g) (w disk (diskPlace g b) (blockSize g) sectors-confined)
       (homes-apart g a b h)
 
-  pub sectors-elsewhere : (k : ℕ) (c : List ℕ) → madeOn card (take k (sectors g b bs)) c ≡ c
+  pub sectors-elsewhere : (ts : List Store) → Some ts (sectors g b bs .stores) → (c : List ℕ) → madeOn card ts c ≡ c
   unfolding isOn
-  sectors-elsewhere k c =
-      confined-elsewhere disk card (diskPlace g b) (blockSize g) (take k (sectors g b bs)) c
-      (confined-take disk (diskPlace g b) (blockSize g) k (sectors g b bs) sectors-confined) refl
+  sectors-elsewhere ts w c =
+      confined-elsewhere disk card (diskPlace g b) (blockSize g) ts c (w disk (diskPlace g b) (blockSize g) sectors-confined) refl
 
   pub sectors-stored : (d : List ℕ) → length bs ≡ blockSize g → length d ≡ diskLength g → b < g .disk
-      → diskBlock g (madeOn disk (sectors g b bs) d) b ≡ bs
+      → diskBlock g (madeOn disk (sectors g b bs .stores) d) b ≡ bs
   unfolding sectors diskBlock
   sectors-stored d n e l =
       let h : diskPlace g b + length bs ≤ length d = omega (arith, in-disk g b l) in

@@ -10,7 +10,7 @@ use borrow.Author.Tests.{ltb-true, not-true}
 use Rattle.protocol.specs.declared.Geometry.{Geometry}
 use Rattle.protocol.specs.declared.Map.{Map}
 use Rattle.protocol.specs.Ring.{isSettled, cached}
-use Rattle.protocol.specs.Check.{refuse, _orElse_, fitRefusal, cardRefusal}
+use Rattle.protocol.specs.Check.{refuse, _orElse_, fitRefusal, cardRefusal, choiceRefusal}
 use Rattle.protocol.specs.Map.{mapRefusal}
 use Rattle.protocol.specs.Commit.{countFits, dataFits, numbersFit, numbersApart, roomFor, saveRefusal, commitRefusal}
 use Rattle.protocol.specs.Load.{pairRefusal, blockRefusal, loadRefusal, evictRefusal}
@@ -52,31 +52,37 @@ pub record CommitPassed (g : Geometry) (c ns bs : List ℕ) : Type 0 where
   pub room : roomFor g c (length ns) ≡ true
 
 module _ {g : Geometry} {row : ℕ → List ℕ} {c d : List ℕ} (v : Inv g row c d) where
-  pub evict-passed : (s : Map) (b : ℕ) → evictRefusal c d s b ≡ 0 → EvictPassed g c b
+  pub evict-passed : (s : Map) (b : ℕ) (ch : List ℕ) → evictRefusal c d s b ch ≡ 0 → EvictPassed g c b
   unfolding evictRefusal blockRefusal
-  evict-passed s b z =
+  evict-passed s b ch z =
       let e =
       ap
-      (λ (y : Geometry). pairRefusal c d orElse mapRefusal c s orElse refuse 10 (ltb b (y .disk)) orElse refuse 13 (cached y c b))
+      (λ (y : Geometry).
+      pairRefusal c d orElse mapRefusal c s orElse choiceRefusal y ch orElse refuse 10 (ltb b (y .disk)) orElse refuse 13 (cached y c b))
       (sym (geometry-is v))
       ∙ z in
-      let own = second-zero (mapRefusal c s) _ (second-zero (pairRefusal c d) _ e) in
+      let own = second-zero (choiceRefusal g ch) _ (second-zero (mapRefusal c s) _ (second-zero (pairRefusal c d) _ e)) in
       record {
         settled = passed 6 _ (sym (pair-refuses v) ∙ first-zero (pairRefusal c d) _ e);
         inDisk = ltb-true _ _ (passed 9 _ (first-zero _ (refuse 13 (cached g c b)) own));
         isCached = passed 12 _ (second-zero (refuse 10 (ltb b (g .disk))) _ own);
       }
 
-  pub load-passed : (s : Map) (b : ℕ) → loadRefusal c d s b ≡ 0 → LoadPassed g c b
+  pub load-passed : (s : Map) (b : ℕ) (ch : List ℕ) → loadRefusal c d s b ch ≡ 0 → LoadPassed g c b
   unfolding loadRefusal blockRefusal
-  load-passed s b z =
+  load-passed s b ch z =
       let e =
       ap
       (λ (y : Geometry).
-      pairRefusal c d orElse mapRefusal c s orElse refuse 10 (ltb b (y .disk)) orElse refuse 12 (not (cached y c b)) orElse refuse 14 (roomFor y c 1))
+      pairRefusal c d
+      orElse mapRefusal c s
+      orElse choiceRefusal y ch
+      orElse refuse 10 (ltb b (y .disk))
+      orElse refuse 12 (not (cached y c b))
+      orElse refuse 14 (roomFor y c 1))
       (sym (geometry-is v))
       ∙ z in
-      let own = second-zero (mapRefusal c s) _ (second-zero (pairRefusal c d) _ e) in
+      let own = second-zero (choiceRefusal g ch) _ (second-zero (mapRefusal c s) _ (second-zero (pairRefusal c d) _ e)) in
       let more = second-zero (refuse 10 (ltb b (g .disk))) _ own in
       record {
         settled = passed 6 _ (sym (pair-refuses v) ∙ first-zero (pairRefusal c d) _ e);
@@ -85,15 +91,15 @@ module _ {g : Geometry} {row : ℕ → List ℕ} {c d : List ℕ} (v : Inv g row
         room = passed 13 _ (second-zero (refuse 12 (not (cached g c b))) _ more);
       }
 
-  pub commit-passed : (s : Map) (ns bs : List ℕ) → commitRefusal c s ns bs ≡ 0 → CommitPassed g c ns bs
+  pub commit-passed : (s : Map) (ns bs ch : List ℕ) → commitRefusal c s ns bs ch ≡ 0 → CommitPassed g c ns bs
   unfolding commitRefusal saveRefusal
-  commit-passed s ns bs z =
+  commit-passed s ns bs ch z =
       let e =
-      ap (λ (y : Geometry). fitRefusal c orElse cardRefusal y c orElse mapRefusal c s orElse saveRefusal y c ns bs) (sym (geometry-is v)) ∙ z in
+      ap (λ (y : Geometry). fitRefusal c orElse cardRefusal y c orElse mapRefusal c s orElse saveRefusal y c ns bs ch) (sym (geometry-is v)) ∙ z in
       let card = second-zero (fitRefusal c) _ e in
       let own = second-zero (mapRefusal c s) _ (second-zero (cardRefusal g c) _ card) in
       let own₂ = second-zero (refuse 8 (countFits g ns)) _ own in
-      let own₃ = second-zero (refuse 9 (dataFits g ns bs)) _ own₂ in
+      let own₃ = second-zero (choiceRefusal g ch) _ (second-zero (refuse 9 (dataFits g ns bs)) _ own₂) in
       let own₄ = second-zero (refuse 10 (numbersFit g ns)) _ own₃ in
       record {
         settled = passed 6 _ (sym (card-refuses v) ∙ first-zero (cardRefusal g c) _ card);

@@ -20,12 +20,12 @@ use Rattle.protocol.specs.Below.{eachBelow}
 use Rattle.protocol.specs.Layout.{geometryOf, blockSize}
 use Rattle.protocol.specs.Entry.{entryAt, switched}
 use Rattle.protocol.specs.Ring.{usedAt, findEntry, cached, currentOf}
-use Rattle.protocol.specs.Check.{refuse, _orElse_, fitRefusal, cardRefusal}
+use Rattle.protocol.specs.Check.{refuse, _orElse_, fitRefusal, cardRefusal, choiceFits, choiceRefusal}
 use Rattle.protocol.specs.Store.{card, Work, madeOn, flat, storesOf, answerOf, afterOn}
 use Rattle.protocol.specs.Map.{mapRefusal}
 use Rattle.protocol.specs.Commit.{numberOf, newBlock, entryFound, logEntry, commitRuns, countFits, dataFits, numbersFit, numbersApart, roomFor, saveRefusal, commitRefusal, commitWork}
 use Rattle.protocol.specs.Preview.{lengthsFit, previewRefusal, previewAnswer, blocksOf, blocksAfter, AnswersAlike, MisfitAlike, Stands, Foretold}
-use Rattle.protocol.proofs.Below.{either, and-left, and-right, last-or-before}
+use Rattle.protocol.proofs.Below.{either, absurd-bool, and-left, and-right, last-or-before}
 use Rattle.protocol.proofs.Checks.{orElse-none, refuse-none}
 use Rattle.protocol.proofs.Committed.{e-below, commit-entries, commit-done}
 use Rattle.protocol.proofs.CutRule.{Answered, refused, cut, done, answered}
@@ -65,11 +65,22 @@ and-false : (a b : Bool) → b ≡ false → a && b ≡ false
 and-false true b e = e
 and-false false b e = refl
 
--- behind 8, what is asked for 9 matters only where 8 is not given
-behind-eight : (t a b : Bool) (r : ℕ) → (t ≡ true → a ≡ b) → refuse 8 t orElse refuse 9 a orElse r ≡ refuse 8 t orElse refuse 9 b orElse r
+-- behind 8, what is asked for 9 matters only where 8 is not given; and a choice, asked behind 9, only where 9 is not given
+behind-eight : (t a b k : Bool) (r : ℕ) → (t ≡ true → a ≡ b) → (a ≡ true → k ≡ true)
+    → refuse 8 t orElse refuse 9 a orElse r ≡ refuse 8 t orElse refuse 9 b orElse refuse 17 k orElse r
 unfolding refuse _orElse_
-behind-eight true a b r f = ap (λ (x : Bool). refuse 9 x orElse r) (f refl)
-behind-eight false a b r f = refl
+behind-eight false a b k r f h = refl
+behind-eight true a b k r f h = go a refl ∙ ap (λ (x : Bool). refuse 9 x orElse refuse 17 k orElse r) (f refl)
+  where
+    go : (x : Bool) → a ≡ x → refuse 9 a orElse r ≡ refuse 9 a orElse refuse 17 k orElse r
+    go true e = rw (e, h e)
+    go false e = rw e
+
+-- what stands behind a refusal matters only where it is not given
+else-alike : (r s t : ℕ) → (r ≡ 0 → s ≡ t) → r orElse s ≡ r orElse t
+unfolding _orElse_
+else-alike zero s t f = f refl
+else-alike (suc r) s t f = refl
 
 module _ (c : List ℕ) (m : Map) (ns bs out : List ℕ) where
   abbrev g : Geometry
@@ -79,41 +90,48 @@ module _ (c : List ℕ) (m : Map) (ns bs out : List ℕ) where
   abbrev behind : ℕ
   behind = refuse 10 (numbersFit g ns) orElse refuse 11 (numbersApart ns) orElse refuse 14 (roomFor g c (length ns))
 
-  refusals-alike : (a b : Bool) → (countFits g ns ≡ true → a ≡ b)
+  refusals-alike : (a b k : Bool) → (countFits g ns ≡ true → a ≡ b) → (fitRefusal c ≡ 0 → a ≡ true → k ≡ true)
       → fitRefusal c orElse cardRefusal g c orElse mapRefusal c m orElse refuse 8 (countFits g ns) orElse refuse 9 a orElse behind
-      ≡ fitRefusal c orElse cardRefusal g c orElse mapRefusal c m orElse refuse 8 (countFits g ns) orElse refuse 9 b orElse behind
-  refusals-alike a b f = ap (λ (r : ℕ). fitRefusal c orElse cardRefusal g c orElse mapRefusal c m orElse r) (behind-eight (countFits g ns) a b behind f)
+      ≡ fitRefusal c orElse cardRefusal g c orElse mapRefusal c m orElse refuse 8 (countFits g ns) orElse refuse 9 b orElse refuse 17 k orElse behind
+  refusals-alike a b k f h =
+      else-alike (fitRefusal c) _ _
+      (λ z. ap (λ (r : ℕ). cardRefusal g c orElse mapRefusal c m orElse r) (behind-eight (countFits g ns) a b k behind f (h z)))
 
-  -- an output not of n numbers is refused as data is that is not of n blocks
-  refusal-misfit : (ds : List ℕ) → (length out ≡ length ns → ⊥) → dataFits g ns ds ≡ false → previewRefusal c m ns bs out ≡ commitRefusal c m ns ds
-  unfolding previewRefusal commitRefusal saveRefusal lengthsFit
-  refusal-misfit ds h f =
-      refusals-alike (lengthsFit g ns bs out) (dataFits g ns ds) (λ t. and-false (dataFits g ns bs) _ (ne-eqb _ _ h) ∙ sym f)
+  -- an output not of n numbers is refused as data is that is not of n blocks, whatever the choice
+  refusal-misfit : (ds ch : List ℕ) → (length out ≡ length ns → ⊥) → dataFits g ns ds ≡ false → previewRefusal c m ns bs out ≡ commitRefusal c m ns ds ch
+  unfolding previewRefusal commitRefusal saveRefusal lengthsFit choiceRefusal
+  refusal-misfit ds ch h f =
+      let no = and-false (dataFits g ns bs) _ (ne-eqb _ _ h) in
+      refusals-alike (lengthsFit g ns bs out) (dataFits g ns ds) (choiceFits g ch) (λ t. no ∙ sym f) (λ z y. absurd-bool y no)
 
-  -- an output of n numbers is refused as commit is
-  pub refusal-same : length out ≡ length ns → previewRefusal c m ns bs out ≡ commitRefusal c m ns bs
-  unfolding previewRefusal commitRefusal saveRefusal lengthsFit
-  refusal-same e = refusals-alike (lengthsFit g ns bs out) (dataFits g ns bs) (λ t. and-true (dataFits g ns bs) _ (eq-eqb _ _ e))
+  -- an output of n numbers is refused as commit is, with a choice that 17 accepts on a card that fits
+  pub refusal-same : (ch : List ℕ) → length out ≡ length ns → (fitRefusal c ≡ 0 → choiceFits g ch ≡ true)
+      → previewRefusal c m ns bs out ≡ commitRefusal c m ns bs ch
+  unfolding previewRefusal commitRefusal saveRefusal lengthsFit choiceRefusal
+  refusal-same ch e k =
+      refusals-alike (lengthsFit g ns bs out) (dataFits g ns bs) (choiceFits g ch) (λ t. and-true (dataFits g ns bs) _ (eq-eqb _ _ e)) (λ z y. k z)
 
   -- any other as a commit of no data is, of no numbers too: behind 8 there are numbers
-  pub refusal-nine : (length out ≡ length ns → ⊥) → previewRefusal c m ns bs out ≡ commitRefusal c m ns []
-  unfolding previewRefusal commitRefusal saveRefusal lengthsFit dataFits countFits blockSize
-  refusal-nine h =
-      refusals-alike (lengthsFit g ns bs out) (dataFits g ns [])
+  pub refusal-nine : (ch : List ℕ) → (length out ≡ length ns → ⊥) → previewRefusal c m ns bs out ≡ commitRefusal c m ns [] ch
+  unfolding previewRefusal commitRefusal saveRefusal lengthsFit dataFits countFits blockSize choiceRefusal
+  refusal-nine ch h =
+      let no = and-false (dataFits g ns bs) _ (ne-eqb _ _ h) in
+      refusals-alike (lengthsFit g ns bs out) (dataFits g ns []) (choiceFits g ch)
       (λ t.
       let n : length ns ≡ 0 → ⊥ = eqb-false _ _ (not-true _ (and-left _ _ t)) in
       let some : 1 ≤ length ns = omega arith in
       let long : 1 * 1 ≤ length ns * blockSize g = mul-le-mul some (pow-pos (g .k)) in
-      and-false (dataFits g ns bs) _ (ne-eqb _ _ h) ∙ sym (ne-eqb 0 (length ns * blockSize g) (λ z. omega arith)))
+      no ∙ sym (ne-eqb 0 (length ns * blockSize g) (λ z. omega arith)))
+      (λ z y. absurd-bool y no)
 
   -- a preview that answers done has passed every check, and tells commit's count
-  done-passed : (n : ℕ) → previewAnswer c m ns bs out ≡ Done n → (previewRefusal c m ns bs out ≡ 0) × (storesOf (commitWork c m ns bs) ≡ n)
+  done-passed : (n : ℕ) → previewAnswer c m ns bs out ≡ Done n → (previewRefusal c m ns bs out ≡ 0) × (length (flat (commitRuns (geometryOf c) c ns bs)) ≡ n)
   unfolding previewAnswer
   done-passed n e = go (eqb (previewRefusal c m ns bs out) 0) refl e
     where
       go : (t : Bool) → eqb (previewRefusal c m ns bs out) 0 ≡ t
-          → cond t (Done (storesOf (commitWork c m ns bs))) (Refused (previewRefusal c m ns bs out)) ≡ Done n
-          → (previewRefusal c m ns bs out ≡ 0) × (storesOf (commitWork c m ns bs) ≡ n)
+          → cond t (Done (length (flat (commitRuns (geometryOf c) c ns bs)))) (Refused (previewRefusal c m ns bs out)) ≡ Done n
+          → (previewRefusal c m ns bs out ≡ 0) × (length (flat (commitRuns (geometryOf c) c ns bs)) ≡ n)
       go true q h = (eqb-true _ _ q, cc)
       go false q h = let z : _≡_ {A = ℕ} 0 1 = cc in absurd (omega arith)
 
@@ -128,23 +146,23 @@ module _ (c : List ℕ) (m : Map) (ns bs out : List ℕ) where
       eqb-true _ _ (and-right (dataFits g ns bs) _ (refuse-none 9 _ (omega arith) f))
 
 pub answers-alike : AnswersAlike
-unfolding previewAnswer answerOf commitWork
-answers-alike c m ns bs out a e l =
-    let r = refusal-same c m ns bs out e in
-    let t = le-ltb a (storesOf (commitWork c m ns bs)) l in
-    λ i. cond (eqb (r i) 0) (cond (sym t i) Cut (Done (storesOf (commitWork c m ns bs)))) (Refused (r i))
+unfolding previewAnswer answerOf commitWork storesOf
+answers-alike c m ns bs ch out a e k l =
+    let r = refusal-same c m ns bs out ch e (λ z. k) in
+    let t = le-ltb a (storesOf (commitWork c m ns bs ch)) l in
+    λ i. cond (eqb (r i) 0) (cond (sym t i) Cut (Done (storesOf (commitWork c m ns bs ch)))) (Refused (r i))
 
 pub misfit-alike : MisfitAlike
 unfolding previewAnswer commitWork
-misfit-alike c m ns bs ds out a h f = go (answered a (commitWork c m ns ds))
+misfit-alike c m ns bs ds ch out a h f = go (answered a (commitWork c m ns ds ch))
   where
-    same : previewRefusal c m ns bs out ≡ commitRefusal c m ns ds
-    same = refusal-misfit c m ns bs out ds h f
+    same : previewRefusal c m ns bs out ≡ commitRefusal c m ns ds ch
+    same = refusal-misfit c m ns bs out ds ch h f
 
     refuses : previewRefusal c m ns bs out ≡ 0 → ⊥
     refuses z = h (passed-length c m ns bs out z)
 
-    go : Answered a (commitWork c m ns ds) → previewAnswer c m ns bs out ≡ answerOf a (commitWork c m ns ds)
+    go : Answered a (commitWork c m ns ds ch) → previewAnswer c m ns bs out ≡ answerOf a (commitWork c m ns ds ch)
     go (refused x q k) = rw (ne-eqb _ _ refuses) (ap Refused same ∙ sym q)
     go (cut x l q k) = absurd (refuses (same ∙ x))
     go (done x q k) = absurd (refuses (same ∙ x))
@@ -171,7 +189,7 @@ module _ {g : Geometry} {row : ℕ → List ℕ} {c d : List ℕ} (ns bs : List 
       commit-done ns bs v p .0 .safe .numbers (findEntry g after b) i b (f .below) low (used-number g after _ (f .used) ∙ ap some (f .number)) own in
       record { isCached = h; current = ap (λ (y : ℕ). entryAt g after y .current) same ∙ k; filled = x .filled j l }
 
-module _ (c : List ℕ) (m : Map) (ns bs : List ℕ) (z : commitRefusal c m ns bs ≡ 0) where
+module _ (c : List ℕ) (m : Map) (ns bs ch : List ℕ) (z : commitRefusal c m ns bs ch ≡ 0) where
   stood : (j : ℕ) → j < length ns
       → Stands (geometryOf (madeOn card (flat (commitRuns (geometryOf c) c ns bs)) c)) (madeOn card (flat (commitRuns (geometryOf c) c ns bs)) c) ns bs j
       (newBlock (geometryOf c) c j)
@@ -181,30 +199,30 @@ module _ (c : List ℕ) (m : Map) (ns bs : List ℕ) (z : commitRefusal c m ns b
       let (fit, more) = orElse-none (fitRefusal c) _ z in
       let (w, s) = card-intact c fit (orElse-none (cardRefusal g c) _ more .0) in
       let v = lawful w s in
-      let p = commit-passed v m ns bs z in
+      let p = commit-passed v m ns bs ch z in
       subst (λ (y : Geometry). Stands y (after ns bs v p) ns bs j (newBlock g c j)) (sym (geometry-is (commit-done ns bs v p .0)))
       (stands-at ns bs v p j l (new-used ns bs w v p j l))
 
 pub save-foretold : Foretold
 unfolding blocksAfter commitWork storesOf
-save-foretold c m ns bs out n a e l = go (answered a w)
+save-foretold c m ns bs ch out n a f e l = go (answered a w)
   where
     w : Work
-    w = commitWork c m ns bs
+    w = commitWork c m ns bs ch
 
-    passed : (previewRefusal c m ns bs out ≡ 0) × (storesOf (commitWork c m ns bs) ≡ n)
+    passed : (previewRefusal c m ns bs out ≡ 0) × (length (flat (commitRuns (geometryOf c) c ns bs)) ≡ n)
     passed = done-passed c m ns bs out n e
 
-    none : commitRefusal c m ns bs ≡ 0
-    none = sym (refusal-same c m ns bs out (passed-length c m ns bs out (passed .0))) ∙ passed .0
+    none : commitRefusal c m ns bs ch ≡ 0
+    none = sym (refusal-same c m ns bs out ch (passed-length c m ns bs out (passed .0)) (λ z. f)) ∙ passed .0
 
     told : (i : ℕ) → i < length ns → getD (blocksAfter c m ns bs out) i 0 ≡ newBlock (geometryOf c) c i
     told i h = rw (eq-eqb (previewRefusal c m ns bs out) 0 (passed .0)) (told-at (geometryOf c) c (length ns) i h)
 
-    go : Answered a (commitWork c m ns bs)
-        → (answerOf a (commitWork c m ns bs) ≡ Done n)
+    go : Answered a (commitWork c m ns bs ch)
+        → (answerOf a (commitWork c m ns bs ch) ≡ Done n)
         × ((i : ℕ) → i < length ns
-        → Stands (geometryOf (afterOn card a (commitWork c m ns bs) c)) (afterOn card a (commitWork c m ns bs) c) ns bs i
+        → Stands (geometryOf (afterOn card a (commitWork c m ns bs ch) c)) (afterOn card a (commitWork c m ns bs ch) c) ns bs i
         (getD (blocksAfter c m ns bs out) i 0))
     go (refused x q k) = absurd (x none)
     go (cut x h q k) = absurd (omega (arith, passed .1))
@@ -212,5 +230,5 @@ save-foretold c m ns bs out n a e l = go (answered a w)
       q ∙ ap Done (passed .1),
       λ i h.
           subst (λ (y : List ℕ). Stands (geometryOf y) y ns bs i (getD (blocksAfter c m ns bs out) i 0)) (sym (k card c))
-          (subst (Stands (geometryOf _) _ ns bs i) (sym (told i h)) (stood c m ns bs none i h)),
+          (subst (Stands (geometryOf _) _ ns bs i) (sym (told i h)) (stood c m ns bs ch none i h)),
     )

@@ -18,7 +18,7 @@ use Rattle.protocol.specs.Below.{eachBelow}
 use Rattle.protocol.specs.Layout.{goodGeometry, goodK, goodSlots, goodBlocks, goodDisk, entryPlace, blockAt}
 use Rattle.protocol.specs.Entry.{FRESH, entryOf, unused, entryBytes, entryIn, entryAt, inUse, isModified, hasLogRole, goodEntry, undone}
 use Rattle.protocol.specs.Ring.{headOf, tailOf, inWindow, usedAt, undoableAt, roleFreeAt, isSettled}
-use Rattle.protocol.specs.Store.{card, disk, Store, storedOn, flat, single, entryStore, wordStore, tailStore}
+use Rattle.protocol.specs.Store.{card, disk, Store, storedOn, single, entryStore, wordStore, tailStore}
 use Rattle.protocol.specs.Recover.{sameBytes, ifChanging, undoRuns, recoverRuns}
 use Rattle.protocol.proofs.Allowed.{UsedEntry, modified, used-good, unused-good, used-entry, not-used-blank, kept-used, kept-role, kept-modified, unused-used, unused-role}
 use Rattle.protocol.proofs.Below.{either, absurd-bool, and-left, and-right, and-both, or-false, all-of, last-or-before}
@@ -30,7 +30,7 @@ use Rattle.protocol.proofs.Made.{entry-changed, entry-stored, entry-els
 use Rattle.protocol.proofs.Region.{entry, tail}
 use Rattle.protocol.proofs.Shape.{Changed, head-kept, tail-kept, entry-kept, kindOf, kindAt, viewOf, Seen, seen-idle, seen-live, seen-pending, see, previousOf, previous-some, previous-none, Shape, Inv}
 use Rattle.protocol.proofs.Steps.{undoable, undoable-at, undoable-same, calm-entry, window-calm, entry-changes, tail-settled, tail-moves}
-use Rattle.protocol.proofs.Stores.{Along, along-then, along-none, along-one, along-each, flat-append, flat-single}
+use Rattle.protocol.proofs.Stores.{Along, along-then, along-none, along-one, along-each}
 
 -- ---- stores that change no byte
 
@@ -46,13 +46,13 @@ same-bytes (x ∷ xs) (y ∷ ys) e =
 pub along-changing : {P Q : List ℕ → List ℕ → Type 0} (c₀ c d : List ℕ) (s : Store) → P c d
     → (part c₀ (s .place) (length (s .bytes)) ≡ s .bytes → Q c d)
     → P (storedOn card s c) (storedOn disk s d) → Q (storedOn card s c) (storedOn disk s d)
-    → Along P Q (flat (ifChanging c₀ s)) c d
-unfolding ifChanging flat
+    → Along P Q (ifChanging c₀ s) c d
+unfolding ifChanging
 along-changing {P} {Q} c₀ c d s p skip p′ q′ = go (sameBytes (part c₀ (s .place) (length (s .bytes))) (s .bytes)) refl
   where
-    go : (b : Bool) → sameBytes (part c₀ (s .place) (length (s .bytes))) (s .bytes) ≡ b → Along P Q (flat (cond b [] (single s))) c d
+    go : (b : Bool) → sameBytes (part c₀ (s .place) (length (s .bytes))) (s .bytes) ≡ b → Along P Q (cond b [] (single s)) c d
     go true e = along-none c d p (skip (same-bytes _ _ e))
-    go false e = subst (λ (ss : List Store). Along P Q ss c d) (sym (flat-single s)) (along-one s c d p p′ q′)
+    go false e = along-one s c d p p′ q′
 
 -- ---- what an entry becomes
 
@@ -274,8 +274,8 @@ module _ (g : Geometry) (row : ℕ → List ℕ) (c : List ℕ) where
       Rest : ℕ → Type 0
       Rest z = (entryAt g c″ z .previous ≡ entryAt g c″ z .current) × (entryAt g c″ z .previous ≡ FRESH → ⊥)
 
-  turn : (i : ℕ) (c′ d′ : List ℕ) → i < g .blocks → Turn i c′ d′ → Along (Inv g row) (Turn (suc i)) (flat (undoRuns g c i)) c′ d′
-  unfolding undoRuns flat
+  turn : (i : ℕ) (c′ d′ : List ℕ) → i < g .blocks → Turn i c′ d′ → Along (Inv g row) (Turn (suc i)) (undoRuns g c i) c′ d′
+  unfolding undoRuns
   turn i c′ d′ l t = go (undoableAt g c i) refl
     where
       e : Entry
@@ -302,7 +302,7 @@ module _ (g : Geometry) (row : ℕ → List ℕ) (c : List ℕ) where
               or-false (hasLogRole e) (inWindow g c (e .number)) (sym (ap (λ (b : Bool). b && (hasLogRole e || inWindow g c (e .number))) a) ∙ w) .0
           quiet (inr a) = ap hasLogRole (not-used-blank (g .blocks) (g .disk) e goodE a) ∙ unused-role
 
-      go : (b : Bool) → undoableAt g c i ≡ b → Along (Inv g row) (Turn (suc i)) (flat (cond b (ifChanging c (entryStore g i (undone e))) [])) c′ d′
+      go : (b : Bool) → undoableAt g c i ≡ b → Along (Inv g row) (Turn (suc i)) (cond b (ifChanging c (entryStore g i (undone e))) []) c′ d′
       go false h = along-none c′ d′ (t .inv) (idle-turn h)
       go true h =
           along-changing c c′ d′ (entryStore g i (undone e)) (t .inv) skipped
@@ -355,7 +355,7 @@ module _ (g : Geometry) (row : ℕ → List ℕ) (c : List ℕ) where
 
   -- Tail's store, or none where Tail stands at Head already
   settle : (c′ d′ : List ℕ) → Turn (g .blocks) c′ d′
-      → Along (Inv g row) (λ c″ d″. (Inv g row c″ d″) × (isSettled g c″ ≡ true)) (flat (ifChanging c (tailStore (headOf c)))) c′ d′
+      → Along (Inv g row) (λ c″ d″. (Inv g row c″ d″) × (isSettled g c″ ≡ true)) (ifChanging c (tailStore (headOf c))) c′ d′
   settle c′ d′ t =
       along-changing c c′ d′ (tailStore (headOf c)) (t .inv)
       (λ eq. (t .inv, settled-already (t .tails ∙ tail-stands c (headOf c) small eq ∙ sym (t .heads))))
@@ -401,14 +401,12 @@ module _ (g : Geometry) (row : ℕ → List ℕ) (c : List ℕ) where
 
 -- recovery of a card that the invariant holds of
 pub recovery : {g : Geometry} {row : ℕ → List ℕ} {c d : List ℕ} → Inv g row c d
-    → Along (Inv g row) (λ c′ d′. (Inv g row c′ d′) × (isSettled g c′ ≡ true)) (flat (recoverRuns g c)) c d
+    → Along (Inv g row) (λ c′ d′. (Inv g row c′ d′) × (isSettled g c′ ≡ true)) (recoverRuns g c) c d
 unfolding recoverRuns
 recovery {g} {row} {c} {d} v =
-    subst (λ (ss : List Store). Along (Inv g row) (λ c′ d′. (Inv g row c′ d′) × (isSettled g c′ ≡ true)) ss c d)
-    (sym (flat-append (eachBelow (undoRuns g c) (g .blocks)) (ifChanging c (tailStore (headOf c)))))
-    (along-then (flat (eachBelow (undoRuns g c) (g .blocks))) (flat (ifChanging c (tailStore (headOf c)))) c d
+    along-then (eachBelow (undoRuns g c) (g .blocks)) (ifChanging c (tailStore (headOf c))) c d
     (along-each (Turn g row c) (undoRuns g c) (g .blocks) c d v start (turn g row c))
-    (settle g row c))
+    (settle g row c)
   where
     start : Turn g row c 0 c d
     start =

@@ -1,18 +1,20 @@
 -- Laws of stores: what a list of them leaves, cut anywhere; stores confined to a part of one medium; and properties that hold at every cut.
 -- Assumes nothing.
 use Prim.Native.Nat.{ℕ, zero, suc, _+_, _*_, _-_, _≤_, _<_}
-use mathlib.Core.List.{List, [], _∷_, _++_, append-assoc}
+use mathlib.Core.List.{List, [], _∷_, _++_, append-assoc, append-nil}
 use mathlib.Core.Bool.{Bool, true, false, cond}
 use mathlib.Core.Path.{_≡_, refl, sym, ap, subst, _∙_}
 use mathlib.Core.Logic.{_⊎_, ⊎-elim}
 use native.Mathlib.Nat.{suc-mul, zero-sub, sub-zero, zero-mul}
 use native.Mathlib.Omega.{arith}
-use lib.ListN.{length, take, drop, length-take, length-drop}
-use lib.Seq.{take-all, take-length, take-append-le, take-add}
+use lib.ListN.{length, take, drop, length-take, length-drop, length-append}
+use lib.Seq.{take-all, take-add}
+use lib.Dec.{eqb, leb}
+use borrow.Author.Tests.{le-leb, lt-leb}
 use Rattle.numbers.specs.Bytes.{part, patch}
 use Rattle.numbers.proofs.Laws.{length-patch, patch-nil, patch-append, part-patch-same, part-patch-before, part-patch-after}
 use Rattle.protocol.specs.Below.{eachBelow}
-use Rattle.protocol.specs.Store.{Medium, card, disk, Store, Run, isOn, storedOn, madeOn, flat, single, units}
+use Rattle.protocol.specs.Store.{Medium, card, disk, Store, Run, isOn, storedOn, madeOn, flat, chosen, landed, made, single, units}
 use Rattle.protocol.proofs.Below.{below-or-above}
 
 -- ---- lists of stores
@@ -41,27 +43,72 @@ unfolding madeOn
 made-append m [] ts xs = refl
 made-append m (s ∷ ss) ts xs = made-append m ss ts (storedOn m s xs)
 
--- an allowance is spent on the first list, and what is left of it on the second
-pub take-append : (a : ℕ) (ss ts : List Store) → take a (ss ++ ts) ≡ take a ss ++ take (a - length ss) ts
-take-append zero [] ts = refl
-take-append zero (s ∷ ss) ts = rw zero-sub
-take-append (suc a) [] ts = rw sub-zero
-take-append (suc a) (s ∷ ss) ts =
-    let e : suc a - suc (length ss) ≡ a - length ss = omega arith in
-    rw e (ap (λ (l : List Store). s ∷ l) (take-append a ss ts))
-
-pub made-cut : (m : Medium) (a : ℕ) (ss ts : List Store) (xs : List ℕ)
-    → madeOn m (take a (ss ++ ts)) xs ≡ madeOn m (take (a - length ss) ts) (madeOn m (take a ss) xs)
-made-cut m a ss ts xs = rw take-append (made-append m (take a ss) (take (a - length ss) ts) xs)
-
 pub flat-append : (rs qs : List Run) → flat (rs ++ qs) ≡ flat rs ++ flat qs
 unfolding flat
 flat-append [] qs = refl
-flat-append (r ∷ rs) qs = ap (λ (z : List Store). r ++ z) (flat-append rs qs) ∙ sym (append-assoc r (flat rs) (flat qs))
+flat-append (r ∷ rs) qs = ap (λ (z : List Store). r .stores ++ z) (flat-append rs qs) ∙ sym (append-assoc (r .stores) (flat rs) (flat qs))
 
 pub flat-single : (s : Store) → flat (single s) ≡ s ∷ []
 unfolding flat single
 flat-single s = refl
+
+-- ---- runs under an allowance and a choice
+
+-- the allowance is spent on the first runs, and what is left of it on the others
+pub runs-past : (a : ℕ) (ch : List ℕ) (rs qs : List Run) → length (flat rs) ≤ a → made a ch (rs ++ qs) ≡ flat rs ++ made (a - length (flat rs)) ch qs
+unfolding flat made
+runs-past a ch [] qs h = rw sub-zero
+runs-past a ch (r ∷ rs) qs h =
+    let n = length-append (r .stores) (flat rs) in
+    let k : length (r .stores) ≤ a = omega arith in
+    let m : length (flat rs) ≤ a - length (r .stores) = omega arith in
+    let e : a - length (r .stores) - length (flat rs) ≡ a - length (r .stores ++ flat rs) = omega arith in
+    rw (le-leb (length (r .stores)) a k)
+    (ap (λ (z : List Store). r .stores ++ z) (runs-past (a - length (r .stores)) ch rs qs m)
+    ∙ sym (append-assoc (r .stores) (flat rs) (made (a - length (r .stores) - length (flat rs)) ch qs))
+    ∙ ap (λ (z : ℕ). (r .stores ++ flat rs) ++ made z ch qs) e)
+
+-- and where it ends within them the others have none
+pub runs-within : (a : ℕ) (ch : List ℕ) (rs qs : List Run) → a < length (flat rs) → made a ch (rs ++ qs) ≡ made a ch rs
+unfolding flat made
+runs-within a ch [] qs h = absurd (omega arith)
+runs-within a ch (r ∷ rs) qs h =
+    ⊎-elim
+    (λ l. rw (lt-leb (length (r .stores)) a l))
+    (λ l.
+    let n = length-append (r .stores) (flat rs) in
+    let k : a - length (r .stores) < length (flat rs) = omega arith in
+    rw (le-leb (length (r .stores)) a l) (ap (λ (z : List Store). r .stores ++ z) (runs-within (a - length (r .stores)) ch rs qs k)))
+    (below-or-above a (length (r .stores)))
+
+-- an allowance of as many makes all
+pub runs-covered : (a : ℕ) (ch : List ℕ) (rs : List Run) → length (flat rs) ≤ a → made a ch rs ≡ flat rs
+unfolding made
+runs-covered a ch rs h =
+    ap (made a ch) (sym (append-nil rs)) ∙ runs-past a ch rs [] h ∙ append-nil (flat rs)
+
+-- a single store is made where the allowance has one
+pub single-made : (a : ℕ) (ch : List ℕ) (s : Store) → made (suc a) ch (single s) ≡ s ∷ []
+unfolding made single
+single-made a ch s = let k : 1 ≤ suc a = omega arith in rw (le-leb 1 (suc a) k)
+
+pub single-cut : (ch : List ℕ) (s : Store) → made 0 ch (single s) ≡ []
+unfolding made single landed
+single-cut ch s = refl
+
+-- what is made of a run before a last single store that is not reached
+pub runs-before : (a : ℕ) (ch : List ℕ) (rs : List Run) (s : Store) → a ≤ length (flat rs) → made a ch (rs ++ single s) ≡ made a ch rs
+runs-before a ch rs s h =
+    ⊎-elim
+    (λ l. runs-within a ch rs (single s) l)
+    (λ l.
+    let z : a - length (flat rs) ≡ 0 = omega arith in
+    runs-past a ch rs (single s) l
+    ∙ ap (λ (k : ℕ). flat rs ++ made k ch (single s)) z
+    ∙ ap (λ (ss : List Store). flat rs ++ ss) (single-cut ch s)
+    ∙ append-nil (flat rs)
+    ∙ sym (runs-covered a ch rs l))
+    (below-or-above a (length (flat rs)))
 
 -- ---- stores confined to n bytes from `at` of one medium
 
@@ -74,11 +121,29 @@ abbrev pub Confined : Medium → ℕ → ℕ → List Store → Type 0
 Confined m at n [] = Unit
 Confined m at n (s ∷ ss) = Held m at n s × Confined m at n ss
 
-pub confined-take : (m : Medium) (at n a : ℕ) (ss : List Store) → Confined m at n ss → Confined m at n (take a ss)
-confined-take m at n zero [] h = tt
-confined-take m at n zero (s ∷ ss) h = tt
-confined-take m at n (suc a) [] h = tt
-confined-take m at n (suc a) (s ∷ ss) h = (h .0, confined-take m at n a ss (h .1))
+-- ts are some of the stores ss: wherever those are confined to, so are these
+abbrev pub Some : List Store → List Store → Type 0
+Some ts ss = (m : Medium) (at n : ℕ) → Confined m at n ss → Confined m at n ts
+
+confined-chosen : (m : Medium) (at n : ℕ) (ch : List ℕ) (ss : List Store) → Confined m at n ss → Confined m at n (chosen ch ss)
+unfolding chosen
+confined-chosen m at n ch [] h = tt
+confined-chosen m at n [] (s ∷ ss) h = tt
+confined-chosen m at n (x ∷ ch) (s ∷ ss) h = go (eqb x 1) (confined-chosen m at n ch ss (h .1))
+  where
+    go : (b : Bool) → Confined m at n (chosen ch ss) → Confined m at n (cond b (s ∷ chosen ch ss) (chosen ch ss))
+    go true k = (h .0, k)
+    go false k = k
+
+-- what is made of one run, whatever the allowance and the choice
+pub some-made : (a : ℕ) (ch : List ℕ) (r : Run) → Some (made a ch (r ∷ [])) (r .stores)
+unfolding made landed
+some-made a ch r m at n h = go (leb (length (r .stores)) a) (r .unordered)
+  where
+    go : (b u : Bool) → Confined m at n (cond b (r .stores ++ []) (cond u (chosen ch (r .stores)) []))
+    go true u = subst (Confined m at n) (sym (append-nil (r .stores))) h
+    go false true = confined-chosen m at n ch (r .stores) h
+    go false false = tt
 
 -- what lies outside stays
 pub confined-part : (m : Medium) (at n : ℕ) (ss : List Store) (xs : List ℕ) (from k : ℕ) → Confined m at n ss
@@ -162,70 +227,79 @@ units-stored m w n at bs xs e h =
 
 -- ---- properties at every cut
 
--- P holds wherever the stores ss are cut, and Q where all are made
-pub record Along (P Q : List ℕ → List ℕ → Type 0) (ss : List Store) (c d : List ℕ) : Type 0 where
-  pub during : (a : ℕ) → P (madeOn card (take a ss) c) (madeOn disk (take a ss) d)
-  pub end : Q (madeOn card ss c) (madeOn disk ss d)
+-- P holds wherever the runs are cut, whatever is chosen there, and Q where all stores are made
+pub record Along (P Q : List ℕ → List ℕ → Type 0) (rs : List Run) (c d : List ℕ) : Type 0 where
+  pub during : (a : ℕ) (ch : List ℕ) → P (madeOn card (made a ch rs) c) (madeOn disk (made a ch rs) d)
+  pub end : Q (madeOn card (flat rs) c) (madeOn disk (flat rs) d)
 
-pub along-then : {P Q R : List ℕ → List ℕ → Type 0} (ss ts : List Store) (c d : List ℕ) → Along P Q ss c d
-    → ((c′ d′ : List ℕ) → Q c′ d′ → Along P R ts c′ d′) → Along P R (ss ++ ts) c d
-along-then {P} {Q} {R} ss ts c d x f =
-    record { during = cut; end = subst₂′ R (sym (made-append card ss ts c)) (sym (made-append disk ss ts d)) (next .end) }
+both : (T : List ℕ → List ℕ → Type 0) {a b a′ b′ : List ℕ} → a ≡ b → a′ ≡ b′ → T a a′ → T b b′
+both T {a} {b} {a′} {b′} p q t = subst (λ (z : List ℕ). T b z) q (subst (λ (z : List ℕ). T z a′) p t)
+
+pub along-then : {P Q R : List ℕ → List ℕ → Type 0} (rs qs : List Run) (c d : List ℕ) → Along P Q rs c d
+    → ((c′ d′ : List ℕ) → Q c′ d′ → Along P R qs c′ d′) → Along P R (rs ++ qs) c d
+along-then {P} {Q} {R} rs qs c d x f =
+    record { during = cut; end = both R (sym (ends card c)) (sym (ends disk d)) (next .end) }
   where
-    subst₂′ : (T : List ℕ → List ℕ → Type 0) {a b a′ b′ : List ℕ} → a ≡ b → a′ ≡ b′ → T a a′ → T b b′
-    subst₂′ T {a} {b} {a′} {b′} p q t = subst (λ (z : List ℕ). T b z) q (subst (λ (z : List ℕ). T z a′) p t)
+    next : Along P R qs (madeOn card (flat rs) c) (madeOn disk (flat rs) d)
+    next = f (madeOn card (flat rs) c) (madeOn disk (flat rs) d) (x .end)
 
-    next : Along P R ts (madeOn card ss c) (madeOn disk ss d)
-    next = f (madeOn card ss c) (madeOn disk ss d) (x .end)
+    ends : (m : Medium) (xs : List ℕ) → madeOn m (flat (rs ++ qs)) xs ≡ madeOn m (flat qs) (madeOn m (flat rs) xs)
+    ends m xs = ap (λ (ss : List Store). madeOn m ss xs) (flat-append rs qs) ∙ made-append m (flat rs) (flat qs) xs
 
-    all : (m : Medium) (a : ℕ) (xs : List ℕ) → length ss ≤ a → madeOn m (take a (ss ++ ts)) xs ≡ madeOn m (take (a - length ss) ts) (madeOn m ss xs)
-    all m a xs l = made-cut m a ss ts xs ∙ ap (λ (z : List Store). madeOn m (take (a - length ss) ts) (madeOn m z xs)) (take-all a ss l)
+    all : (m : Medium) (a : ℕ) (ch xs : List ℕ) → length (flat rs) ≤ a
+        → madeOn m (made a ch (rs ++ qs)) xs ≡ madeOn m (made (a - length (flat rs)) ch qs) (madeOn m (flat rs) xs)
+    all m a ch xs l = ap (λ (ss : List Store). madeOn m ss xs) (runs-past a ch rs qs l) ∙ made-append m (flat rs) _ xs
 
-    some : (m : Medium) (a : ℕ) (xs : List ℕ) → a < length ss → madeOn m (take a (ss ++ ts)) xs ≡ madeOn m (take a ss) xs
-    some m a xs l = let h : a ≤ length ss = omega arith in ap (λ (z : List Store). madeOn m z xs) (take-append-le a ss ts h)
+    some : (m : Medium) (a : ℕ) (ch xs : List ℕ) → a < length (flat rs) → madeOn m (made a ch (rs ++ qs)) xs ≡ madeOn m (made a ch rs) xs
+    some m a ch xs l = ap (λ (ss : List Store). madeOn m ss xs) (runs-within a ch rs qs l)
 
-    cut : (a : ℕ) → P (madeOn card (take a (ss ++ ts)) c) (madeOn disk (take a (ss ++ ts)) d)
-    cut a =
+    cut : (a : ℕ) (ch : List ℕ) → P (madeOn card (made a ch (rs ++ qs)) c) (madeOn disk (made a ch (rs ++ qs)) d)
+    cut a ch =
         ⊎-elim
-        (λ l. subst₂′ P (sym (some card a c l)) (sym (some disk a d l)) (x .during a))
-        (λ l. subst₂′ P (sym (all card a c l)) (sym (all disk a d l)) (next .during (a - length ss)))
-        (below-or-above a (length ss))
+        (λ l. both P (sym (some card a ch c l)) (sym (some disk a ch d l)) (x .during a ch))
+        (λ l. both P (sym (all card a ch c l)) (sym (all disk a ch d l)) (next .during (a - length (flat rs)) ch))
+        (below-or-above a (length (flat rs)))
 
 pub along-none : {P Q : List ℕ → List ℕ → Type 0} (c d : List ℕ) → P c d → Q c d → Along P Q [] c d
-unfolding madeOn
-along-none {P} {Q} c d p q = record { during = cut; end = q }
-  where
-    cut : (a : ℕ) → P (madeOn card (take a []) c) (madeOn disk (take a []) d)
-    cut zero = p
-    cut (suc a) = p
+unfolding madeOn made flat
+along-none {P} {Q} c d p q = record { during = λ a ch. p; end = q }
 
 -- one store: P before it and after it
 pub along-one : {P Q : List ℕ → List ℕ → Type 0} (s : Store) (c d : List ℕ) → P c d
-    → P (storedOn card s c) (storedOn disk s d) → Q (storedOn card s c) (storedOn disk s d) → Along P Q (s ∷ []) c d
+    → P (storedOn card s c) (storedOn disk s d) → Q (storedOn card s c) (storedOn disk s d) → Along P Q (single s) c d
 unfolding madeOn
-along-one {P} {Q} s c d p q r = record { during = cut; end = r }
+along-one {P} {Q} s c d p q r =
+    record { during = cut; end = subst (λ (ss : List Store). Q (madeOn card ss c) (madeOn disk ss d)) (sym (flat-single s)) r }
   where
-    cut : (a : ℕ) → P (madeOn card (take a (s ∷ [])) c) (madeOn disk (take a (s ∷ [])) d)
-    cut zero = p
-    cut (suc zero) = q
-    cut (suc (suc a)) = q
+    to : {ss ts : List Store} → ss ≡ ts → P (madeOn card ts c) (madeOn disk ts d) → P (madeOn card ss c) (madeOn disk ss d)
+    to e h = subst (λ (us : List Store). P (madeOn card us c) (madeOn disk us d)) (sym e) h
 
--- a run: P wherever it is cut
-pub along-run : {P Q : List ℕ → List ℕ → Type 0} (ss : List Store) (c d : List ℕ)
-    → ((a : ℕ) → P (madeOn card (take a ss) c) (madeOn disk (take a ss) d))
-    → (P (madeOn card ss c) (madeOn disk ss d) → Q (madeOn card ss c) (madeOn disk ss d)) → Along P Q ss c d
-along-run {P} {Q} ss c d p q =
-    record { during = p; end = q (subst (λ (ts : List Store). P (madeOn card ts c) (madeOn disk ts d)) (take-length ss) (p (length ss))) }
+    cut : (a : ℕ) (ch : List ℕ) → P (madeOn card (made a ch (single s)) c) (madeOn disk (made a ch (single s)) d)
+    cut zero ch = to (single-cut ch s) p
+    cut (suc a) ch = to (single-made a ch s) q
+
+-- a run: P whichever of its stores are made
+pub along-run : {P Q : List ℕ → List ℕ → Type 0} (r : Run) (c d : List ℕ)
+    → ((ts : List Store) → Some ts (r .stores) → P (madeOn card ts c) (madeOn disk ts d))
+    → (P (madeOn card (r .stores) c) (madeOn disk (r .stores) d) → Q (madeOn card (r .stores) c) (madeOn disk (r .stores) d))
+    → Along P Q (r ∷ []) c d
+unfolding flat
+along-run {P} {Q} r c d p q =
+    record {
+      during = λ a ch. p (made a ch (r ∷ [])) (some-made a ch r);
+      end =
+          subst (λ (ss : List Store). Q (madeOn card ss c) (madeOn disk ss d)) (sym (append-nil (r .stores)))
+          (q (p (r .stores) (λ m at n h. h)));
+    }
 
 -- turn by turn: Q i holds before the runs of f i, and Q (i + 1) after them
 pub along-each : {P : List ℕ → List ℕ → Type 0} (Q : ℕ → List ℕ → List ℕ → Type 0) (f : ℕ → List Run) (n : ℕ) (c d : List ℕ)
     → P c d → Q 0 c d
-    → ((i : ℕ) (c′ d′ : List ℕ) → i < n → Q i c′ d′ → Along P (Q (suc i)) (flat (f i)) c′ d′)
-    → Along P (Q n) (flat (eachBelow f n)) c d
-unfolding eachBelow flat
+    → ((i : ℕ) (c′ d′ : List ℕ) → i < n → Q i c′ d′ → Along P (Q (suc i)) (f i) c′ d′)
+    → Along P (Q n) (eachBelow f n) c d
+unfolding eachBelow
 along-each {P} Q f zero c d p q step = along-none c d p q
 along-each {P} Q f (suc n) c d p q step =
-    subst (λ (z : List Store). Along P (Q (suc n)) z c d) (sym (flat-append (eachBelow f n) (f n)))
-    (along-then (flat (eachBelow f n)) (flat (f n)) c d
+    along-then (eachBelow f n) (f n) c d
     (along-each Q f n c d p q (λ i c′ d′ l. step i c′ d′ (omega arith)))
-    (λ c′ d′. step n c′ d′ (omega arith)))
+    (λ c′ d′. step n c′ d′ (omega arith))

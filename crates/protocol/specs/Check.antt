@@ -1,12 +1,13 @@
 -- Document 01, "Who can cause a refusal": checks 1 to 7 of a card, and how refusals are put in order. A refusal is its number, 0 for none.
-use Prim.Native.Nat.{ℕ, zero, suc}
+-- Document 02's check 17 stands here too, since three calls ask it.
+use Prim.Native.Nat.{ℕ, zero, suc, _/_}
 use mathlib.Core.List.{List}
 use mathlib.Core.Bool.{Bool, cond, not, _&&_, _||_}
-use lib.ListN.{length}
-use lib.Dec.{eqb, ltb}
+use lib.ListN.{length, getD}
+use lib.Dec.{eqb, ltb, leb}
 use Rattle.protocol.specs.declared.Geometry.{Geometry}
 use Rattle.protocol.specs.Below.{allBelow}
-use Rattle.protocol.specs.Layout.{goodHeader, geometryOf, cardLength, diskLength}
+use Rattle.protocol.specs.Layout.{goodHeader, geometryOf, blockSize, cardLength, diskLength}
 use Rattle.protocol.specs.Entry.{FRESH, entryAt, goodEntry}
 use Rattle.protocol.specs.Ring.{headOf, tailOf, windowOf, windowNumber, usedAt, settledBlock, isSettled}
 
@@ -83,3 +84,15 @@ damageRefusal g c = refuse 4 (ringFits g c) orElse refuse 5 (entriesFit g c) orE
 -- 4 to 7: a damaged card or one that an earlier cut left unsettled
 unfoldable pub cardRefusal : Geometry → List ℕ → ℕ
 cardRefusal g c = damageRefusal g c orElse refuse 7 (isSettled g c)
+
+-- byte i of the choice is not "a byte above 1"
+unfoldable pub choiceByteFits : List ℕ → ℕ → Bool
+choiceByteFits ch i = leb (getD ch i 0) 1
+
+-- not 17: neither "a choice of fewer bytes than the longest run, B/8", nor one "with a byte above 1"
+unfoldable pub choiceFits : Geometry → List ℕ → Bool
+choiceFits g ch = leb (blockSize g / 8) (length ch) && allBelow (choiceByteFits ch) (length ch)
+
+-- 17, for the calls that take a choice
+unfoldable pub choiceRefusal : Geometry → List ℕ → ℕ
+choiceRefusal g ch = refuse 17 (choiceFits g ch)

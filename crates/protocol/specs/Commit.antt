@@ -1,4 +1,4 @@
--- Document 01, "Commit": its plan from the card at entry, its runs of stores, its refusals; document 02's check 15 among them.
+-- Document 01, "Commit": its plan from the card at entry, its runs of stores, its refusals; document 02's checks 15 and 17 among them.
 use Prim.Native.Nat.{ℕ, _+_, _*_, _-_}
 use mathlib.Core.List.{List, _∷_, _++_}
 use mathlib.Core.Bool.{Bool, cond, not, _&&_}
@@ -12,7 +12,7 @@ use Rattle.protocol.specs.Below.{allBelow, countBelow, eachBelow, around
 use Rattle.protocol.specs.Layout.{geometryOf, blockSize}
 use Rattle.protocol.specs.Entry.{FRESH, entryOf, switched}
 use Rattle.protocol.specs.Ring.{headOf, findEntry, cached, currentOf}
-use Rattle.protocol.specs.Check.{refuse, _orElse_, fitRefusal, cardRefusal}
+use Rattle.protocol.specs.Check.{refuse, _orElse_, fitRefusal, cardRefusal, choiceRefusal}
 use Rattle.protocol.specs.Store.{Run, Work, words, entryStore, slotStore, headStore, tailStore, single}
 use Rattle.protocol.specs.Search.{freeBlocks, unusedEntries}
 use Rattle.protocol.specs.Map.{mapRefusal}
@@ -101,20 +101,22 @@ numbersApart ns = allBelow (newNumber ns) (length ns)
 unfoldable pub roomFor : Geometry → List ℕ → ℕ → Bool
 roomFor g c n = leb n (length (freeBlocks g c))
 
--- commit's own refusals, 8 to 14
-unfoldable pub saveRefusal : Geometry → List ℕ → List ℕ → List ℕ → ℕ
-saveRefusal g c ns bs =
+-- commit's own refusals, 8 to 14, with 17 "after 9"
+unfoldable pub saveRefusal : Geometry → List ℕ → List ℕ → List ℕ → List ℕ → ℕ
+saveRefusal g c ns bs ch =
     refuse 8 (countFits g ns)
     orElse refuse 9 (dataFits g ns bs)
+    orElse choiceRefusal g ch
     orElse refuse 10 (numbersFit g ns)
     orElse refuse 11 (numbersApart ns)
     orElse refuse 14 (roomFor g c (length ns))
 
 -- commit is refused with 1, 2, 4 to 7 and 15, then by its own checks
-unfoldable pub commitRefusal : List ℕ → Map → List ℕ → List ℕ → ℕ
-commitRefusal c m ns bs =
-    fitRefusal c orElse cardRefusal (geometryOf c) c orElse mapRefusal c m orElse saveRefusal (geometryOf c) c ns bs
+unfoldable pub commitRefusal : List ℕ → Map → List ℕ → List ℕ → List ℕ → ℕ
+commitRefusal c m ns bs ch =
+    fitRefusal c orElse cardRefusal (geometryOf c) c orElse mapRefusal c m orElse saveRefusal (geometryOf c) c ns bs ch
 
--- commit of the numbers ns with the bytes bs, given the map m
-unfoldable pub commitWork : List ℕ → Map → List ℕ → List ℕ → Work
-commitWork c m ns bs = record { refusal = commitRefusal c m ns bs; runs = commitRuns (geometryOf c) c ns bs }
+-- commit of the numbers ns with the bytes bs and the choice ch, given the map m
+unfoldable pub commitWork : List ℕ → Map → List ℕ → List ℕ → List ℕ → Work
+commitWork c m ns bs ch =
+    record { refusal = commitRefusal c m ns bs ch; runs = commitRuns (geometryOf c) c ns bs; choice = ch }

@@ -28,12 +28,16 @@ ample = 1048576
 abbrev pub taken : ℕ → Map
 taken x = record { low = 0xFFFFFFFFFFFFFFF0 + x; high = 0xFFFFFFFFFFFFFFFF }
 
+-- no store of a run that is cut
+abbrev pub quiet : List ℕ
+quiet = replicate 64 0
+
 abbrev pub ask : Call → ℕ → ℕ → Request
 ask q x a = record { call = q; map = taken x; allowance = a }
 
 -- blocks 2 and 3, filled with one byte
 abbrev pub save : ℕ → Call
-save x = commit (2 ∷ 3 ∷ []) (replicate 1024 x)
+save x = commit (2 ∷ 3 ∷ []) (replicate 1024 x) quiet
 
 -- a finished save
 abbrev pub saved : List Request
@@ -49,7 +53,7 @@ twice = halfway ++ (ask (save 9) 3 136 ∷ ask recover 12 1 ∷ ask recover 5 am
 
 -- an evict, a load of the same block, a refused load of a cached block, and one with the map of before
 abbrev pub moved : List Request
-moved = twice ++ (ask (evict 2) 3 ample ∷ ask (load 2) 2 ample ∷ ask (load 3) 6 ample ∷ ask (load 3) 2 ample ∷ [])
+moved = twice ++ (ask (evict 2 quiet) 3 ample ∷ ask (load 2 quiet) 2 ample ∷ ask (load 3 quiet) 6 ample ∷ ask (load 3 quiet) 2 ample ∷ [])
 
 -- the first byte of disk block b as it is read
 unfoldable pub firstByte : Media → ℕ → ℕ

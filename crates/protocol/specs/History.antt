@@ -17,11 +17,12 @@ use Rattle.protocol.specs.Commit.{numberOf, dataOf, commitWork}
 use Rattle.protocol.specs.Load.{loadWork, evictWork}
 use Rattle.protocol.specs.Recover.{recoverWork}
 
--- "In it stand commit, load, evict and recover": a storing call with all its arguments but the map and the allowance
+-- "In it stand commit, load, evict and recover": a storing call with all its arguments but the map and the allowance. "Commit, load and evict
+-- take the choice", their last
 pub data Call : Type 0 where
-  commit : List ℕ → List ℕ → Call
-  load : ℕ → Call
-  evict : ℕ → Call
+  commit : List ℕ → List ℕ → List ℕ → Call
+  load : ℕ → List ℕ → Call
+  evict : ℕ → List ℕ → Call
   recover : Call
 
 -- a call, the map that it gets, and "The allowance says where power fails"
@@ -37,9 +38,9 @@ pub record Media : Type 0 where
 
 -- the call's refusal and runs of stores, from the map that it gets and the media that it meets
 unfoldable pub workOf : Call → Map → Media → Work
-workOf (commit ns bs) s m = commitWork (m .onCard) s ns bs
-workOf (load b) s m = loadWork (m .onCard) (m .onDisk) s b
-workOf (evict b) s m = evictWork (m .onCard) (m .onDisk) s b
+workOf (commit ns bs ch) s m = commitWork (m .onCard) s ns bs ch
+workOf (load b ch) s m = loadWork (m .onCard) (m .onDisk) s b ch
+workOf (evict b ch) s m = evictWork (m .onCard) (m .onDisk) s b ch
 workOf recover s m = recoverWork (m .onCard) s
 
 -- what the call answers, on the media that it meets
@@ -82,11 +83,11 @@ replaced g ns bs row b = cond (ltb (placeAmong ns b) (length ns)) (dataOf g bs (
 
 -- "a commit that answers done" replaces its blocks; "A cut or refused commit leaves the row as it is; so does every load, evict and recover"
 unfoldable pub rowStep : Geometry → Call → Answer → Row → Row
-rowStep g (commit ns bs) (Done m) row = replaced g ns bs row
-rowStep g (commit ns bs) Cut row = row
-rowStep g (commit ns bs) (Refused r) row = row
-rowStep g (load b) a row = row
-rowStep g (evict b) a row = row
+rowStep g (commit ns bs ch) (Done m) row = replaced g ns bs row
+rowStep g (commit ns bs ch) Cut row = row
+rowStep g (commit ns bs ch) (Refused r) row = row
+rowStep g (load b ch) a row = row
+rowStep g (evict b ch) a row = row
 rowStep g recover a row = row
 
 -- the row after the calls, from their arguments and answers alone

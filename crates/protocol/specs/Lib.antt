@@ -12,6 +12,7 @@ pub mod Commit
 pub mod Preview
 pub mod Load
 pub mod Recover
+pub mod Fence
 pub mod Read
 pub mod Table
 pub mod History

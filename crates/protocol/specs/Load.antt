@@ -1,4 +1,4 @@
--- Document 01, "Load" and "Evict".
+-- Document 01, "Load" and "Evict"; document 02's checks 15 and 17 among their refusals.
 use Prim.Native.Nat.{ℕ}
 use mathlib.Core.List.{List, [], _∷_, _++_}
 use mathlib.Core.Bool.{cond, not}
@@ -10,7 +10,7 @@ use Rattle.protocol.specs.declared.Map.{Map}
 use Rattle.protocol.specs.Layout.{geometryOf, blockAt, diskBlock}
 use Rattle.protocol.specs.Entry.{FRESH, entryOf, unused, entryAt, isModified}
 use Rattle.protocol.specs.Ring.{findEntry, cached, currentOf}
-use Rattle.protocol.specs.Check.{refuse, _orElse_, fitRefusal, diskRefusal, cardRefusal}
+use Rattle.protocol.specs.Check.{refuse, _orElse_, fitRefusal, diskRefusal, cardRefusal, choiceRefusal}
 use Rattle.protocol.specs.Store.{Run, Work, words, sectors, entryStore, single}
 use Rattle.protocol.specs.Search.{unusedEntries}
 use Rattle.protocol.specs.Map.{mapRefusal}
@@ -34,17 +34,18 @@ loadRuns g c d b =
     words g (newBlock g c 0) (diskBlock g d b) ∷ single (entryStore g (getD (unusedEntries g c) 0 0) (cleanEntry g c b))
 
 -- 12: "load of a cached block"; 14: "load with none free"
-unfoldable pub loadRefusal : List ℕ → List ℕ → Map → ℕ → ℕ
-loadRefusal c d m b =
+unfoldable pub loadRefusal : List ℕ → List ℕ → Map → ℕ → List ℕ → ℕ
+loadRefusal c d m b ch =
     pairRefusal c d
     orElse mapRefusal c m
+    orElse choiceRefusal (geometryOf c) ch
     orElse blockRefusal (geometryOf c) b
     orElse refuse 12 (not (cached (geometryOf c) c b))
     orElse refuse 14 (roomFor (geometryOf c) c 1)
 
--- load of disk block b, given the map m
-unfoldable pub loadWork : List ℕ → List ℕ → Map → ℕ → Work
-loadWork c d m b = record { refusal = loadRefusal c d m b; runs = loadRuns (geometryOf c) c d b }
+-- load of disk block b with the choice ch, given the map m
+unfoldable pub loadWork : List ℕ → List ℕ → Map → ℕ → List ℕ → Work
+loadWork c d m b ch = record { refusal = loadRefusal c d m b ch; runs = loadRuns (geometryOf c) c d b; choice = ch }
 
 -- "Evict of a modified block writes its B/512 sectors ascending", of a clean block none
 unfoldable pub writeBack : Geometry → List ℕ → ℕ → List Run
@@ -56,13 +57,14 @@ unfoldable pub evictRuns : Geometry → List ℕ → ℕ → List Run
 evictRuns g c b = writeBack g c b ++ single (entryStore g (findEntry g c b) unused)
 
 -- 13: "evict of an uncached block"
-unfoldable pub evictRefusal : List ℕ → List ℕ → Map → ℕ → ℕ
-evictRefusal c d m b =
+unfoldable pub evictRefusal : List ℕ → List ℕ → Map → ℕ → List ℕ → ℕ
+evictRefusal c d m b ch =
     pairRefusal c d
     orElse mapRefusal c m
+    orElse choiceRefusal (geometryOf c) ch
     orElse blockRefusal (geometryOf c) b
     orElse refuse 13 (cached (geometryOf c) c b)
 
--- evict of disk block b, given the map m
-unfoldable pub evictWork : List ℕ → List ℕ → Map → ℕ → Work
-evictWork c d m b = record { refusal = evictRefusal c d m b; runs = evictRuns (geometryOf c) c b }
+-- evict of disk block b with the choice ch, given the map m
+unfoldable pub evictWork : List ℕ → List ℕ → Map → ℕ → List ℕ → Work
+evictWork c d m b ch = record { refusal = evictRefusal c d m b ch; runs = evictRuns (geometryOf c) c b; choice = ch }

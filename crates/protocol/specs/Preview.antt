@@ -12,10 +12,10 @@ use Rattle.protocol.specs.declared.Map.{Map}
 use Rattle.protocol.specs.Below.{eachBelow}
 use Rattle.protocol.specs.Layout.{geometryOf, blockAt}
 use Rattle.protocol.specs.Ring.{cached, currentOf}
-use Rattle.protocol.specs.Check.{refuse, _orElse_, fitRefusal, cardRefusal}
-use Rattle.protocol.specs.Store.{card, storesOf, answerOf, afterOn}
+use Rattle.protocol.specs.Check.{refuse, _orElse_, fitRefusal, cardRefusal, choiceFits}
+use Rattle.protocol.specs.Store.{card, flat, answerOf, afterOn, storesOf}
 use Rattle.protocol.specs.Map.{mapRefusal}
-use Rattle.protocol.specs.Commit.{numberOf, newBlock, dataOf, countFits, dataFits, numbersFit, numbersApart, roomFor, commitWork}
+use Rattle.protocol.specs.Commit.{numberOf, newBlock, dataOf, countFits, dataFits, numbersFit, numbersApart, roomFor, commitRuns, commitWork}
 
 -- not 9: the data is n·B bytes, and there is no "output not of n numbers"
 unfoldable pub lengthsFit : Geometry → List ℕ → List ℕ → List ℕ → Bool
@@ -36,7 +36,7 @@ previewRefusal c m ns bs out =
 -- "stores nothing and answers what commit with ample allowance would": done with the count of commit's stores, or refused
 unfoldable pub previewAnswer : List ℕ → Map → List ℕ → List ℕ → List ℕ → Answer
 previewAnswer c m ns bs out =
-    cond (eqb (previewRefusal c m ns bs out) 0) (Done (storesOf (commitWork c m ns bs))) (Refused (previewRefusal c m ns bs out))
+    cond (eqb (previewRefusal c m ns bs out) 0) (Done (length (flat (commitRuns (geometryOf c) c ns bs)))) (Refused (previewRefusal c m ns bs out))
 
 -- "each number's data block", of n numbers
 unfoldable pub blocksOf : Geometry → List ℕ → ℕ → List ℕ
@@ -48,15 +48,15 @@ blocksAfter c m ns bs out = cond (eqb (previewRefusal c m ns bs out) 0) (blocksO
 
 -- ---- what is claimed of it
 
--- with an output of n numbers the answer is commit's, under every allowance that is ample
+-- with an output of n numbers the answer is commit's, under every allowance that is ample and with any choice that 17 accepts
 abbrev pub AnswersAlike : Type 0
-AnswersAlike = (c : List ℕ) (m : Map) (ns bs out : List ℕ) (a : ℕ) → length out ≡ length ns → storesOf (commitWork c m ns bs) ≤ a
-    → previewAnswer c m ns bs out ≡ answerOf a (commitWork c m ns bs)
+AnswersAlike = (c : List ℕ) (m : Map) (ns bs ch out : List ℕ) (a : ℕ) → length out ≡ length ns → choiceFits (geometryOf c) ch ≡ true
+    → storesOf (commitWork c m ns bs ch) ≤ a → previewAnswer c m ns bs out ≡ answerOf a (commitWork c m ns bs ch)
 
 -- with any other it is commit's of data that is not n·B bytes: 9, behind what commit asks before 9 and before what it asks after
 abbrev pub MisfitAlike : Type 0
-MisfitAlike = (c : List ℕ) (m : Map) (ns bs ds out : List ℕ) (a : ℕ) → (length out ≡ length ns → ⊥) → dataFits (geometryOf c) ns ds ≡ false
-    → previewAnswer c m ns bs out ≡ answerOf a (commitWork c m ns ds)
+MisfitAlike = (c : List ℕ) (m : Map) (ns bs ds ch out : List ℕ) (a : ℕ) → (length out ≡ length ns → ⊥) → dataFits (geometryOf c) ns ds ≡ false
+    → previewAnswer c m ns bs out ≡ answerOf a (commitWork c m ns ds ch)
 
 -- on the card c number i of a save is cached in data block p, which holds the bytes given for it
 pub record Stands (g : Geometry) (c ns bs : List ℕ) (i p : ℕ) : Type 0 where
@@ -64,11 +64,11 @@ pub record Stands (g : Geometry) (c ns bs : List ℕ) (i p : ℕ) : Type 0 where
   pub current : currentOf g c (numberOf ns i) ≡ p
   pub filled : blockAt g c p ≡ dataOf g bs i
 
--- after a preview that answers done, a commit with the same input and at least that allowance answers the same and puts block i into the data
--- block that the preview told
+-- after a preview that answers done, a commit with the same input, any choice that 17 accepts and at least that allowance answers the same and
+-- puts block i into the data block that the preview told
 abbrev pub Foretold : Type 0
-Foretold = (c : List ℕ) (m : Map) (ns bs out : List ℕ) (n a : ℕ) → previewAnswer c m ns bs out ≡ Done n → n ≤ a
-    → (answerOf a (commitWork c m ns bs) ≡ Done n)
+Foretold = (c : List ℕ) (m : Map) (ns bs ch out : List ℕ) (n a : ℕ) → choiceFits (geometryOf c) ch ≡ true → previewAnswer c m ns bs out ≡ Done n → n ≤ a
+    → (answerOf a (commitWork c m ns bs ch) ≡ Done n)
     × ((i : ℕ) → i < length ns
-    → Stands (geometryOf (afterOn card a (commitWork c m ns bs) c)) (afterOn card a (commitWork c m ns bs) c) ns bs i
+    → Stands (geometryOf (afterOn card a (commitWork c m ns bs ch) c)) (afterOn card a (commitWork c m ns bs ch) c) ns bs i
     (getD (blocksAfter c m ns bs out) i 0))

@@ -38,6 +38,6 @@ recoverRuns g c = eachBelow (undoRuns g c) (g .blocks) ++ ifChanging c (tailStor
 unfoldable pub recoverRefusal : List ℕ → Map → ℕ
 recoverRefusal c m = makeRefusal c orElse mapRefusal c m
 
--- recovery of the card c, given the map m
+-- recovery of the card c, given the map m: all its stores are single ones, so it takes no choice
 unfoldable pub recoverWork : List ℕ → Map → Work
-recoverWork c m = record { refusal = recoverRefusal c m; runs = recoverRuns (geometryOf c) c }
+recoverWork c m = record { refusal = recoverRefusal c m; runs = recoverRuns (geometryOf c) c; choice = [] }

@@ -1,9 +1,10 @@
--- Document 01, "Stores": whole units made one after the other, runs of them, the allowance, and the answer to a storing call.
-use Prim.Native.Nat.{ℕ, zero, suc, _+_, _/_}
+-- Document 01, "Stores": whole units made one after the other, runs of them, the allowance, and the answer to a storing call; and document 02,
+-- ask 5: what a cut inside a run leaves.
+use Prim.Native.Nat.{ℕ, zero, suc, _+_, _-_, _/_}
 use mathlib.Core.List.{List, [], _∷_, _++_}
 use mathlib.Core.Bool.{Bool, true, false, cond}
 use lib.ListN.{length, take, drop}
-use lib.Dec.{eqb, ltb}
+use lib.Dec.{eqb, ltb, leb}
 use Rattle.numbers.specs.Bytes.{bytesBE, patch}
 use Rattle.protocol.specs.declared.Answer.{Answer}
 use Rattle.protocol.specs.declared.Answer.the-variants.{Done, Cut, Refused}
@@ -22,9 +23,11 @@ pub record Store : Type 0 where
   pub place : ℕ
   pub bytes : List ℕ
 
--- a run is what one fence closes: the words of a data block, the sectors of a disk block, or a single store
-abbrev pub Run : Type 0
-Run = List Store
+-- a run is what one fence closes: the words of a data block, the sectors of a disk block, or a single store. The first two are unordered:
+-- "The new module orders a data block's words, and the disk a block's sectors, only at the fence after the block"
+pub record Run : Type 0 where
+  pub unordered : Bool
+  pub stores : List Store
 
 -- two media are the same
 unfoldable pub isOn : Medium → Medium → Bool
@@ -45,11 +48,24 @@ madeOn m (s ∷ ss) xs = madeOn m ss (storedOn m s xs)
 -- all stores of the runs, in order
 unfoldable pub flat : List Run → List Store
 flat [] = []
-flat (r ∷ rs) = r ++ flat rs
+flat (r ∷ rs) = r .stores ++ flat rs
 
--- "with less, exactly the first ones are made, as many as the allowance": the stores that are made of the runs
-unfoldable pub made : ℕ → List Run → List Store
-made allowance rs = take allowance (flat rs)
+-- "the choice as one byte per store of the run, 0 or 1": the stores whose byte is 1
+unfoldable pub chosen : List ℕ → List Store → List Store
+chosen ch [] = []
+chosen [] (s ∷ ss) = []
+chosen (x ∷ ch) (s ∷ ss) = cond (eqb x 1) (s ∷ chosen ch ss) (chosen ch ss)
+
+-- "A cut in such a run may leave any choice of its stores, each whole. Other stores are fenced singly": what a cut leaves of the run it falls in
+unfoldable pub landed : List ℕ → Run → List Store
+landed choice r = cond (r .unordered) (chosen choice (r .stores)) []
+
+-- "Where the allowance covers all stores before a run but not the whole run, only those and the chosen ones are made": the stores that are made
+-- of the runs
+unfoldable pub made : ℕ → List ℕ → List Run → List Store
+made allowance choice [] = []
+made allowance choice (r ∷ rs) =
+    cond (leb (length (r .stores)) allowance) (r .stores ++ made (allowance - length (r .stores)) choice rs) (landed choice r)
 
 -- n stores of w bytes each, side by side from `at` on
 unfoldable pub units : Medium → ℕ → ℕ → ℕ → List ℕ → List Store
@@ -58,11 +74,11 @@ units m w (suc n) at bs = record { medium = m; place = at; bytes = take w bs } �
 
 -- "its B/8 words ascending", into data block p
 unfoldable pub words : Geometry → ℕ → List ℕ → Run
-words g p bs = units card 8 (blockSize g / 8) (blockPlace g p) bs
+words g p bs = record { unordered = true; stores = units card 8 (blockSize g / 8) (blockPlace g p) bs }
 
 -- "its B/512 sectors ascending", into disk block b
 unfoldable pub sectors : Geometry → ℕ → List ℕ → Run
-sectors g b bs = units disk 512 (blockSize g / 512) (diskPlace g b) bs
+sectors g b bs = record { unordered = true; stores = units disk 512 (blockSize g / 512) (diskPlace g b) bs }
 
 -- a 16-byte entry at place i
 unfoldable pub entryStore : Geometry → ℕ → Entry → Store
@@ -86,12 +102,13 @@ tailStore v = wordStore 72 v
 
 -- a single store is a run by itself
 unfoldable pub single : Store → List Run
-single s = (s ∷ []) ∷ []
+single s = record { unordered = false; stores = s ∷ [] } ∷ []
 
--- a storing call, worked out from the media as they are at entry: its refusal, 0 for none, and its runs of stores
+-- a storing call, worked out from the media as they are at entry: its refusal, 0 for none, its runs of stores, and the choice that it is given
 pub record Work : Type 0 where
   pub refusal : ℕ
   pub runs : List Run
+  pub choice : List ℕ
 
 -- "Its list of stores has a definite length m"
 unfoldable pub storesOf : Work → ℕ
@@ -104,4 +121,4 @@ answerOf allowance w =
 
 -- "Refusals come before any store": what the medium m holds after the call, xs before it
 unfoldable pub afterOn : Medium → ℕ → Work → List ℕ → List ℕ
-afterOn m allowance w xs = cond (eqb (w .refusal) 0) (madeOn m (made allowance (w .runs)) xs) xs
+afterOn m allowance w xs = cond (eqb (w .refusal) 0) (madeOn m (made allowance (w .choice) (w .runs)) xs) xs
