@@ -5,6 +5,10 @@ use tinca_tests::{Answer, Cached, Calls, Place, State};
 
 const BLOCK_BYTES: usize = 512;
 
+/// Which stores of a block a power cut leaves, one byte for each of its words. It matters to cuts alone, in drills and tests: a station in
+/// service passes zeros.
+const CHOICE: &[u8] = &[0; BLOCK_BYTES / 8];
+
 /// The refusals that occur here, in the words of the C header.
 fn text(number: u32) -> &'static str {
     match number {
@@ -58,7 +62,7 @@ fn drain(card: &mut [u8], disk: &mut [u8], map: &mut [u64], data_blocks: u64) {
     for place in 0..data_blocks {
         if let Cached::Block { number, modified } = Library.cached(card, place) {
             println!("place {place} caches block {number}, {}", if modified { "modified" } else { "clean" });
-            told("evict it", Library.evict(card, disk, map, number, u64::MAX));
+            told("evict it", Library.evict(card, disk, map, number, CHOICE, u64::MAX));
         }
     }
 }
@@ -71,15 +75,16 @@ fn main() {
     let mut map = Library.fresh_map(&card);
     let mut first = [7; 2 * BLOCK_BYTES];
     preview("preview of the first save", &mut card, &mut map, &mut first);
-    told("first save of 3 and 5", Library.commit(&mut card, &mut map, &[3, 5], &first, u64::MAX));
+    told("first save of 3 and 5", Library.commit(&mut card, &mut map, &[3, 5], &first, CHOICE, u64::MAX));
     println!("free data blocks: {}", Library.free_count(map[0], map[1]));
-    told("evict 5", Library.evict(&mut card, &mut disk, &mut map, 5, u64::MAX));
+    told("evict 5", Library.evict(&mut card, &mut disk, &mut map, 5, CHOICE, u64::MAX));
     show(&card, &disk, 3);
     show(&card, &disk, 5);
 
-    told("a save of 3 twice", Library.commit(&mut card, &mut map, &[3, 3], &[8; 2 * BLOCK_BYTES], u64::MAX));
+    told("a save of 3 twice", Library.commit(&mut card, &mut map, &[3, 3], &[8; 2 * BLOCK_BYTES], CHOICE, u64::MAX));
     let mut second = [8; 2 * BLOCK_BYTES];
-    told("second save, power lost before its last store", Library.commit(&mut card, &mut map, &[3, 5], &second, 136));
+    let cut = Library.commit(&mut card, &mut map, &[3, 5], &second, CHOICE, 136);
+    told("second save, power lost before its last store", cut);
     state(&card);
     show(&card, &disk, 3);
     // after a cut it is made again
@@ -91,11 +96,11 @@ fn main() {
     show(&card, &disk, 3);
     show(&card, &disk, 5);
 
-    told("second save again", Library.commit(&mut card, &mut map, &[3, 5], &second, u64::MAX));
+    told("second save again", Library.commit(&mut card, &mut map, &[3, 5], &second, CHOICE, u64::MAX));
     show(&card, &disk, 3);
     show(&card, &disk, 5);
 
-    told("load 9", Library.load(&mut card, &disk, &mut map, 9, u64::MAX));
+    told("load 9", Library.load(&mut card, &disk, &mut map, 9, CHOICE, u64::MAX));
     preview("preview of a third save", &mut card, &mut map, &mut second);
     drain(&mut card, &mut disk, &mut map, 4);
     state(&card);

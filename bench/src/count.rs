@@ -39,7 +39,7 @@ impl Station {
 
     fn commit_of(&mut self, numbers: &[u64], allowance: u64) -> Answer {
         let data = &self.data[..numbers.len() << self.k];
-        commit(&mut self.card, &mut self.map, numbers, data, allowance)
+        commit(&mut self.card, &mut self.map, numbers, data, zeros(self.k), allowance)
     }
 
     fn commit(&mut self, n: usize) {
@@ -50,7 +50,8 @@ impl Station {
     fn unproved_commit(&mut self, n: usize) {
         let numbers = self.next(n);
         let data = &self.data[..n << self.k];
-        assert!(matches!(unproved::commit(&mut self.card, &mut self.map, &numbers, data, ALL), Answer::Done(_)));
+        let answer = unproved::commit(&mut self.card, &mut self.map, &numbers, data, zeros(self.k), ALL);
+        assert!(matches!(answer, Answer::Done(_)));
     }
 
     fn preview(&mut self, n: usize) {
@@ -75,12 +76,16 @@ impl Station {
 
     fn load(&mut self, block: u64) {
         let (card, disk, map) = (&mut self.card, &self.disk, self.map.as_mut_ptr());
-        done(unsafe { tinca_load(card.as_mut_ptr(), card.len(), disk.as_ptr(), disk.len(), map, 2, block, ALL) });
+        let (length, disk_length, choice) = (card.len(), disk.len(), zeros(self.k));
+        let (card, disk, words) = (card.as_mut_ptr(), disk.as_ptr(), choice.len());
+        done(unsafe { tinca_load(card, length, disk, disk_length, map, 2, block, choice.as_ptr(), words, ALL) });
     }
 
     fn evict(&mut self, block: u64) {
         let (card, disk, map) = (&mut self.card, &mut self.disk, self.map.as_mut_ptr());
-        done(unsafe { tinca_evict(card.as_mut_ptr(), card.len(), disk.as_mut_ptr(), disk.len(), map, 2, block, ALL) });
+        let (length, disk_length, choice) = (card.len(), disk.len(), zeros(self.k));
+        let (card, disk, words) = (card.as_mut_ptr(), disk.as_mut_ptr(), choice.len());
+        done(unsafe { tinca_evict(card, length, disk, disk_length, map, 2, block, choice.as_ptr(), words, ALL) });
     }
 
     /// Whether the disk, and not the card, had the block.

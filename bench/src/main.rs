@@ -64,6 +64,8 @@ extern "C" {
         count: usize,
         data: *const u8,
         data_length: usize,
+        choice: *const u8,
+        choice_length: usize,
         allowance: u64,
     ) -> RawAnswer;
     fn tinca_preview(
@@ -86,6 +88,8 @@ extern "C" {
         map: *mut u64,
         map_words: usize,
         block: u64,
+        choice: *const u8,
+        choice_length: usize,
         allowance: u64,
     ) -> RawAnswer;
     fn tinca_evict(
@@ -96,6 +100,8 @@ extern "C" {
         map: *mut u64,
         map_words: usize,
         block: u64,
+        choice: *const u8,
+        choice_length: usize,
         allowance: u64,
     ) -> RawAnswer;
     fn tinca_recover(card: *mut u8, length: usize, map: *mut u64, map_words: usize, allowance: u64) -> RawAnswer;
@@ -115,11 +121,17 @@ extern "C" {
 
 const ALL: u64 = u64::MAX;
 
-fn commit(card: &mut [u8], map: &mut [u64], numbers: &[u64], data: &[u8], allowance: u64) -> Answer {
+/// The choice of a station in service: zeros, as many as are asked for.
+fn zeros(k: u64) -> &'static [u8] {
+    &[0; 512][..(1 << k) / 8]
+}
+
+fn commit(card: &mut [u8], map: &mut [u64], numbers: &[u64], data: &[u8], choice: &[u8], allowance: u64) -> Answer {
     let (card, length, map, words) = (card.as_mut_ptr(), card.len(), map.as_mut_ptr(), map.len());
-    let raw = unsafe {
-        tinca_commit(card, length, map, words, numbers.as_ptr(), numbers.len(), data.as_ptr(), data.len(), allowance)
-    };
+    let (list, bytes, chosen) = (numbers.as_ptr(), data.as_ptr(), choice.as_ptr());
+    let (count, data_length) = (numbers.len(), data.len());
+    let raw =
+        unsafe { tinca_commit(card, length, map, words, list, count, bytes, data_length, chosen, choice.len(), allowance) };
     match raw.kind {
         0 => Answer::Done(raw.stores),
         1 => Answer::Cut,
@@ -151,8 +163,23 @@ fn next(state: &mut u64) -> u64 {
     z ^ (z >> 31)
 }
 
+/// Of the words of a block any, none or all; once in sixteen times one that is refused.
+fn some_choice(state: &mut u64) -> Vec<u8> {
+    let mut choice: Vec<u8> = match next(state) % 3 {
+        0 => vec![0; 64],
+        1 => vec![1; 64],
+        _ => (0..64 + next(state) % 8).map(|_| (next(state) % 2) as u8).collect(),
+    };
+    match next(state) % 32 {
+        0 => drop(choice.pop()),
+        1 => *choice.last_mut().unwrap() = 2,
+        _ => {}
+    }
+    choice
+}
+
 /// The unproved commit answers, stores and hands on its map as the library does, on cards whole, cut and damaged, with right maps and
-/// wrong ones.
+/// choices and wrong ones.
 fn same_contract() -> u64 {
     let mut state = 3;
     let mut calls = 0;
@@ -185,9 +212,9 @@ fn same_contract() -> u64 {
             if next(&mut state) % 16 == 0 {
                 given[next(&mut state) as usize % 2] ^= 1 << (next(&mut state) % 64);
             }
-            let (mut one_map, mut other_map) = (given, given);
-            let a = commit(&mut one, &mut one_map, &numbers, &data, allowance);
-            let b = unproved::commit(&mut other, &mut other_map, &numbers, &data, allowance);
+            let (mut one_map, mut other_map, choice) = (given, given, some_choice(&mut state));
+            let a = commit(&mut one, &mut one_map, &numbers, &data, &choice, allowance);
+            let b = unproved::commit(&mut other, &mut other_map, &numbers, &data, &choice, allowance);
             assert!(a == b, "the unproved commit differs: {a:?} and {b:?} for {numbers:?}, allowance {allowance}");
             assert!(one == other && one_map == other_map, "the unproved commit leaves others: {a:?} for {numbers:?}, allowance {allowance}");
             calls += 1;
@@ -242,7 +269,8 @@ fn filled(k: u64, slots: u64, data_blocks: u64, numbers: &[u64]) -> (Vec<u8>, [u
     let mut card = formatted(k, slots, data_blocks, 65_536);
     let mut map = map_of(&card).unwrap();
     for part in numbers.chunks((data_blocks as usize / 2).max(1)) {
-        assert!(matches!(commit(&mut card, &mut map, part, &vec![1; part.len() << k], ALL), Answer::Done(_)));
+        let data = vec![1; part.len() << k];
+        assert!(matches!(commit(&mut card, &mut map, part, &data, zeros(k), ALL), Answer::Done(_)));
     }
     (card, map)
 }
@@ -268,12 +296,12 @@ fn measured(k: u64, data_blocks: u64, n: usize, rounds: usize, kinds: &'static [
     };
     let mut proved = |_: usize| {
         let (card, map) = (black_box(&mut proved_card), black_box(&mut proved_map));
-        let answer = commit(card, map, black_box(saved), black_box(&data), black_box(ALL));
+        let answer = commit(card, map, black_box(saved), black_box(&data), black_box(zeros(k)), black_box(ALL));
         assert!(matches!(answer, Answer::Done(_)));
     };
     let mut plain = |_: usize| {
         let (card, map) = (black_box(&mut unproved_card), black_box(&mut unproved_map));
-        let answer = unproved::commit(card, map, black_box(saved), black_box(&data), black_box(ALL));
+        let answer = unproved::commit(card, map, black_box(saved), black_box(&data), black_box(zeros(k)), black_box(ALL));
         assert!(matches!(answer, Answer::Done(_)));
     };
     let bytes = &data;
@@ -316,6 +344,7 @@ fn others(k: u64, rounds: usize) -> Vec<(&'static str, f64)> {
     }
     let mut out = vec![0u8; block];
     let (card, disk, map) = (card.as_mut_ptr(), disk.as_mut_ptr(), words.as_mut_ptr());
+    let (choice, words) = (zeros(k).as_ptr(), zeros(k).len());
     let mut times = vec![Vec::new(); 11];
     let mut time = |index: usize, run: &mut dyn FnMut(usize)| {
         let start = Instant::now();
@@ -327,10 +356,11 @@ fn others(k: u64, rounds: usize) -> Vec<(&'static str, f64)> {
     let data = vec![3u8; 32 * block];
     let before = unsafe { std::slice::from_raw_parts(card, length) }.to_vec();
     for _ in 0..rounds {
-        time(0, &mut |turn| done(unsafe { tinca_load(card, length, disk, disk_length, map, 2, rest[turn], ALL) }));
-        time(1, &mut |turn| done(unsafe { tinca_evict(card, length, disk, disk_length, map, 2, rest[turn], ALL) }));
-        done(unsafe { tinca_commit(card, length, map, 2, rest.as_ptr(), 32, data.as_ptr(), data.len(), ALL) });
-        time(2, &mut |turn| done(unsafe { tinca_evict(card, length, disk, disk_length, map, 2, rest[turn], ALL) }));
+        let evict = &mut |turn: usize| done(unsafe { tinca_evict(card, length, disk, disk_length, map, 2, rest[turn], choice, words, ALL) });
+        time(0, &mut |turn| done(unsafe { tinca_load(card, length, disk, disk_length, map, 2, rest[turn], choice, words, ALL) }));
+        time(1, evict);
+        done(unsafe { tinca_commit(card, length, map, 2, rest.as_ptr(), 32, data.as_ptr(), data.len(), choice, words, ALL) });
+        time(2, evict);
         time(3, &mut |turn| {
             let place = unsafe { tinca_read(card, length, disk, disk_length, cached[turn], out.as_mut_ptr(), block) };
             assert_eq!((place.kind, place.refusal, place.length), (0, 0, block as u64));
@@ -365,7 +395,7 @@ fn others(k: u64, rounds: usize) -> Vec<(&'static str, f64)> {
     // recovery of a commit of 16 that was cut before its last store
     let mut cut = before.clone();
     let mut map = map_of(&cut).unwrap();
-    let answer = commit(&mut cut, &mut map, &cached[..16], &data[..16 * block], 16 * (block as u64 / 8 + 4));
+    let answer = commit(&mut cut, &mut map, &cached[..16], &data[..16 * block], zeros(k), 16 * (block as u64 / 8 + 4));
     assert_eq!(answer, Answer::Cut);
     let cut_map = map_of(&cut).unwrap();
     let fields = 128 + 8 * 256 + 16 * 128;

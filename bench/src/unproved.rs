@@ -90,7 +90,7 @@ impl Round {
 /// A symbol of its own, so that its instructions are counted apart.
 #[inline(never)]
 #[export_name = "unproved_commit"]
-pub fn commit(card: &mut [u8], map: &mut [u64], numbers: &[u64], data: &[u8], allowance: u64) -> Answer {
+pub fn commit(card: &mut [u8], map: &mut [u64], numbers: &[u64], data: &[u8], choice: &[u8], allowance: u64) -> Answer {
     use Answer::*;
     if card.len() < 128 || card[0..5] != [0, 0, 0, 64, 1] || card[16..64] != [0; 48] {
         return Refused(1);
@@ -163,6 +163,10 @@ pub fn commit(card: &mut [u8], map: &mut [u64], numbers: &[u64], data: &[u8], al
     if data.len() != n << k {
         return Refused(9);
     }
+    // all bytes are 0 or 1 where all together are
+    if choice.len() < block / 8 || choice.iter().fold(0, |all, byte| all | byte) > 1 {
+        return Refused(17);
+    }
     if numbers.iter().any(|number| *number >= disk_blocks as u64) {
         return Refused(10);
     }
@@ -199,8 +203,12 @@ pub fn commit(card: &mut [u8], map: &mut [u64], numbers: &[u64], data: &[u8], al
         let current = free.next();
         let to = blocks + (current << k);
         let from = &data[i << k..(i + 1) << k];
-        let words = left.min(block as u64 / 8);
-        card[to..to + 8 * words as usize].copy_from_slice(&from[..8 * words as usize]);
+        let words = block as u64 / 8;
+        if left < words {
+            put_chosen(&mut card[to..to + block], from, choice);
+            return Cut;
+        }
+        card[to..to + block].copy_from_slice(from);
         left -= words;
         let entry = entries + 16 * targets[i].0 as usize;
         let previous = if targets[i].1 { word(card, entry + 8) as u32 } else { FRESH };
@@ -237,6 +245,14 @@ pub fn commit(card: &mut [u8], map: &mut [u64], numbers: &[u64], data: &[u8], al
     card[72..80].copy_from_slice(&(at_head as u64).to_be_bytes());
     map.copy_from_slice(&[bits as u64, (bits >> 64) as u64]);
     Done(m)
+}
+
+/// Of the run that is cut the words whose byte is 1.
+#[cold]
+fn put_chosen(to: &mut [u8], from: &[u8], choice: &[u8]) {
+    for (index, word) in from.chunks_exact(8).enumerate().filter(|(index, _)| choice[*index] == 1) {
+        to[8 * index..8 * index + 8].copy_from_slice(word);
+    }
 }
 
 #[inline]

@@ -39,6 +39,7 @@ static void wrong_format(const subject *s)
 static void prepare(subject *s)
 {
     const uint64_t numbers[2] = {3, 5};
+    const uint8_t choice[BLOCK / 8] = {0};
     uint8_t data[2 * BLOCK];
     tinca_map made;
     uint64_t map[2];
@@ -55,7 +56,7 @@ static void prepare(subject *s)
     made = tinca_make_map(s->card, s->length);
     map[0] = made.low;
     map[1] = made.high;
-    if (tinca_commit(s->card, s->length, map, 2, numbers, 2, data, sizeof data, UINT64_MAX).kind != TINCA_DONE)
+    if (tinca_commit(s->card, s->length, map, 2, numbers, 2, data, sizeof data, choice, sizeof choice, UINT64_MAX).kind != TINCA_DONE)
         exit(2);
     memcpy(s->old, s->card, s->length);
     memcpy(s->made, s->card, s->length);

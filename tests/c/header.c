@@ -44,23 +44,37 @@ SAME(offsetof(tinca_entry, modified), 16);
 SAME(offsetof(tinca_map, low), 8);
 SAME(offsetof(tinca_map, high), 16);
 
-/* a declaration once more, as the library has it: one with another const would not compile */
+/* declarations once more, as the library has them: one with another const, or in another order, would not compile */
 #ifdef __cplusplus
-extern "C"
+extern "C" {
 #endif
+tinca_answer tinca_commit(uint8_t *card, size_t card_len, uint64_t *map, size_t map_words, const uint64_t *numbers, size_t count,
+                          const uint8_t *data, size_t data_len, const uint8_t *choice, size_t choice_len, uint64_t allowance);
 tinca_answer tinca_preview(const uint8_t *card, size_t card_len, const uint64_t *map, size_t map_words, const uint64_t *numbers, size_t count,
                            const uint8_t *data, size_t data_len, uint32_t *blocks, size_t blocks_len);
+tinca_answer tinca_load(uint8_t *card, size_t card_len, const uint8_t *disk, size_t disk_len, uint64_t *map, size_t map_words, uint64_t block,
+                        const uint8_t *choice, size_t choice_len, uint64_t allowance);
+tinca_answer tinca_evict(uint8_t *card, size_t card_len, uint8_t *disk, size_t disk_len, uint64_t *map, size_t map_words, uint64_t block,
+                         const uint8_t *choice, size_t choice_len, uint64_t allowance);
+#ifdef __cplusplus
+}
+#endif
+
+SAME(TINCA_BAD_CHOICE, 17);
 
 int main(void)
 {
-    const char *none = tinca_refusal_text(TINCA_WRONG_MAP + 1);
+    const char *none = tinca_refusal_text(TINCA_BAD_CHOICE + 1);
     uint32_t number;
     if (strcmp(tinca_refusal_text(0), none) == 0 || strcmp(tinca_refusal_text(UINT32_MAX), none) != 0)
         return 1;
-    for (number = TINCA_BAD_HEADER; number <= TINCA_WRONG_MAP; number++) {
-        if (strcmp(tinca_refusal_text(number), none) == 0)
+    for (number = TINCA_BAD_HEADER; number <= TINCA_BAD_CHOICE; number++) {
+        /* no call is refused with 16 */
+        const int given = number != 16;
+        if ((strcmp(tinca_refusal_text(number), none) != 0) != given)
             return 1;
-        printf("| %u | %s |\n", (unsigned)number, tinca_refusal_text(number));
+        if (given)
+            printf("| %u | %s |\n", (unsigned)number, tinca_refusal_text(number));
     }
     return 0;
 }

@@ -57,7 +57,7 @@ static const subject subjects[] = {
     {"recover after three, one cached", RECOVER, 3, {9, 2, 12}},
 };
 
-static uint8_t *card, disk[DISK_BLOCKS * BLOCK], data[MOST * BLOCK];
+static uint8_t *card, disk[DISK_BLOCKS * BLOCK], data[MOST * BLOCK], choice[BLOCK / 8];
 static uint64_t map[2];
 static uint8_t left[STORES + 1][LENGTH] __attribute__((aligned(16))); /* the card that each allowance leaves */
 static size_t last;           /* m: the allowance that leaves the whole call */
@@ -93,9 +93,17 @@ static void make_map(const uint8_t *of)
     map[1] = made.high;
 }
 
+/* The choice that makes exactly the first stores, as many as the allowance: ones up to where it ends in a block's words, then zeros. Between
+ * two blocks of a commit stand three single stores. */
+static void choose(uint64_t allowance)
+{
+    for (size_t i = 0; i < sizeof choice; i++)
+        choice[i] = i < allowance % (sizeof choice + 3);
+}
+
 static tinca_answer commit(uint8_t *to, size_t count, const uint64_t *numbers, uint64_t allowance)
 {
-    return tinca_commit(to, LENGTH, map, 2, numbers, count, data, count * BLOCK, allowance);
+    return tinca_commit(to, LENGTH, map, 2, numbers, count, data, count * BLOCK, choice, sizeof choice, allowance);
 }
 
 /* The call, in full or up to an allowance; it alone is stepped, with what surrounds it in the child. */
@@ -104,7 +112,7 @@ static tinca_answer perform(const subject *s, uint8_t *to, uint64_t allowance)
     if (s->call == COMMIT)
         return commit(to, s->count, s->numbers, allowance);
     if (s->call == LOAD)
-        return tinca_load(to, LENGTH, disk, sizeof disk, map, 2, s->numbers[0], allowance);
+        return tinca_load(to, LENGTH, disk, sizeof disk, map, 2, s->numbers[0], choice, sizeof choice, allowance);
     return tinca_recover(to, LENGTH, map, 2, allowance);
 }
 
@@ -122,6 +130,7 @@ static void prepare(const subject *s, uint64_t cut)
         demand(commit(before, 1, &number, UINT64_MAX).kind == TINCA_DONE, "a commit of the set-up");
     }
     fill(data, sizeof data, SLOTS - 1);
+    choose(cut);
     if (s->call == RECOVER)
         demand(commit(before, s->count, s->numbers, cut).kind == TINCA_CUT, "the commit to recover from is not cut");
     make_map(before);
@@ -137,6 +146,7 @@ static void list(const subject *s)
         if (last > 0)
             memcpy(left[last], left[0], LENGTH);
         memcpy(map, before, sizeof map);
+        choose(last);
         answer = perform(s, left[last], last);
     }
     last--;

@@ -1,8 +1,9 @@
 //! Two implementations side by side: each call is made on both, then the answers and every byte of card, disk, output and map are
-//! compared. The map is handed on as a station does, and the calls that take one are also tried with wrong ones. A preview is held to the
-//! commits of the same numbers and data.
+//! compared. The map is handed on as a station does, and the calls that take one are also tried with wrong ones; so are those that take
+//! a choice. A preview is held to the commits of the same numbers and data.
 
-use crate::model::{commit_stores, map_of, Card, Model, MAP_BITS};
+use crate::choices::{Pick, PICKS, WRONG_CHOICES};
+use crate::model::{commit_stores, in_order, map_of, zeros, Card, Model, MAP_BITS};
 use crate::random::{mix, Random};
 use crate::{Answer, Cached, Calls, FreeMap, Geometry, Place, State};
 use std::collections::HashMap;
@@ -27,10 +28,10 @@ const FREE_COUNT: usize = 11;
 /// The refusals that each call may give, in the order of `CALLS`; those of a call in the order in which it asks.
 pub const REFUSALS: [&[usize]; CALLS.len()] = [
     &[1, 2],
+    &[1, 2, 4, 5, 6, 7, 15, 8, 9, 17, 10, 11, 14],
     &[1, 2, 4, 5, 6, 7, 15, 8, 9, 10, 11, 14],
-    &[1, 2, 4, 5, 6, 7, 15, 8, 9, 10, 11, 14],
-    &[1, 2, 3, 4, 5, 6, 7, 15, 10, 12, 14],
-    &[1, 2, 3, 4, 5, 6, 7, 15, 10, 13],
+    &[1, 2, 3, 4, 5, 6, 7, 15, 17, 10, 12, 14],
+    &[1, 2, 3, 4, 5, 6, 7, 15, 17, 10, 13],
     &[1, 2, 4, 5, 6, 15],
     &[1, 2, 3, 4, 5, 6, 7, 9, 10],
     &[1, 2, 3, 4, 5, 6, 7, 10],
@@ -40,7 +41,11 @@ pub const REFUSALS: [&[usize]; CALLS.len()] = [
     &[],
 ];
 
+/// One more than the largest number of a refusal.
+const NUMBERS: usize = 18;
+
 const TAKE_A_MAP: [usize; 5] = [COMMIT, PREVIEW, LOAD, EVICT, RECOVER];
+const TAKE_A_CHOICE: [usize; 3] = [COMMIT, LOAD, EVICT];
 
 /// Format, preview, make map and free count have one kind of answer besides a refusal.
 fn has_second_kind(call: usize) -> bool {
@@ -154,10 +159,17 @@ impl Wrong {
 pub struct Tally {
     pub first: [u64; CALLS.len()],
     pub second: [u64; CALLS.len()],
-    pub refused: [[u64; 16]; CALLS.len()],
+    pub refused: [[u64; NUMBERS]; CALLS.len()],
     /// Of the wrong maps that a call refused with 15: how many of each kind, and the bits that differed, one at a time.
     pub wrongs: [[u64; WRONG_MAPS.len()]; CALLS.len()],
     pub bits: [u128; CALLS.len()],
+    /// Of the cuts inside a block's words or sectors: how many with each choice.
+    pub picks: [[u64; PICKS.len()]; CALLS.len()],
+    /// Of the wrong choices that a call refused with 17: how many of each kind.
+    pub choices: [[u64; WRONG_CHOICES.len()]; CALLS.len()],
+    /// The refusals that a call gives for something else than its choice, tried with a wrong one: those asked before 17 came all the
+    /// same, those asked after it did not.
+    pub beside: [[u64; NUMBERS]; CALLS.len()],
     /// Of the previews refused with 9: how many for each wrong output alone, and how many for the data alone.
     pub outputs: [u64; WRONG_OUTPUTS.len()],
     pub odd_data: u64,
@@ -172,30 +184,33 @@ impl Tally {
     }
 
     pub fn add(&mut self, other: &Tally) {
+        let more = |counts: &mut [u64], others: &[u64]| counts.iter_mut().zip(others).for_each(|(count, other)| *count += other);
+        more(&mut self.first, &other.first);
+        more(&mut self.second, &other.second);
         for call in 0..CALLS.len() {
-            self.first[call] += other.first[call];
-            self.second[call] += other.second[call];
-            for number in 0..16 {
-                self.refused[call][number] += other.refused[call][number];
-            }
-            for wrong in 0..WRONG_MAPS.len() {
-                self.wrongs[call][wrong] += other.wrongs[call][wrong];
-            }
+            more(&mut self.refused[call], &other.refused[call]);
+            more(&mut self.wrongs[call], &other.wrongs[call]);
+            more(&mut self.picks[call], &other.picks[call]);
+            more(&mut self.choices[call], &other.choices[call]);
+            more(&mut self.beside[call], &other.beside[call]);
             self.bits[call] |= other.bits[call];
         }
-        self.outputs.iter_mut().zip(other.outputs).for_each(|(count, more)| *count += more);
-        self.foretold.iter_mut().zip(other.foretold).for_each(|(count, more)| *count += more);
+        more(&mut self.outputs, &other.outputs);
+        more(&mut self.foretold, &other.foretold);
         self.odd_data += other.odd_data;
     }
 
-    /// One line: calls, dones, cuts, previews, where blocks were found, conditions, entries told, maps made, refusals by number.
+    /// One line: calls, dones, cuts and those that a choice decides, previews, where blocks were found, conditions, entries told, maps
+    /// made, refusals by number.
     pub fn line(&self) -> String {
         let stored = [FORMAT, COMMIT, LOAD, EVICT, RECOVER];
         let mut line = format!(
-            "{} calls: {} done, {} cut, {} previewed, {} on card, {} on disk, {} settled, {} unsettled, {} in use, {} unused, {} maps; refused",
+            "{} calls: {} done, {} cut ({} by a choice), {} previewed, {} on card, {} on disk, {} settled, {} unsettled, {} in use, {} unused, \
+             {} maps; refused",
             self.calls(),
             stored.iter().map(|call| self.first[*call]).sum::<u64>(),
             stored.iter().map(|call| self.second[*call]).sum::<u64>(),
+            self.picks.iter().flatten().sum::<u64>(),
             self.first[PREVIEW],
             self.first[READ] + self.first[LOOK],
             self.second[READ] + self.second[LOOK],
@@ -205,7 +220,7 @@ impl Tally {
             self.second[CACHED],
             self.first[MAKE_MAP]
         );
-        for number in 1..16 {
+        for number in (1..NUMBERS).filter(|number| REFUSALS.iter().any(|numbers| numbers.contains(number))) {
             let count: u64 = (0..CALLS.len()).map(|call| self.refused[call][number]).sum();
             line += &format!(" {number}:{count}");
         }
@@ -213,8 +228,9 @@ impl Tally {
     }
 
     /// Every answer that a call may give has occurred, and no other; each call that takes a map has refused every kind of wrong one
-    /// with 15, and preview every wrong output with 9; commits came out as they were foretold.
+    /// with 15, and preview every wrong output with 9; commits came out as they were foretold. Of the choices none is missing.
     pub fn complete(&self) -> Result<(), String> {
+        self.complete_choices()?;
         for call in 0..CALLS.len() {
             let name = CALLS[call];
             if self.first[call] == 0 {
@@ -223,7 +239,7 @@ impl Tally {
             if (self.second[call] > 0) != has_second_kind(call) {
                 return Err(format!("{name}: its second kind of answer occurred {} times", self.second[call]));
             }
-            for number in 0..16 {
+            for number in 0..NUMBERS {
                 if (self.refused[call][number] > 0) != REFUSALS[call].contains(&number) {
                     return Err(format!("{name}: refusal {number} occurred {} times", self.refused[call][number]));
                 }
@@ -245,6 +261,24 @@ impl Tally {
         }
         if self.foretold.contains(&0) {
             return Err(format!("commits that were foretold, done and refused: {:?}", self.foretold));
+        }
+        Ok(())
+    }
+
+    /// Each call that takes a choice was cut with every kind of it, has refused every kind of wrong one with 17, and was given a wrong
+    /// one beside each of its other refusals.
+    fn complete_choices(&self) -> Result<(), String> {
+        for call in TAKE_A_CHOICE {
+            let name = CALLS[call];
+            if let Some((pick, _)) = PICKS.iter().zip(self.picks[call]).find(|(_, count)| *count == 0) {
+                return Err(format!("{name}: no cut inside a block with the choice {pick:?}"));
+            }
+            if let Some((wrong, _)) = WRONG_CHOICES.iter().zip(self.choices[call]).find(|(_, count)| *count == 0) {
+                return Err(format!("{name}: no wrong choice of the kind {wrong:?}"));
+            }
+            if let Some(number) = REFUSALS[call].iter().find(|number| **number != 17 && self.beside[call][**number] == 0) {
+                return Err(format!("{name}: no wrong choice beside refusal {number}"));
+            }
         }
         Ok(())
     }
@@ -367,8 +401,17 @@ impl Asked {
 /// No number of a data block: what a refused preview must leave in its output.
 const UNTOLD: u32 = 0x5A5A_5A5A;
 
-/// A call that takes a map, on one side: the implementation, card, disk, map, and what a preview is lent.
-type Run<'r> = dyn Fn(&dyn Calls, &mut [u8], &mut [u8], &mut [u64], &mut Asked) -> Answer + 'r;
+/// What a call is lent on one side.
+struct Lent<'l> {
+    card: &'l mut [u8],
+    disk: &'l mut [u8],
+    map: &'l mut [u64],
+    asked: &'l mut Asked,
+    choice: &'l [u8],
+}
+
+/// A call that takes a map, by an implementation.
+type Call<'c> = dyn Fn(&dyn Calls, Lent) -> Answer + 'c;
 
 pub struct Pair<'a> {
     one: &'a dyn Calls,
@@ -377,14 +420,17 @@ pub struct Pair<'a> {
     disk: [Buffer; 2],
     out: [Buffer; 2],
     asked: [Asked; 2],
+    /// Lent to both.
+    choice: Buffer,
     /// The station's map.
     map: [Words<u64>; 2],
     /// The map is of another card than the one that is there, or of one before a cut.
     out_of_step: bool,
     /// The map as it was before the last storing call.
     stale: Vec<u64>,
-    /// How many wrong maps each call was tried with.
+    /// How many wrong maps each call was tried with, and how many wrong choices.
     turns: [usize; CALLS.len()],
+    choice_turns: [usize; CALLS.len()],
     pub tally: Tally,
 }
 
@@ -403,10 +449,12 @@ impl<'a> Pair<'a> {
             disk: [Buffer::new(disk, shift), Buffer::new(disk, shift)],
             out: [Buffer::new(&[], shift), Buffer::new(&[], shift)],
             asked: [Asked::new(shift), Asked::new(shift)],
+            choice: Buffer::new(&[], shift),
             map: [Words::new(&[0; 2], shift), Words::new(&[0; 2], shift)],
             out_of_step: true,
             stale: vec![0; 2],
             turns: [shift; CALLS.len()],
+            choice_turns: [shift; CALLS.len()],
             tally: Tally::default(),
         }
     }
@@ -421,6 +469,11 @@ impl<'a> Pair<'a> {
 
     pub fn out(&self) -> &[u8] {
         self.out[1].get()
+    }
+
+    /// B, by the card's header; where that is refused, the smallest.
+    fn block(&self) -> usize {
+        Geometry::from_header(self.card()).map_or(512, |geometry| geometry.block())
     }
 
     fn set_map(&mut self, map: &[u64]) {
@@ -522,8 +575,8 @@ impl<'a> Pair<'a> {
         Ok(())
     }
 
-    /// A call with a wrong map: refused, and nothing changed.
-    fn try_wrong(&mut self, call: usize, run: &Run, what: &dyn Fn() -> String) -> Result<(), String> {
+    /// A call with a wrong map, every third time with a wrong choice too: refused, and nothing changed.
+    fn try_wrong(&mut self, call: usize, run: &Call, what: &dyn Fn() -> String) -> Result<(), String> {
         let turn = self.turns[call];
         self.turns[call] += 1;
         let (wrong, map) = (Wrong::at(turn), self.map[1].get().to_vec());
@@ -536,10 +589,15 @@ impl<'a> Pair<'a> {
         if tried == right && card.is_some() {
             return Ok(());
         }
+        let (choice, both_wrong) = (self.choice.get().to_vec(), turn % 3 == 2 && TAKE_A_CHOICE.contains(&call));
+        if both_wrong {
+            self.choice.set(&WRONG_CHOICES[turn % WRONG_CHOICES.len()].choice(turn, &choice, self.block()));
+        }
         self.set_map(&tried);
         match self.both(call, run, &|| format!("{} with a wrong map {tried:X?}", what()))? {
             Answer::Refused(15) => {
                 self.tally.wrongs[call][wrong as usize] += 1;
+                self.tally.beside[call][15] += u64::from(both_wrong);
                 if wrong == Wrong::Bit {
                     self.tally.bits[call] |= 1 << Wrong::bit(turn);
                 }
@@ -548,12 +606,59 @@ impl<'a> Pair<'a> {
             answer => return Err(format!("{}: {answer:?} with a wrong map {tried:X?}", what())),
         }
         self.set_map(&map);
+        self.choice.set(&choice);
         Ok(())
     }
 
-    fn both(&mut self, call: usize, run: &Run, what: &dyn Fn() -> String) -> Result<Answer, String> {
-        let a = run(self.one, self.card[0].get_mut(), self.disk[0].get_mut(), self.map[0].get_mut(), &mut self.asked[0]);
-        let b = run(self.other, self.card[1].get_mut(), self.disk[1].get_mut(), self.map[1].get_mut(), &mut self.asked[1]);
+    /// A call with a wrong choice: refused, and nothing changed. Gives the refusal.
+    fn try_wrong_choice(&mut self, call: usize, run: &Call, what: &dyn Fn() -> String) -> Result<u32, String> {
+        let turn = self.choice_turns[call];
+        self.choice_turns[call] += 1;
+        let (kind, right) = (turn % WRONG_CHOICES.len(), self.choice.get().to_vec());
+        let wrong = WRONG_CHOICES[kind];
+        self.choice.set(&wrong.choice(turn, &right, self.block()));
+        let answer = self.both(call, run, &|| format!("{} with a wrong choice, {wrong:?}", what()))?;
+        self.choice.set(&right);
+        match answer {
+            Answer::Refused(number) => {
+                self.tally.choices[call][kind] += u64::from(number == 17);
+                Ok(number)
+            }
+            _ => Err(format!("{}: {answer:?} with a wrong choice, {wrong:?}", what())),
+        }
+    }
+
+    /// What is asked before 17 is answered with a wrong choice too; what is asked after it only with a right one, as `answer`.
+    fn is_in_order(&mut self, call: usize, with_wrong: u32, answer: Answer) -> Result<(), String> {
+        let place = |number: u32| REFUSALS[call].iter().position(|one| *one == number as usize);
+        let fits = match answer {
+            Answer::Refused(number) if place(number) < place(17) => with_wrong == number,
+            Answer::Refused(17) => false,
+            _ => with_wrong == 17,
+        };
+        if let Answer::Refused(number) = answer {
+            self.tally.beside[call][number as usize] += 1;
+        }
+        if fits {
+            Ok(())
+        } else {
+            Err(format!("{answer:?}, but refused with {with_wrong} where the choice is wrong"))
+        }
+    }
+
+    fn on(&mut self, side: usize, run: &Call) -> Answer {
+        let lent = Lent {
+            card: self.card[side].get_mut(),
+            disk: self.disk[side].get_mut(),
+            map: self.map[side].get_mut(),
+            asked: &mut self.asked[side],
+            choice: self.choice.get(),
+        };
+        run(if side == 0 { self.one } else { self.other }, lent)
+    }
+
+    fn both(&mut self, call: usize, run: &Call, what: &dyn Fn() -> String) -> Result<Answer, String> {
+        let (a, b) = (self.on(0, run), self.on(1, run));
         let answer = self.answered(call, a, b, what)?;
         if call == PREVIEW {
             self.same_asked().map_err(|difference| format!("{}: {difference}", what()))?;
@@ -561,9 +666,21 @@ impl<'a> Pair<'a> {
         Ok(answer)
     }
 
+    /// A storing call that takes a choice: with a wrong one first, then with this.
+    fn choosing(&mut self, call: usize, choice: &[u8], run: &Call, what: &dyn Fn() -> String) -> Result<Answer, String> {
+        self.choice.set(choice);
+        if self.out_of_step {
+            self.make_again()?;
+        }
+        let with_wrong = self.try_wrong_choice(call, run, what)?;
+        let answer = self.storing(call, run, what)?;
+        self.is_in_order(call, with_wrong, answer).map_err(|difference| format!("{}: {difference}", what()))?;
+        Ok(answer)
+    }
+
     /// A storing call, with a wrong map first and then with the station's. After a done call the map must be the one that the card
     /// gives; after a cut it is made again; a refused call keeps it.
-    fn storing(&mut self, call: usize, run: &Run, what: &dyn Fn() -> String) -> Result<Answer, String> {
+    fn storing(&mut self, call: usize, run: &Call, what: &dyn Fn() -> String) -> Result<Answer, String> {
         if self.out_of_step {
             self.make_again()?;
         }
@@ -583,9 +700,25 @@ impl<'a> Pair<'a> {
         Ok(answer)
     }
 
-    pub fn commit(&mut self, numbers: &[u64], data: &[u8], allowance: u64) -> Result<Answer, String> {
-        let what = || format!("commit({numbers:?}, data of {}, allowance {allowance})", data.len());
-        self.storing(COMMIT, &|calls, card, _, map, _| calls.commit(card, map, numbers, data, allowance), &what)
+    /// The choice that is picked for a call of so large an allowance.
+    fn picked(&self, call: usize, pick: Pick, allowance: u64) -> Vec<u8> {
+        let (seed, block) = (self.choice_turns[call] as u64, self.block());
+        pick.choice(seed, block, if call == EVICT { block / 512 } else { block / 8 }, allowance)
+    }
+
+    /// Counts a call that was cut inside a block's words or sectors.
+    fn count_cut(&mut self, call: usize, pick: Pick, inside: bool) {
+        self.tally.picks[call][pick as usize] += u64::from(inside);
+    }
+
+    pub fn commit(&mut self, numbers: &[u64], data: &[u8], pick: Pick, allowance: u64) -> Result<Answer, String> {
+        let what = || format!("commit({numbers:?}, data of {}, choice {pick:?}, allowance {allowance})", data.len());
+        let run: &Call = &|calls, lent| calls.commit(lent.card, lent.map, numbers, data, lent.choice, allowance);
+        let answer = self.choosing(COMMIT, &self.picked(COMMIT, pick, allowance), run, &what)?;
+        let words = self.block() as u64 / 8;
+        let inside = allowance < numbers.len() as u64 * (words + 3) && allowance % (words + 3) < words;
+        self.count_cut(COMMIT, pick, answer == Answer::Cut && inside);
+        Ok(answer)
     }
 
     /// A preview, with a wrong map first and then with the station's.
@@ -600,8 +733,9 @@ impl<'a> Pair<'a> {
             asked.blocks.set(&vec![UNTOLD; length]);
         }
         let what = || format!("preview({numbers:?}, data of {}, output of {length})", data.len());
-        let run: &Run = &|calls, card, _, map, asked| {
-            calls.preview(card, map, asked.numbers.get_mut(), asked.data.get_mut(), asked.blocks.get_mut())
+        let run: &Call = &|calls, lent| {
+            let Asked { numbers, data, blocks } = lent.asked;
+            calls.preview(lent.card, lent.map, numbers.get_mut(), data.get_mut(), blocks.get_mut())
         };
         self.try_wrong(PREVIEW, run, &what)?;
         let answer = self.both(PREVIEW, run, &what)?;
@@ -635,9 +769,9 @@ impl<'a> Pair<'a> {
     }
 
     /// A preview and then the commit, which must answer as foretold and put the blocks where the preview said.
-    pub fn foretold(&mut self, numbers: &[u64], data: &[u8], allowance: u64) -> Result<Answer, String> {
+    pub fn foretold(&mut self, numbers: &[u64], data: &[u8], pick: Pick, allowance: u64) -> Result<Answer, String> {
         let foretold = self.preview(numbers, data, Output::Whole)?;
-        let answer = self.commit(numbers, data, allowance)?;
+        let answer = self.commit(numbers, data, pick, allowance)?;
         let awaited = match foretold {
             Answer::Done(m) if allowance < m => Answer::Cut,
             _ => foretold,
@@ -677,14 +811,26 @@ impl<'a> Pair<'a> {
         Ok(())
     }
 
-    pub fn load(&mut self, block: u64, allowance: u64) -> Result<Answer, String> {
-        let what = || format!("load({block}, allowance {allowance})");
-        self.storing(LOAD, &|calls, card, disk, map, _| calls.load(card, disk, map, block, allowance), &what)
+    pub fn load(&mut self, block: u64, pick: Pick, allowance: u64) -> Result<Answer, String> {
+        let what = || format!("load({block}, choice {pick:?}, allowance {allowance})");
+        let run: &Call = &|calls, lent| calls.load(lent.card, lent.disk, lent.map, block, lent.choice, allowance);
+        let answer = self.choosing(LOAD, &self.picked(LOAD, pick, allowance), run, &what)?;
+        self.count_cut(LOAD, pick, answer == Answer::Cut && allowance < self.block() as u64 / 8);
+        Ok(answer)
     }
 
-    pub fn evict(&mut self, block: u64, allowance: u64) -> Result<Answer, String> {
-        let what = || format!("evict({block}, allowance {allowance})");
-        let answer = self.storing(EVICT, &|calls, card, disk, map, _| calls.evict(card, disk, map, block, allowance), &what)?;
+    /// Whether the block is cached and modified: then its evict has sectors.
+    fn is_modified(&self, block: u64) -> bool {
+        let opened = Card::open(self.card(), None).ok();
+        opened.is_some_and(|card| card.in_use().any(|entry| entry.number == block && entry.modified))
+    }
+
+    pub fn evict(&mut self, block: u64, pick: Pick, allowance: u64) -> Result<Answer, String> {
+        let what = || format!("evict({block}, choice {pick:?}, allowance {allowance})");
+        let run: &Call = &|calls, lent| calls.evict(lent.card, lent.disk, lent.map, block, lent.choice, allowance);
+        let answer = self.choosing(EVICT, &self.picked(EVICT, pick, allowance), run, &what)?;
+        let inside = allowance < self.block() as u64 / 512;
+        self.count_cut(EVICT, pick, answer == Answer::Cut && inside && self.is_modified(block));
         if self.disk[1].length > WHOLE_DISK {
             // the block itself and a block's length to each side
             let size = 1 << self.card[1].get()[5].min(12);
@@ -701,7 +847,7 @@ impl<'a> Pair<'a> {
 
     pub fn recover(&mut self, allowance: u64) -> Result<Answer, String> {
         let what = || format!("recover(allowance {allowance})");
-        self.storing(RECOVER, &|calls, card, _, map, _| calls.recover(card, map, allowance), &what)
+        self.storing(RECOVER, &|calls, lent| calls.recover(lent.card, lent.map, allowance), &what)
     }
 
     fn placed(&mut self, call: usize, a: Place, b: Place, what: impl Fn() -> String) -> Result<Place, String> {
@@ -886,17 +1032,22 @@ pub fn data_of(seed: u64, n: usize, block: usize) -> Vec<u8> {
     data
 }
 
-fn make(pair: &mut Pair, geometry: Geometry, step: &Step, allowance: u64, row: &mut Row) -> Result<Answer, String> {
+fn make(pair: &mut Pair, geometry: Geometry, step: &Step, pick: Pick, allowance: u64, row: &mut Row) -> Result<Answer, String> {
     match step {
         Step::Commit(numbers, seed) => {
             let data = data_of(*seed, numbers.len(), geometry.block());
-            let answer = pair.foretold(numbers, &data, allowance)?;
+            let answer = pair.foretold(numbers, &data, pick, allowance)?;
             row.feed(numbers, &data, answer);
             Ok(answer)
         }
-        Step::Load(block) => pair.load(*block, allowance),
-        Step::Evict(block) => pair.evict(*block, allowance),
+        Step::Load(block) => pair.load(*block, pick, allowance),
+        Step::Evict(block) => pair.evict(*block, pick, allowance),
     }
+}
+
+/// The step in full, where the choice plays no part.
+fn make_in_full(pair: &mut Pair, geometry: Geometry, step: &Step, row: &mut Row) -> Result<u64, String> {
+    done(make(pair, geometry, step, Pick::Zeros, u64::MAX, row)?)
 }
 
 fn done(answer: Answer) -> Result<u64, String> {
@@ -906,8 +1057,9 @@ fn done(answer: Answer) -> Result<u64, String> {
     }
 }
 
-/// Part a: at each step of the script every allowance from 0 to m; after each of them a recovery at every allowance, after each cut
-/// one a second at every allowance, then one in full; then the row, the row once all is evicted, and the step once more.
+/// Part a: at each step of the script every allowance from 0 to m, each with every kind of choice; after each of them a recovery at every
+/// allowance, after each cut one a second at every allowance, then one in full; then the row, the row once all is evicted, and the step
+/// once more.
 pub fn every_cut<'a>(one: &'a dyn Calls, other: &'a dyn Calls, geometry: Geometry, blocks: u64, stride: u64) -> Result<Tally, String> {
     let seed = 17;
     let mut card = vec![0; geometry.card_length()];
@@ -917,67 +1069,81 @@ pub fn every_cut<'a>(one: &'a dyn Calls, other: &'a dyn Calls, geometry: Geometr
     done(pair.format(geometry.k, geometry.slots, geometry.data_blocks, geometry.disk_blocks)?)?;
     for step in script() {
         let before = pair.snapshot();
-        let m = done(make(&mut pair, geometry, &step, u64::MAX, &mut row.clone())?)?;
+        let m = make_in_full(&mut pair, geometry, &step, &mut row.clone())?;
         let trailing = m.saturating_sub(4 * geometry.data_blocks + 8);
         for allowance in 0..=m {
             // inside the words of one block only every stride-th place is followed up
             if allowance > 3 && allowance < trailing && allowance % stride != 0 && allowance % (geometry.block() as u64 / 8) > 6 {
                 continue;
             }
-            pair.set(&before);
-            let mut after = row.clone();
-            let answer = make(&mut pair, geometry, &step, allowance, &mut after)?;
-            if answer != (if allowance < m { Answer::Cut } else { Answer::Done(m) }) {
-                return Err(format!("{step:?} of {m} stores, allowance {allowance}: {answer:?}"));
-            }
-            let state = pair.state()?;
-            pair.listed(geometry.data_blocks)?;
-            for block in 0..blocks {
-                if settled(state) {
-                    after.holds(&mut pair, block)?;
-                } else {
-                    pair.look(block)?;
+            for pick in PICKS {
+                pair.set(&before);
+                let mut after = row.clone();
+                let answer = make(&mut pair, geometry, &step, pick, allowance, &mut after)?;
+                if answer != (if allowance < m { Answer::Cut } else { Answer::Done(m) }) {
+                    return Err(format!("{step:?} of {m} stores, choice {pick:?}, allowance {allowance}: {answer:?}"));
                 }
-            }
-            let cut = pair.snapshot();
-            let places = done(pair.recover(u64::MAX)?)?;
-            for first in 0..=places {
-                pair.set(&cut);
-                pair.recover(first)?;
-                let once = pair.snapshot();
-                let places = done(pair.recover(u64::MAX)?)?;
-                for second in 0..=places {
-                    pair.set(&once);
-                    pair.recover(second)?;
-                    if done(pair.recover(u64::MAX)?)? != places - second {
-                        return Err("a recovery's remaining stores are not those that were cut off".to_string());
-                    }
-                    if !settled(pair.state()?) {
-                        return Err("not settled after a recovery that answered done".to_string());
-                    }
-                    for block in 0..blocks {
-                        after.holds(&mut pair, block)?;
-                    }
-                }
-            }
-            // what is on the card reaches the disk
-            let recovered = pair.snapshot();
-            for block in 0..blocks {
-                pair.evict(block, u64::MAX)?;
-                after.holds(&mut pair, block)?;
-            }
-            pair.set(&recovered);
-            if answer == Answer::Cut && !matches!(step, Step::Evict(_)) {
-                make(&mut pair, geometry, &step, u64::MAX, &mut after)?;
-                for block in 0..blocks {
-                    after.holds(&mut pair, block)?;
-                }
+                as_left(&mut pair, geometry, blocks, &after)?;
+                every_recovery(&mut pair, blocks, &after)?;
+                goes_on(&mut pair, geometry, blocks, &step, answer, &mut after)?;
             }
         }
         pair.set(&before);
-        done(make(&mut pair, geometry, &step, u64::MAX, &mut row)?)?;
+        make_in_full(&mut pair, geometry, &step, &mut row)?;
     }
     Ok(pair.tally)
+}
+
+fn all_hold(pair: &mut Pair, blocks: u64, row: &Row) -> Result<(), String> {
+    (0..blocks).try_for_each(|block| row.holds(pair, block))
+}
+
+/// What a call left, before any recovery: on a settled card the row.
+fn as_left(pair: &mut Pair, geometry: Geometry, blocks: u64, row: &Row) -> Result<(), String> {
+    pair.listed(geometry.data_blocks)?;
+    if settled(pair.state()?) {
+        return all_hold(pair, blocks, row);
+    }
+    (0..blocks).try_for_each(|block| pair.look(block).map(drop))
+}
+
+/// A recovery at every allowance, after each cut one a second at every allowance, then one in full, and the row.
+fn every_recovery(pair: &mut Pair, blocks: u64, row: &Row) -> Result<(), String> {
+    let cut = pair.snapshot();
+    let places = done(pair.recover(u64::MAX)?)?;
+    for first in 0..=places {
+        pair.set(&cut);
+        pair.recover(first)?;
+        let once = pair.snapshot();
+        let places = done(pair.recover(u64::MAX)?)?;
+        for second in 0..=places {
+            pair.set(&once);
+            pair.recover(second)?;
+            if done(pair.recover(u64::MAX)?)? != places - second {
+                return Err("a recovery's remaining stores are not those that were cut off".to_string());
+            }
+            if !settled(pair.state()?) {
+                return Err("not settled after a recovery that answered done".to_string());
+            }
+            all_hold(pair, blocks, row)?;
+        }
+    }
+    Ok(())
+}
+
+/// From a recovered card what is on it reaches the disk, and a step that was cut is made once more.
+fn goes_on(pair: &mut Pair, geometry: Geometry, blocks: u64, step: &Step, answer: Answer, row: &mut Row) -> Result<(), String> {
+    let recovered = pair.snapshot();
+    for block in 0..blocks {
+        pair.evict(block, Pick::Zeros, u64::MAX)?;
+        row.holds(pair, block)?;
+    }
+    pair.set(&recovered);
+    if answer == Answer::Cut {
+        make_in_full(pair, geometry, step, row)?;
+        all_hold(pair, blocks, row)?;
+    }
+    Ok(())
 }
 
 /// Part b: a random history of `calls` calls with cuts from a formatted card.
@@ -1011,6 +1177,7 @@ pub fn random_history<'a>(
             0 => u64::MAX,
             _ => random.below(6 * (block as u64 / 8 + 4) + 2),
         };
+        let choice = random.pick(&PICKS);
         match random.below(16) {
             0..=5 => {
                 let largest = (geometry.slots - 1).min(geometry.data_blocks / 2).min(geometry.disk_blocks).max(1);
@@ -1037,14 +1204,15 @@ pub fn random_history<'a>(
                 if random.once_in(3) {
                     pair.preview(&numbers, &data, some_output(&mut random))?;
                 }
-                let answer = pair.foretold(&numbers, &data, allowance)?;
+                let answer = pair.foretold(&numbers, &data, choice, allowance)?;
                 row.feed(&numbers, &data, answer);
             }
             6 | 7 => {
-                pair.load(pick(&mut random), most)?;
+                pair.load(pick(&mut random), choice, most)?;
             }
             8..=10 => {
-                pair.evict(pick(&mut random), if random.once_in(3) { random.below(block as u64 / 512 + 2) } else { u64::MAX })?;
+                let allowance = if random.once_in(3) { random.below(block as u64 / 512 + 2) } else { u64::MAX };
+                pair.evict(pick(&mut random), choice, allowance)?;
             }
             11..=12 => {
                 pair.recover(if random.once_in(3) { random.below(5) } else { u64::MAX })?;
@@ -1099,17 +1267,18 @@ pub fn some_card(random: &mut Random, geometry: Geometry) -> Snapshot {
         let (number, mut map) = (random.below(geometry.disk_blocks), map_of(&card));
         match random.below(4) {
             0 => {
-                model.load(&mut card, &disk, &mut map, number, u64::MAX);
+                model.load(&mut card, &disk, &mut map, number, &zeros(geometry.block()), u64::MAX);
             }
             1 => {
-                model.evict(&mut card, &mut disk, &mut map, number, u64::MAX);
+                model.evict(&mut card, &mut disk, &mut map, number, &zeros(geometry.block()), u64::MAX);
             }
             _ => {
                 let n = 1 + random.below(geometry.disk_blocks.min(3)) as usize;
                 let numbers: Vec<u64> = (0..n as u64).map(|i| (number + i) % geometry.disk_blocks).collect();
                 let m = (n * (geometry.block() / 8 + 4) + 1) as u64;
                 let allowance = if random.once_in(3) { m - random.below(2 * n as u64 + 4) } else { m };
-                model.commit(&mut card, &mut map, &numbers, &data_of(random.next(), n, geometry.block()), allowance);
+                let (data, choice) = (data_of(random.next(), n, geometry.block()), in_order(geometry.block(), allowance));
+                model.commit(&mut card, &mut map, &numbers, &data, &choice, allowance);
             }
         }
     }
@@ -1121,9 +1290,9 @@ fn loaded(geometry: Geometry, count: u64) -> Snapshot {
     let model = Model::default();
     let (mut card, disk) = (vec![0; geometry.card_length()], first_disk(count, geometry));
     model.format(geometry.k, geometry.slots, geometry.data_blocks, geometry.disk_blocks, &mut card);
-    let mut map = map_of(&card);
+    let (mut map, choice) = (map_of(&card), zeros(geometry.block()));
     for block in 0..count {
-        assert!(matches!(model.load(&mut card, &disk, &mut map, block, u64::MAX), Answer::Done(_)));
+        assert!(matches!(model.load(&mut card, &disk, &mut map, block, &choice, u64::MAX), Answer::Done(_)));
     }
     Snapshot { card, disk }
 }
@@ -1250,11 +1419,13 @@ fn every_call(pair: &mut Pair, random: &mut Random, geometry: Geometry, from: &S
     let data = data_of(random.next(), n, block);
     let allowance = if random.once_in(3) { random.below((n * (block / 8 + 4) + 2) as u64) } else { u64::MAX };
     pair.preview(&numbers, &data[if random.once_in(8) { n.min(1) } else { 0 }..], some_output(random))?;
-    pair.foretold(&numbers, &data, allowance)?;
+    pair.foretold(&numbers, &data, random.pick(&PICKS), allowance)?;
     pair.set(from);
-    pair.load(some(random), if random.once_in(3) { random.below(block as u64 / 8 + 2) } else { u64::MAX })?;
+    let allowance = if random.once_in(3) { random.below(block as u64 / 8 + 2) } else { u64::MAX };
+    pair.load(some(random), random.pick(&PICKS), allowance)?;
     pair.set(from);
-    pair.evict(some(random), if random.once_in(3) { random.below(block as u64 / 512 + 2) } else { u64::MAX })?;
+    let allowance = if random.once_in(3) { random.below(block as u64 / 512 + 2) } else { u64::MAX };
+    pair.evict(some(random), random.pick(&PICKS), allowance)?;
     Ok(())
 }
 
@@ -1307,17 +1478,17 @@ pub fn arguments<'a>(one: &'a dyn Calls, other: &'a dyn Calls, seed: u64) -> Res
         for _ in 0..60 {
             let from = some_card(&mut random, geometry);
             for number in numbers {
-                let allowance = random.pick(&allowances);
+                let (allowance, pick) = (random.pick(&allowances), random.pick(&PICKS));
                 pair.set(&from);
                 for length in [0, 1, 511, block - 1, block, block + 1, 2 * block] {
                     pair.read(number, length)?;
                 }
                 pair.look(number)?;
-                pair.load(number, allowance)?;
-                pair.load(number, u64::MAX)?;
-                pair.evict(number, allowance)?;
-                pair.evict(number, u64::MAX)?;
-                pair.foretold(&[number], &data_of(number, 1, block), allowance)?;
+                pair.load(number, pick, allowance)?;
+                pair.load(number, pick, u64::MAX)?;
+                pair.evict(number, pick, allowance)?;
+                pair.evict(number, pick, u64::MAX)?;
+                pair.foretold(&[number], &data_of(number, 1, block), pick, allowance)?;
                 pair.recover(allowance)?;
             }
             for count in counts {
@@ -1336,11 +1507,11 @@ pub fn arguments<'a>(one: &'a dyn Calls, other: &'a dyn Calls, seed: u64) -> Res
                     let right = count as usize * block;
                     for length in [right, 0, right.saturating_sub(1), right + 1, right.saturating_sub(block), right + block, right] {
                         pair.preview(list, &data[..length], some_output(&mut random))?;
-                        let allowance = random.pick(&allowances);
+                        let (allowance, pick) = (random.pick(&allowances), random.pick(&PICKS));
                         if length == right {
-                            pair.foretold(list, &data[..length], allowance)?;
+                            pair.foretold(list, &data[..length], pick, allowance)?;
                         } else {
-                            pair.commit(list, &data[..length], allowance)?;
+                            pair.commit(list, &data[..length], pick, allowance)?;
                         }
                         if random.once_in(2) {
                             pair.recover(u64::MAX)?;
@@ -1353,8 +1524,8 @@ pub fn arguments<'a>(one: &'a dyn Calls, other: &'a dyn Calls, seed: u64) -> Res
                 pair.set_disk(&from.disk.iter().copied().cycle().take(length).collect::<Vec<u8>>());
                 pair.look(0)?;
                 pair.read(0, block)?;
-                pair.load(1, u64::MAX)?;
-                pair.evict(1, u64::MAX)?;
+                pair.load(1, Pick::Zeros, u64::MAX)?;
+                pair.evict(1, Pick::Zeros, u64::MAX)?;
             }
         }
         tally.add(&pair.tally);
@@ -1365,11 +1536,11 @@ pub fn arguments<'a>(one: &'a dyn Calls, other: &'a dyn Calls, seed: u64) -> Res
         let from = loaded(geometry, cached);
         let mut pair = Pair::new(one, other, &from.card, &from.disk, 4);
         for _ in 0..2 * WRONG_MAPS.len() {
-            pair.foretold(&[5], &data_of(5, 1, geometry.block()), u64::MAX)?;
+            pair.foretold(&[5], &data_of(5, 1, geometry.block()), Pick::Zeros, u64::MAX)?;
             pair.set(&from);
-            pair.load(5, u64::MAX)?;
+            pair.load(5, Pick::Zeros, u64::MAX)?;
             pair.set(&from);
-            pair.evict(0, u64::MAX)?;
+            pair.evict(0, Pick::Zeros, u64::MAX)?;
             pair.set(&from);
             pair.recover(u64::MAX)?;
         }
@@ -1447,7 +1618,7 @@ pub fn every_preview<'a>(one: &'a dyn Calls, other: &'a dyn Calls, geometry: Geo
             let data = data_of(seed, numbers.len() + 1, geometry.block());
             every_save(&mut pair, &before, &numbers, &data, geometry.block())?;
         }
-        done(make(&mut pair, geometry, &step, u64::MAX, &mut row)?)?;
+        make_in_full(&mut pair, geometry, &step, &mut row)?;
     }
     Ok(pair.tally)
 }
@@ -1468,20 +1639,20 @@ fn every_save(pair: &mut Pair, from: &Snapshot, numbers: &[u64], data: &[u8], bl
     }
     let m = commit_stores(n as u64, block as u64);
     for allowance in [m - 1, m, u64::MAX] {
-        pair.foretold(numbers, right, allowance)?;
+        pair.foretold(numbers, right, Pick::Zeros, allowance)?;
         pair.set(from);
     }
     Ok(())
 }
 
-/// The drill of document 01 on one implementation.
+/// The drill of document 01 on one implementation, with a choice of zeros.
 pub fn drill(calls: &dyn Calls) -> String {
     let mut printed = "allowance,commit,recovery,byte\n".to_string();
     for allowance in 64..=69 {
         let (mut card, mut disk, mut out) = (vec![0; 2304], vec![0; 16 * 512], vec![0; 512]);
         calls.format(9, 8, 4, 16, &mut card);
         let FreeMap::Made(mut map) = calls.make_map(&card) else { return "no map of a fresh card".to_string() };
-        let commit = match calls.commit(&mut card, &mut map, &[3], &[7; 512], allowance) {
+        let commit = match calls.commit(&mut card, &mut map, &[3], &[7; 512], &zeros(512), allowance) {
             Answer::Done(_) => "done",
             Answer::Cut => {
                 let FreeMap::Made(again) = calls.make_map(&card) else { return "no map of a cut card".to_string() };
@@ -1506,6 +1677,8 @@ mod tests {
     use crate::model::*;
 
     const SMALL: Geometry = Geometry { k: 9, slots: 8, data_blocks: 4, disk_blocks: 6 };
+    /// The choice of a call that is done, or cut behind a single store, at k 9.
+    const ZEROS: &[u8] = &[0; 64];
 
     #[test]
     fn the_drill_prints_its_seven_lines() {
@@ -1539,7 +1712,7 @@ mod tests {
         let (mut card, disk) = (vec![0; SMALL.card_length()], vec![0; SMALL.disk_length()]);
         assert_eq!(Library.format(SMALL.k, SMALL.slots, SMALL.data_blocks, SMALL.disk_blocks, &mut card), Answer::Done(0));
         let mut map = Library.fresh_map(&card);
-        assert_eq!(Library.commit(&mut card, &mut map, &[3], &[7; 512], u64::MAX), Answer::Done(69));
+        assert_eq!(Library.commit(&mut card, &mut map, &[3], &[7; 512], ZEROS, u64::MAX), Answer::Done(69));
         assert_ne!(card[at], byte);
         card[at] = byte;
         (card, disk)
@@ -1561,7 +1734,7 @@ mod tests {
         let (mut card, mut disk) = saved_and_damaged(SMALL.entry_at(0), 0x80);
         assert_eq!(first_byte(&card, &disk), 7);
         let mut map = Library.fresh_map(&card);
-        assert_eq!(Library.evict(&mut card, &mut disk, &mut map, 3, u64::MAX), Answer::Done(1));
+        assert_eq!(Library.evict(&mut card, &mut disk, &mut map, 3, ZEROS, u64::MAX), Answer::Done(1));
         assert_eq!(first_byte(&card, &disk), 0);
     }
 
@@ -1587,8 +1760,15 @@ mod tests {
         for call in 0..CALLS.len() {
             reported(&|tally| tally.first[call] = 0);
             reported(&|tally| tally.second[call] = u64::from(!has_second_kind(call)));
-            for number in 1..16 {
+            for number in 1..NUMBERS {
                 reported(&|tally| tally.refused[call][number] = u64::from(!REFUSALS[call].contains(&number)));
+            }
+        }
+        for call in TAKE_A_CHOICE {
+            (0..PICKS.len()).for_each(|pick| reported(&|tally| tally.picks[call][pick] = 0));
+            (0..WRONG_CHOICES.len()).for_each(|wrong| reported(&|tally| tally.choices[call][wrong] = 0));
+            for number in REFUSALS[call].iter().filter(|number| **number != 17) {
+                reported(&|tally| tally.beside[call][*number] = 0);
             }
         }
         for call in TAKE_A_MAP {
@@ -1641,9 +1821,28 @@ mod tests {
     /// The lists themselves lose a saved block under the slips that the design invites: the row sees it without a second model.
     #[test]
     fn the_row_sees_the_slips_that_lose_a_block() {
-        for slip in [Slip::CleanUndo, Slip::FreshAtSwitch, Slip::FreshAtUndo, Slip::WindowAlone, Slip::ZeroBeforeSectors, Slip::TailFirst] {
+        for slip in [
+            Slip::CleanUndo,
+            Slip::FreshAtSwitch,
+            Slip::FreshAtUndo,
+            Slip::WindowAlone,
+            Slip::ZeroBeforeSectors,
+            Slip::TailFirst,
+            Slip::SingleAfterCut,
+            Slip::ChosenWhenDone,
+        ] {
             let wrong = Model { slip: Some(slip) };
             assert!(every_cut(&wrong, &wrong, SMALL, 6, 16).is_err(), "{slip:?}");
+        }
+    }
+
+    /// The same call with a right choice shows where 17 is asked at another place, without a second model.
+    #[test]
+    fn the_right_choice_sees_a_wrong_order() {
+        for slip in [Slip::ChoiceBeforeLength, Slip::ChoiceAfterNumber, Slip::ChoiceAskedLast, Slip::ChoiceBeforeMap] {
+            let wrong = Model { slip: Some(slip) };
+            let tally = arguments(&wrong, &wrong, 3);
+            assert!(tally.is_err() || tally.unwrap().complete().is_err(), "{slip:?}");
         }
     }
 
@@ -1725,20 +1924,20 @@ mod tests {
         let mut card = vec![0; Geometry { k: 9, slots: 8, data_blocks: 8, disk_blocks: 16 }.card_length()];
         model.format(9, 8, 8, 16, &mut card);
         let (numbers, mut map): (Vec<u64>, [u64; 2]) = ((0..8).collect(), map_of(&card));
-        assert_eq!(model.commit(&mut card.clone(), &mut map.clone(), &numbers[..7], &[1; 7 * 512], u64::MAX), Answer::Done(7 * 68 + 1));
-        assert_eq!(model.commit(&mut card.clone(), &mut map.clone(), &numbers, &[1; 8 * 512], u64::MAX), Answer::Refused(8));
+        assert_eq!(model.commit(&mut card.clone(), &mut map.clone(), &numbers[..7], &[1; 7 * 512], ZEROS, u64::MAX), Answer::Done(7 * 68 + 1));
+        assert_eq!(model.commit(&mut card.clone(), &mut map.clone(), &numbers, &[1; 8 * 512], ZEROS, u64::MAX), Answer::Refused(8));
         // a list has as many stores as its formula says
         assert_eq!(model.commit_list(&card, &numbers[..2], &[1; 1024]).unwrap().len(), 137);
         // evict at k 12: 9 stores modified, 1 clean; load at k 9: 65
         let disk = vec![0; 16 * 512];
-        assert_eq!(model.load(&mut card, &disk, &mut map, 3, u64::MAX), Answer::Done(65));
+        assert_eq!(model.load(&mut card, &disk, &mut map, 3, ZEROS, u64::MAX), Answer::Done(65));
         let mut card = vec![0; Geometry { k: 12, slots: 8, data_blocks: 4, disk_blocks: 2 }.card_length()];
         model.format(12, 8, 4, 2, &mut card);
-        let (mut disk, mut map) = (vec![0; 2 * 4096], map_of(&card));
-        model.load(&mut card, &disk, &mut map, 0, u64::MAX);
-        model.commit(&mut card, &mut map, &[1], &[5; 4096], u64::MAX);
-        assert_eq!(model.evict(&mut card, &mut disk, &mut map, 0, u64::MAX), Answer::Done(1));
-        assert_eq!(model.evict(&mut card, &mut disk, &mut map, 1, u64::MAX), Answer::Done(9));
+        let (mut disk, mut map, choice) = (vec![0; 2 * 4096], map_of(&card), zeros(4096));
+        model.load(&mut card, &disk, &mut map, 0, &choice, u64::MAX);
+        model.commit(&mut card, &mut map, &[1], &[5; 4096], &choice, u64::MAX);
+        assert_eq!(model.evict(&mut card, &mut disk, &mut map, 0, &choice, u64::MAX), Answer::Done(1));
+        assert_eq!(model.evict(&mut card, &mut disk, &mut map, 1, &choice, u64::MAX), Answer::Done(9));
         assert_eq!(disk[4096..], [5; 4096]);
     }
 
@@ -1766,17 +1965,17 @@ mod tests {
         let taken = |blocks: u64| [u64::MAX << 4 | blocks, u64::MAX];
         let mut map = model.fresh_map(&card);
         assert_eq!(map, taken(0b0000));
-        assert_eq!(model.commit(&mut card, &mut map, &[3], &[7; 512], u64::MAX), Answer::Done(69));
+        assert_eq!(model.commit(&mut card, &mut map, &[3], &[7; 512], ZEROS, u64::MAX), Answer::Done(69));
         assert_eq!(map, taken(0b0001));
-        assert_eq!(model.commit(&mut card, &mut map, &[3], &[8; 512], u64::MAX), Answer::Done(69));
+        assert_eq!(model.commit(&mut card, &mut map, &[3], &[8; 512], ZEROS, u64::MAX), Answer::Done(69));
         assert_eq!(map, taken(0b0010));
         // at Head 2
-        assert_eq!(model.load(&mut card, &disk, &mut map, 5, u64::MAX), Answer::Done(65));
+        assert_eq!(model.load(&mut card, &disk, &mut map, 5, ZEROS, u64::MAX), Answer::Done(65));
         assert_eq!(map, taken(0b0110));
         // refused: kept; cut behind the entry of data block 3: kept too, though the card gives another from then on
-        assert_eq!(model.load(&mut card, &disk, &mut map, 5, u64::MAX), Answer::Refused(12));
+        assert_eq!(model.load(&mut card, &disk, &mut map, 5, ZEROS, u64::MAX), Answer::Refused(12));
         assert_eq!(map, taken(0b0110));
-        assert_eq!(model.commit(&mut card, &mut map, &[3], &[9; 512], 65), Answer::Cut);
+        assert_eq!(model.commit(&mut card, &mut map, &[3], &[9; 512], ZEROS, 65), Answer::Cut);
         assert_eq!(map, taken(0b0110));
         assert_eq!(model.fresh_map(&card), taken(0b1100));
         // recover asks for the card's map; done, it gives data block 1 back to block 3
@@ -1784,7 +1983,7 @@ mod tests {
         map = model.fresh_map(&card);
         assert_eq!(model.recover(&mut card, &mut map, u64::MAX), Answer::Done(1));
         assert_eq!(map, taken(0b0110));
-        assert_eq!(model.evict(&mut card, &mut disk, &mut map, 3, u64::MAX), Answer::Done(2));
+        assert_eq!(model.evict(&mut card, &mut disk, &mut map, 3, ZEROS, u64::MAX), Answer::Done(2));
         assert_eq!(map, taken(0b0100));
         assert_eq!(model.free_count(map[0], map[1]), 3);
     }
@@ -1796,14 +1995,14 @@ mod tests {
         let (mut card, mut disk) = (vec![0; SMALL.card_length()], vec![0; SMALL.disk_length()]);
         model.format(SMALL.k, SMALL.slots, SMALL.data_blocks, SMALL.disk_blocks, &mut card);
         let mut wrong = [0; 2];
-        assert_eq!(model.commit(&mut card, &mut wrong, &[], &[], 0), Answer::Refused(15));
-        assert_eq!(model.load(&mut card, &disk, &mut wrong, 99, 0), Answer::Refused(15));
-        assert_eq!(model.load(&mut card, &[], &mut wrong, 99, 0), Answer::Refused(3));
-        assert_eq!(model.evict(&mut card, &mut disk, &mut wrong, 99, 0), Answer::Refused(15));
+        assert_eq!(model.commit(&mut card, &mut wrong, &[], &[], ZEROS, 0), Answer::Refused(15));
+        assert_eq!(model.load(&mut card, &disk, &mut wrong, 99, ZEROS, 0), Answer::Refused(15));
+        assert_eq!(model.load(&mut card, &[], &mut wrong, 99, ZEROS, 0), Answer::Refused(3));
+        assert_eq!(model.evict(&mut card, &mut disk, &mut wrong, 99, ZEROS, 0), Answer::Refused(15));
         assert_eq!(model.recover(&mut card, &mut wrong, 0), Answer::Refused(15));
         let mut map = model.fresh_map(&card);
-        assert_eq!(model.commit(&mut card, &mut map, &[3], &[7; 512], 65), Answer::Cut);
-        assert_eq!(model.commit(&mut card, &mut wrong, &[], &[], 0), Answer::Refused(7));
+        assert_eq!(model.commit(&mut card, &mut map, &[3], &[7; 512], ZEROS, 65), Answer::Cut);
+        assert_eq!(model.commit(&mut card, &mut wrong, &[], &[], ZEROS, 0), Answer::Refused(7));
         assert_eq!(model.recover(&mut card, &mut wrong, 0), Answer::Refused(15));
         // two entries alike
         let entry: Vec<u8> = card[SMALL.entry_at(0)..SMALL.entry_at(1)].to_vec();
@@ -1827,23 +2026,23 @@ mod tests {
             };
             assert_eq!(told(&mut card, &mut map, &[5, 3]), (Answer::Done(137), vec![0, 1]));
             assert_eq!(told(&mut card, &mut map, &[3]), (Answer::Done(69), vec![0]));
-            calls.commit(&mut card, &mut map, &[3], &[7; 512], u64::MAX);
+            calls.commit(&mut card, &mut map, &[3], &[7; 512], ZEROS, u64::MAX);
             // Head 1; block 3 is in data block 0, which is given out again only when it is no longer current
             assert_eq!(told(&mut card, &mut map, &[3]), (Answer::Done(69), vec![1]));
             assert_eq!(told(&mut card, &mut map, &[5, 3, 1]), (Answer::Done(205), vec![1, 2, 3]));
             assert_eq!(told(&mut card, &mut map, &[5, 3, 1, 0]), (Answer::Refused(14), vec![9; 4]));
-            calls.commit(&mut card, &mut map, &[3, 5], &[7; 1024], u64::MAX);
+            calls.commit(&mut card, &mut map, &[3, 5], &[7; 1024], ZEROS, u64::MAX);
             // Head 3; data blocks 1 and 2 are taken: 3, then round to 0
             assert_eq!(told(&mut card, &mut map, &[4, 0]), (Answer::Done(137), vec![3, 0]));
             assert_eq!(told(&mut card, &mut map, &[0, 0]), (Answer::Refused(11), vec![9; 2]));
-            calls.evict(&mut card, &mut disk, &mut map, 5, u64::MAX);
+            calls.evict(&mut card, &mut disk, &mut map, 5, ZEROS, u64::MAX);
             // Head 5 with data block 1 alone taken is fact 12: the next is 2
-            calls.commit(&mut card, &mut map, &[4, 0], &[7; 1024], u64::MAX);
-            calls.evict(&mut card, &mut disk, &mut map, 4, u64::MAX);
-            calls.evict(&mut card, &mut disk, &mut map, 0, u64::MAX);
+            calls.commit(&mut card, &mut map, &[4, 0], &[7; 1024], ZEROS, u64::MAX);
+            calls.evict(&mut card, &mut disk, &mut map, 4, ZEROS, u64::MAX);
+            calls.evict(&mut card, &mut disk, &mut map, 0, ZEROS, u64::MAX);
             assert_eq!(told(&mut card, &mut map, &[2]), (Answer::Done(69), vec![2]));
             // cut behind the entry: unsettled
-            assert_eq!(calls.commit(&mut card, &mut map, &[2], &[7; 512], 65), Answer::Cut);
+            assert_eq!(calls.commit(&mut card, &mut map, &[2], &[7; 512], ZEROS, 65), Answer::Cut);
             assert_eq!(told(&mut card, &mut map, &[2]), (Answer::Refused(7), vec![9]));
         }
     }

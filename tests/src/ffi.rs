@@ -61,6 +61,8 @@ extern "C" {
         count: usize,
         data: *const u8,
         data_len: usize,
+        choice: *const u8,
+        choice_len: usize,
         allowance: u64,
     ) -> RawAnswer;
     // const in the header but for the last; here of slices lent for writing, so that a library that writes is seen to
@@ -84,6 +86,8 @@ extern "C" {
         map: *mut u64,
         map_words: usize,
         block: u64,
+        choice: *const u8,
+        choice_len: usize,
         allowance: u64,
     ) -> RawAnswer;
     fn tinca_evict(
@@ -94,6 +98,8 @@ extern "C" {
         map: *mut u64,
         map_words: usize,
         block: u64,
+        choice: *const u8,
+        choice_len: usize,
         allowance: u64,
     ) -> RawAnswer;
     fn tinca_recover(card: *mut u8, card_len: usize, map: *mut u64, map_words: usize, allowance: u64) -> RawAnswer;
@@ -183,11 +189,12 @@ impl Calls for Library {
         answer(unsafe { tinca_format(k, slots, data_blocks, disk_blocks, lent_mut(card), card.len()) })
     }
 
-    fn commit(&self, card: &mut [u8], map: &mut [u64], numbers: &[u64], data: &[u8], allowance: u64) -> Answer {
+    fn commit(&self, card: &mut [u8], map: &mut [u64], numbers: &[u64], data: &[u8], choice: &[u8], allowance: u64) -> Answer {
         let (card_len, words) = (card.len(), map.len());
-        let (count, data_len) = (numbers.len(), data.len());
+        let (count, data_len, choice_len) = (numbers.len(), data.len(), choice.len());
+        let (card, map, numbers) = (lent_mut(card), lent_mut(map), lent(numbers));
         answer(unsafe {
-            tinca_commit(lent_mut(card), card_len, lent_mut(map), words, lent(numbers), count, lent(data), data_len, allowance)
+            tinca_commit(card, card_len, map, words, numbers, count, lent(data), data_len, lent(choice), choice_len, allowance)
         })
     }
 
@@ -200,14 +207,16 @@ impl Calls for Library {
         })
     }
 
-    fn load(&self, card: &mut [u8], disk: &[u8], map: &mut [u64], block: u64, allowance: u64) -> Answer {
-        let (card_len, words) = (card.len(), map.len());
-        answer(unsafe { tinca_load(lent_mut(card), card_len, lent(disk), disk.len(), lent_mut(map), words, block, allowance) })
+    fn load(&self, card: &mut [u8], disk: &[u8], map: &mut [u64], block: u64, choice: &[u8], allowance: u64) -> Answer {
+        let (card_len, disk_len, words, choice_len) = (card.len(), disk.len(), map.len(), choice.len());
+        let (card, disk, map) = (lent_mut(card), lent(disk), lent_mut(map));
+        answer(unsafe { tinca_load(card, card_len, disk, disk_len, map, words, block, lent(choice), choice_len, allowance) })
     }
 
-    fn evict(&self, card: &mut [u8], disk: &mut [u8], map: &mut [u64], block: u64, allowance: u64) -> Answer {
-        let (card_len, disk_len, words) = (card.len(), disk.len(), map.len());
-        answer(unsafe { tinca_evict(lent_mut(card), card_len, lent_mut(disk), disk_len, lent_mut(map), words, block, allowance) })
+    fn evict(&self, card: &mut [u8], disk: &mut [u8], map: &mut [u64], block: u64, choice: &[u8], allowance: u64) -> Answer {
+        let (card_len, disk_len, words, choice_len) = (card.len(), disk.len(), map.len(), choice.len());
+        let (card, disk, map) = (lent_mut(card), lent_mut(disk), lent_mut(map));
+        answer(unsafe { tinca_evict(card, card_len, disk, disk_len, map, words, block, lent(choice), choice_len, allowance) })
     }
 
     fn recover(&self, card: &mut [u8], map: &mut [u64], allowance: u64) -> Answer {

@@ -3,7 +3,7 @@
 //! themselves.
 
 use crate::drive::{data_of, first_disk, Snapshot};
-use crate::model::{commit_stores, map_of, Card, Model};
+use crate::model::{commit_stores, map_of, zeros, Card, Model};
 use crate::random::Random;
 use crate::{Answer, Calls, Geometry};
 
@@ -45,6 +45,12 @@ fn some_numbers(random: &mut Random, geometry: Geometry, card: &[u8], most: u64)
     (0..count).map(|i| (first + i) % geometry.disk_blocks).collect()
 }
 
+/// Any words of the block in which a save is cut.
+fn some_choice(seed: u64, geometry: Geometry) -> Vec<u8> {
+    let mut random = Random(seed);
+    (0..geometry.block() / 8).map(|_| random.below(2) as u8).collect()
+}
+
 fn save(random: &mut Random, geometry: Geometry, at: &mut Snapshot, most: u64, cut: bool) {
     let numbers = some_numbers(random, geometry, &at.card, most);
     let n = numbers.len() as u64;
@@ -52,9 +58,10 @@ fn save(random: &mut Random, geometry: Geometry, at: &mut Snapshot, most: u64, c
         return;
     }
     let allowance = if cut { cut_place(random, geometry, n) } else { commit_stores(n, geometry.block() as u64) };
-    let data = data_of(random.next(), n as usize, geometry.block());
+    let seed = random.next();
+    let data = data_of(seed, n as usize, geometry.block());
     let mut map = map_of(&at.card);
-    Model::default().commit(&mut at.card, &mut map, &numbers, &data, allowance);
+    Model::default().commit(&mut at.card, &mut map, &numbers, &data, &some_choice(seed, geometry), allowance);
 }
 
 /// Recovers in full, or is cut again a few times before.
@@ -70,12 +77,12 @@ fn recover(random: &mut Random, card: &mut [u8]) {
 
 fn step(random: &mut Random, geometry: Geometry, at: &mut Snapshot, most: u64) {
     let (model, number) = (Model::default(), random.below(geometry.disk_blocks));
-    let mut map = map_of(&at.card);
+    let (mut map, choice) = (map_of(&at.card), zeros(geometry.block()));
     match random.below(6) {
-        0 => drop(model.load(&mut at.card, &at.disk, &mut map, number, u64::MAX)),
+        0 => drop(model.load(&mut at.card, &at.disk, &mut map, number, &choice, u64::MAX)),
         1 | 2 => {
             let number = cached(random, geometry, &at.card);
-            model.evict(&mut at.card, &mut at.disk, &mut map, number, u64::MAX);
+            model.evict(&mut at.card, &mut at.disk, &mut map, number, &choice, u64::MAX);
         }
         _ => {
             let cut = random.once_in(3);

@@ -1,6 +1,7 @@
 //! What holds the library to documents 01 and 02 by running it: a separate model, the calls of the C interface, and a driver that makes
 //! each call on both and compares all that they leave.
 
+pub mod choices;
 pub mod drive;
 pub mod ffi;
 pub mod histories;
@@ -17,11 +18,11 @@ pub use model::{Answer, Cached, FreeMap, Geometry, Place, State};
 /// The calls of the interface. The library is one implementation, the model another.
 pub trait Calls {
     fn format(&self, k: u64, slots: u64, data_blocks: u64, disk_blocks: u64, card: &mut [u8]) -> Answer;
-    fn commit(&self, card: &mut [u8], map: &mut [u64], numbers: &[u64], data: &[u8], allowance: u64) -> Answer;
+    fn commit(&self, card: &mut [u8], map: &mut [u64], numbers: &[u64], data: &[u8], choice: &[u8], allowance: u64) -> Answer;
     /// In the header all but `blocks` is const. Here all is lent for writing, so that a preview that writes to it is seen.
     fn preview(&self, card: &mut [u8], map: &mut [u64], numbers: &mut [u64], data: &mut [u8], blocks: &mut [u32]) -> Answer;
-    fn load(&self, card: &mut [u8], disk: &[u8], map: &mut [u64], block: u64, allowance: u64) -> Answer;
-    fn evict(&self, card: &mut [u8], disk: &mut [u8], map: &mut [u64], block: u64, allowance: u64) -> Answer;
+    fn load(&self, card: &mut [u8], disk: &[u8], map: &mut [u64], block: u64, choice: &[u8], allowance: u64) -> Answer;
+    fn evict(&self, card: &mut [u8], disk: &mut [u8], map: &mut [u64], block: u64, choice: &[u8], allowance: u64) -> Answer;
     fn recover(&self, card: &mut [u8], map: &mut [u64], allowance: u64) -> Answer;
     fn read(&self, card: &[u8], disk: &[u8], block: u64, out: &mut [u8]) -> Place;
     fn look(&self, card: &[u8], disk: &[u8], block: u64) -> Place;

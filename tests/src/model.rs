@@ -1,5 +1,5 @@
 //! The model: document 01, and what is built of document 02, in Rust, plain rather than fast. A card is decoded into structures; each
-//! storing call gives the list of its stores; an allowance takes the first of them.
+//! storing call gives the list of its runs of stores; an allowance and a choice say which of the stores are made.
 
 use crate::Calls;
 
@@ -197,6 +197,19 @@ pub fn commit_stores(n: u64, block: u64) -> u64 {
     n * (block / 8 + 4) + 1
 }
 
+/// The choice of a station in service, and of the drill.
+pub fn zeros(block: usize) -> Vec<u8> {
+    vec![0; block / 8]
+}
+
+/// The choice with which exactly the first stores of a call are made, as many as the allowance, as document 01 has it: ones up to where
+/// the allowance ends in its run, then zeros. Between the words of one block of a commit and those of the next stand three single
+/// stores; load and evict begin with their run.
+pub fn in_order(block: usize, allowance: u64) -> Vec<u8> {
+    let words = block as u64 / 8;
+    (0..words).map(|word| u8::from(word < allowance % (words + 3))).collect()
+}
+
 /// Slots from `tail` up to but not including `head`, going round.
 pub fn window_slots(slots: u64, head: u64, tail: u64) -> Vec<u64> {
     let mut window = Vec::new();
@@ -226,6 +239,11 @@ fn clear_bit(map: &mut [u64; 2], bit: usize) {
 /// The map that a card gives. A card that is refused gives none: then no bit is set, and no call looks at it.
 pub fn map_of(card: &[u8]) -> [u64; 2] {
     Card::open(card, None).map_or([0; 2], |card| card.map())
+}
+
+/// A choice that is not refused with 17 on this card. On one that has no header none is looked at.
+fn any_choice(card: &[u8]) -> Vec<u8> {
+    Geometry::from_header(card).map_or(vec![], |geometry| zeros(geometry.block()))
 }
 
 /// A card that passed checks 1, 2 and 4 to 6, without its data blocks.
@@ -368,6 +386,38 @@ impl Store {
     }
 }
 
+/// What one fence closes. The words of a data block, and the sectors of a disk block, have no order among themselves, also where there is
+/// but one of them; any other store is a run by itself.
+#[derive(Clone, Debug, PartialEq, Eq)]
+pub enum Run {
+    Unordered(Vec<Store>),
+    Single(Store),
+}
+
+impl Run {
+    pub fn stores(&self) -> &[Store] {
+        match self {
+            Run::Unordered(stores) => stores,
+            Run::Single(store) => std::slice::from_ref(store),
+        }
+    }
+
+    fn words(at: usize, bytes: &[u8]) -> Run {
+        let word = |(index, word): (usize, &[u8])| Store::Word(at + 8 * index, word.try_into().unwrap());
+        Run::Unordered(bytes.chunks_exact(8).enumerate().map(word).collect())
+    }
+
+    fn sectors(at: usize, bytes: &[u8]) -> Run {
+        let sector = |(index, sector): (usize, &[u8])| Store::Sector(at + 512 * index, sector.to_vec());
+        Run::Unordered(bytes.chunks_exact(512).enumerate().map(sector).collect())
+    }
+}
+
+/// The stores of all runs, one after the other.
+pub fn stores_of(runs: &[Run]) -> Vec<Store> {
+    runs.iter().flat_map(|run| run.stores().to_vec()).collect()
+}
+
 /// What a wrong program might do. The comparison must see each of them.
 #[derive(Clone, Copy, Debug, PartialEq, Eq)]
 pub enum Slip {
@@ -446,9 +496,49 @@ pub enum Slip {
     /// Preview sorts the numbers in place, to find one that stands twice.
     PreviewSortsNumbers,
     PreviewWritesData,
+    /// The choice plays no part: of the run that is cut the first stores are made, as document 01 has it.
+    FirstStoresMade,
+    /// Of the chosen stores as many are made as the allowance says.
+    ChosenCounted,
+    /// A chosen store past the allowance is not made.
+    ChosenPastLeftOut,
+    /// A store within the allowance is made, chosen or not.
+    UnchosenMade,
+    /// The single store behind the run that is cut is made.
+    SingleAfterCut,
+    /// Behind the run that is cut nothing is left of the allowance: the next such run is taken for one in which it ends.
+    NextRunChosen,
+    /// A run that the allowance just covers is chosen from.
+    CoveredRunChosen,
+    /// Every such run is chosen from, also in a call that is done.
+    ChosenWhenDone,
+    /// A block that is one sector is a single store.
+    OneSectorSingle,
+    /// The choice has a byte for each store of the call, counted round.
+    ChoiceOfCall,
+    /// The choice's last byte is the first store's.
+    ChoiceBackward,
+    /// 17 is asked before 15, before 9, after 10, or after all.
+    ChoiceBeforeMap,
+    ChoiceBeforeLength,
+    ChoiceAfterNumber,
+    ChoiceAskedLast,
+    /// 17 is asked only of a call whose allowance could end.
+    ChoiceAskedIfCut,
+    /// An evict of a clean block, which has no such run, takes any choice.
+    CleanTakesAnyChoice,
+    /// An evict asks for as many bytes as it has sectors.
+    ChoiceOfSectors,
+    /// A choice of any length is taken, or only one of B/8 bytes.
+    ShortChoiceTaken,
+    LongChoiceRefused,
+    /// A byte above 1 is a 1.
+    AnyByteTaken,
+    /// Bytes past B/8 are not looked at.
+    BytesPastTaken,
 }
 
-pub const SLIPS: [Slip; 54] = [
+pub const SLIPS: [Slip; 76] = [
     Slip::CleanUndo,
     Slip::FreshAtSwitch,
     Slip::FreshAtUndo,
@@ -503,18 +593,34 @@ pub const SLIPS: [Slip; 54] = [
     Slip::PreviewHandsMapOn,
     Slip::PreviewSortsNumbers,
     Slip::PreviewWritesData,
+    Slip::FirstStoresMade,
+    Slip::ChosenCounted,
+    Slip::ChosenPastLeftOut,
+    Slip::UnchosenMade,
+    Slip::SingleAfterCut,
+    Slip::NextRunChosen,
+    Slip::CoveredRunChosen,
+    Slip::ChosenWhenDone,
+    Slip::OneSectorSingle,
+    Slip::ChoiceOfCall,
+    Slip::ChoiceBackward,
+    Slip::ChoiceBeforeMap,
+    Slip::ChoiceBeforeLength,
+    Slip::ChoiceAfterNumber,
+    Slip::ChoiceAskedLast,
+    Slip::ChoiceAskedIfCut,
+    Slip::CleanTakesAnyChoice,
+    Slip::ChoiceOfSectors,
+    Slip::ShortChoiceTaken,
+    Slip::LongChoiceRefused,
+    Slip::AnyByteTaken,
+    Slip::BytesPastTaken,
 ];
 
 /// The model; with a slip, a deliberately wrong one.
 #[derive(Clone, Copy, Debug, Default)]
 pub struct Model {
     pub slip: Option<Slip>,
-}
-
-fn words_of(stores: &mut Vec<Store>, at: usize, bytes: &[u8]) {
-    for (index, word) in bytes.chunks_exact(8).enumerate() {
-        stores.push(Store::Word(at + 8 * index, word.try_into().unwrap()));
-    }
 }
 
 impl Model {
@@ -555,16 +661,28 @@ impl Model {
         }
     }
 
-    /// Checks 1 to 7 and 15.
-    fn check_settled(&self, bytes: &[u8], disk_length: Option<usize>, map: &[u64]) -> Result<(), u32> {
+    /// Checks 1 to 7 and 15, all that come before the choice is looked at.
+    fn check_settled(&self, bytes: &[u8], disk_length: Option<usize>, map: &[u64], choice: &[u8]) -> Result<Card, u32> {
         if self.slips(Slip::MapBeforeSettled) {
             self.check_map(&Card::open(bytes, disk_length)?, map)?;
         }
         let card = Card::open_settled(bytes, disk_length)?;
-        if self.slips(Slip::MapAskedLast) {
-            return Ok(());
+        if self.slips(Slip::ChoiceBeforeMap) && self.is_wrong(choice, card.geometry.block() / 8) {
+            return Err(17);
         }
-        self.check_map(&card, map)
+        if !self.slips(Slip::MapAskedLast) {
+            self.check_map(&card, map)?;
+        }
+        Ok(card)
+    }
+
+    /// The choice as the call sees it.
+    fn looked_at<'c>(&self, choice: &'c [u8], allowance: u64) -> &'c [u8] {
+        if allowance == u64::MAX && self.slips(Slip::ChoiceAskedIfCut) {
+            &[0; 512]
+        } else {
+            choice
+        }
     }
 
     /// Checks 1, 2, 4 to 6 and 15.
@@ -575,36 +693,72 @@ impl Model {
         self.check_map(&Card::open(bytes, None)?, map)
     }
 
-    /// The stores of a commit that is given the card's map. So too the lists below.
+    /// Whether check 17 holds of the choice; `length` is how many bytes it must have at least.
+    fn is_wrong(&self, choice: &[u8], length: usize) -> bool {
+        let wrong_length = match self.slip {
+            Some(Slip::ShortChoiceTaken) => false,
+            Some(Slip::LongChoiceRefused) => choice.len() != length,
+            _ => choice.len() < length,
+        };
+        let looked_at = if self.slips(Slip::BytesPastTaken) { &choice[..choice.len().min(length)] } else { choice };
+        wrong_length || (looked_at.iter().any(|byte| *byte > 1) && !self.slips(Slip::AnyByteTaken))
+    }
+
+    /// The first of the checks, in the order in which they are made, whose condition holds.
+    fn first_refusal(&self, mut checks: Vec<(u32, bool)>) -> Result<(), u32> {
+        // 17 stands between 9, where the call asks it, and 10
+        let from = checks.iter().position(|(number, _)| *number == 17).unwrap();
+        let to = match self.slip {
+            Some(Slip::ChoiceBeforeLength) => from.saturating_sub(1),
+            Some(Slip::ChoiceAfterNumber) => from + 1,
+            Some(Slip::ChoiceAskedLast) => checks.len() - 1,
+            _ => from,
+        };
+        let choice = checks.remove(from);
+        checks.insert(to, choice);
+        checks.iter().find(|(_, holds)| *holds).map_or(Ok(()), |(number, _)| Err(*number))
+    }
+
+    /// The stores of a commit that is given the card's map and a choice that is none of 17's.
     pub fn commit_list(&self, bytes: &[u8], numbers: &[u64], data: &[u8]) -> Result<Vec<Store>, u32> {
         let card = Card::open_settled(bytes, None)?;
+        self.commit_runs(&card, numbers, data, &zeros(card.geometry.block())).map(|runs| stores_of(&runs))
+    }
+
+    /// As above, of a load.
+    pub fn load_list(&self, bytes: &[u8], disk: &[u8], number: u64) -> Result<Vec<Store>, u32> {
+        let card = Card::open_settled(bytes, Some(disk.len()))?;
+        self.load_runs(&card, disk, number, &zeros(card.geometry.block())).map(|runs| stores_of(&runs))
+    }
+
+    /// As above, of an evict.
+    pub fn evict_list(&self, bytes: &[u8], disk_length: usize, number: u64) -> Result<Vec<Store>, u32> {
+        let card = Card::open_settled(bytes, Some(disk_length))?;
+        self.evict_runs(&card, bytes, number, &zeros(card.geometry.block())).map(|runs| stores_of(&runs))
+    }
+
+    /// The runs of a commit, or which of its own checks refuses it.
+    fn commit_runs(&self, card: &Card, numbers: &[u64], data: &[u8], choice: &[u8]) -> Result<Vec<Run>, u32> {
         let geometry = card.geometry;
         let n = numbers.len();
-        if n == 0 || n as u64 > geometry.slots - 1 {
-            return Err(8);
-        }
-        if data.len() != n * geometry.block() {
-            return Err(9);
-        }
-        if numbers.iter().any(|number| *number >= geometry.disk_blocks) {
-            return Err(10);
-        }
-        let repeats = (0..n).any(|i| numbers[..i].contains(&numbers[i]));
-        if repeats && !self.slips(Slip::RepeatsLetBy) {
-            return Err(11);
-        }
         let searched = if self.slips(Slip::SearchFromZero) { Card { head: 0, ..card.clone() } } else { card.clone() };
         let mut free = searched.free_blocks();
         if self.slips(Slip::OldBlockGivenOut) {
-            let old = card.entry_for(numbers[0]).map(|entry| card.entries[entry].unwrap().current as usize);
-            free.extend(old);
+            let old = numbers.first().and_then(|number| card.entry_for(*number));
+            free.extend(old.map(|entry| card.entries[entry].unwrap().current as usize));
         }
-        if n > free.len() {
-            return Err(14);
-        }
+        let repeats = (0..n).any(|i| numbers[..i].contains(&numbers[i]));
+        self.first_refusal(vec![
+            (8, n == 0 || n as u64 > geometry.slots - 1),
+            (9, data.len() != n * geometry.block()),
+            (17, self.is_wrong(choice, geometry.block() / 8)),
+            (10, numbers.iter().any(|number| *number >= geometry.disk_blocks)),
+            (11, repeats && !self.slips(Slip::RepeatsLetBy)),
+            (14, n > free.len()),
+        ])?;
         let mut unused = searched.unused_entries().into_iter();
         let mut head = card.head;
-        let mut stores = Vec::new();
+        let mut runs = Vec::new();
         let mut written = Vec::new();
         for (i, number) in numbers.iter().enumerate() {
             let block = &data[i * geometry.block()..(i + 1) * geometry.block()];
@@ -617,81 +771,74 @@ impl Model {
             written.push((index, entry));
             if self.slips(Slip::HeadAlone) && i > 0 {
                 head = (head + 1) % geometry.slots;
-                stores.push(Store::Word(64, head.to_be_bytes()));
+                runs.push(Run::Single(Store::Word(64, head.to_be_bytes())));
                 continue;
             }
-            words_of(&mut stores, geometry.block_at(current), block);
-            stores.push(Store::Entry(geometry.entry_at(index), write_entry(Some(entry))));
-            stores.push(Store::Word(geometry.slot_at(head), number.to_be_bytes()));
+            runs.push(Run::words(geometry.block_at(current), block));
+            runs.push(Run::Single(Store::Entry(geometry.entry_at(index), write_entry(Some(entry)))));
+            runs.push(Run::Single(Store::Word(geometry.slot_at(head), number.to_be_bytes())));
             if self.slips(Slip::SlotBeforeEntry) {
-                let last = stores.len() - 1;
-                stores.swap(last, last - 1);
+                let last = runs.len() - 1;
+                runs.swap(last, last - 1);
             }
             head = (head + 1) % geometry.slots;
-            stores.push(Store::Word(64, head.to_be_bytes()));
+            runs.push(Run::Single(Store::Word(64, head.to_be_bytes())));
         }
-        let tail = Store::Word(72, head.to_be_bytes());
+        let tail = Run::Single(Store::Word(72, head.to_be_bytes()));
         if self.slips(Slip::TailFirst) {
-            stores.push(tail.clone());
+            runs.push(tail.clone());
         }
         for (index, entry) in written {
             let mut entry = switched(entry);
             if self.slips(Slip::FreshAtSwitch) {
                 entry.previous = None;
             }
-            stores.push(Store::Entry(geometry.entry_at(index), write_entry(Some(entry))));
+            runs.push(Run::Single(Store::Entry(geometry.entry_at(index), write_entry(Some(entry)))));
         }
         if !self.slips(Slip::TailFirst) {
-            stores.push(tail);
+            runs.push(tail);
         }
-        Ok(stores)
+        Ok(runs)
     }
 
-    pub fn load_list(&self, bytes: &[u8], disk: &[u8], number: u64) -> Result<Vec<Store>, u32> {
-        let card = Card::open_settled(bytes, Some(disk.len()))?;
+    /// The runs of a load, or which of its own checks refuses it.
+    fn load_runs(&self, card: &Card, disk: &[u8], number: u64, choice: &[u8]) -> Result<Vec<Run>, u32> {
         let geometry = card.geometry;
-        if number >= geometry.disk_blocks {
-            return Err(10);
-        }
-        if card.entry_for(number).is_some() {
-            return Err(12);
-        }
-        let Some(current) = card.free_blocks().first().copied() else {
-            return Err(14);
-        };
-        let index = card.unused_entries()[0];
+        let free = card.free_blocks();
+        self.first_refusal(vec![
+            (17, self.is_wrong(choice, geometry.block() / 8)),
+            (10, number >= geometry.disk_blocks),
+            (12, card.entry_for(number).is_some()),
+            (14, free.is_empty()),
+        ])?;
+        let (current, index) = (free[0] as u32, card.unused_entries()[0]);
         let at = number as usize * geometry.block();
-        let mut stores = Vec::new();
-        words_of(&mut stores, geometry.block_at(current as u32), &disk[at..at + geometry.block()]);
-        let entry = Entry { modified: false, log_role: false, number, previous: None, current: current as u32 };
-        stores.push(Store::Entry(geometry.entry_at(index), write_entry(Some(entry))));
-        Ok(stores)
+        let entry = Entry { modified: false, log_role: false, number, previous: None, current };
+        Ok(vec![
+            Run::words(geometry.block_at(current), &disk[at..at + geometry.block()]),
+            Run::Single(Store::Entry(geometry.entry_at(index), write_entry(Some(entry)))),
+        ])
     }
 
-    pub fn evict_list(&self, bytes: &[u8], disk_length: usize, number: u64) -> Result<Vec<Store>, u32> {
-        let card = Card::open_settled(bytes, Some(disk_length))?;
+    /// The runs of an evict, or which of its own checks refuses it.
+    fn evict_runs(&self, card: &Card, bytes: &[u8], number: u64, choice: &[u8]) -> Result<Vec<Run>, u32> {
         let geometry = card.geometry;
-        if number >= geometry.disk_blocks {
-            return Err(10);
-        }
-        let Some(index) = card.entry_for(number) else {
-            return Err(13);
+        let found = card.entry_for(number).map(|index| (index, card.entries[index].unwrap()));
+        let clean = found.is_some_and(|(_, entry)| !entry.modified);
+        let wrong = match self.slip {
+            Some(Slip::ChoiceOfSectors) => self.is_wrong(&choice[..choice.len().min(geometry.block() / 512)], geometry.block() / 512),
+            Some(Slip::CleanTakesAnyChoice) if clean => false,
+            _ => self.is_wrong(choice, geometry.block() / 8),
         };
-        let entry = card.entries[index].unwrap();
-        let mut stores = Vec::new();
+        self.first_refusal(vec![(17, wrong), (10, number >= geometry.disk_blocks), (13, found.is_none())])?;
+        let (index, entry) = found.unwrap();
+        let mut runs = vec![Run::Single(Store::Entry(geometry.entry_at(index), write_entry(None)))];
         if entry.modified {
             let at = geometry.block_at(entry.current);
-            for (i, sector) in bytes[at..at + geometry.block()].chunks_exact(512).enumerate() {
-                stores.push(Store::Sector(number as usize * geometry.block() + 512 * i, sector.to_vec()));
-            }
+            let sectors = Run::sectors(number as usize * geometry.block(), &bytes[at..at + geometry.block()]);
+            runs.insert(if self.slips(Slip::ZeroBeforeSectors) { 1 } else { 0 }, sectors);
         }
-        let zeros = Store::Entry(geometry.entry_at(index), write_entry(None));
-        if self.slips(Slip::ZeroBeforeSectors) {
-            stores.insert(0, zeros);
-        } else {
-            stores.push(zeros);
-        }
-        Ok(stores)
+        Ok(runs)
     }
 
     pub fn recover_list(&self, bytes: &[u8]) -> Result<Vec<Store>, u32> {
@@ -726,15 +873,70 @@ impl Model {
         Ok(stores)
     }
 
-    /// Makes the first stores of the list, as many as the allowance, and answers. A call that is done writes the map of the card that
+    /// The stores that are made: all of each run that the allowance covers, and of the run that it ends in the chosen ones.
+    fn made<'r>(&self, runs: &'r [Run], choice: &[u8], allowance: u64) -> Vec<&'r Store> {
+        let (mut made, mut before) = (Vec::new(), 0);
+        for (place, run) in runs.iter().enumerate() {
+            let end = before + run.stores().len() as u64;
+            let unordered = matches!(run, Run::Unordered(_));
+            let cut = allowance < end || (allowance == end && unordered && self.slips(Slip::CoveredRunChosen));
+            if cut {
+                made.extend(self.chosen(run, choice, before, allowance - before));
+                made.extend(self.behind(&runs[place + 1..], unordered, choice));
+                break;
+            }
+            if unordered && self.slips(Slip::ChosenWhenDone) {
+                made.extend(self.chosen(run, choice, before, allowance - before));
+            } else {
+                made.extend(run.stores());
+            }
+            before = end;
+        }
+        made
+    }
+
+    /// What is made of the run that is cut, with so many stores before it and so many of its own within the allowance: of an unordered
+    /// one the stores whose byte of the choice is 1, of a single store nothing.
+    fn chosen<'r>(&self, run: &'r Run, choice: &[u8], before: u64, within: u64) -> Vec<&'r Store> {
+        let Run::Unordered(stores) = run else { return vec![] };
+        let byte = |store: usize| match self.slip {
+            Some(Slip::ChoiceBackward) => choice.get(stores.len() - 1 - store),
+            Some(Slip::ChoiceOfCall) => choice.get((before as usize + store) % choice.len()),
+            _ => choice.get(store),
+        };
+        let is_made = |store: usize| {
+            let (chosen, first) = (byte(store) == Some(&1), (store as u64) < within);
+            match self.slip {
+                Some(Slip::FirstStoresMade) => first,
+                Some(Slip::ChosenPastLeftOut) => chosen && first,
+                Some(Slip::UnchosenMade) => chosen || first,
+                Some(Slip::AnyByteTaken) => byte(store).is_some_and(|byte| *byte > 0),
+                Some(Slip::OneSectorSingle) => chosen && stores.len() > 1,
+                _ => chosen,
+            }
+        };
+        let most = if self.slips(Slip::ChosenCounted) { within as usize } else { stores.len() };
+        (0..stores.len()).filter(|store| is_made(*store)).map(|store| &stores[store]).take(most).collect()
+    }
+
+    /// What is made of the runs behind the one that is cut: nothing, but by a wrong model.
+    fn behind<'r>(&self, runs: &'r [Run], unordered: bool, choice: &[u8]) -> Vec<&'r Store> {
+        match self.slip {
+            Some(Slip::SingleAfterCut) if unordered => runs[0].stores().iter().collect(),
+            Some(Slip::NextRunChosen) => runs.iter().flat_map(|run| self.chosen(run, choice, 0, 0)).collect(),
+            _ => vec![],
+        }
+    }
+
+    /// Makes the stores of the list that allowance and choice leave, and answers. A call that is done writes the map of the card that
     /// it leaves; a cut or refused one writes none.
-    fn make(&self, list: Result<Vec<Store>, u32>, allowance: u64, card: &mut [u8], disk: &mut [u8], map: &mut [u64]) -> Answer {
+    fn make(&self, list: Result<Vec<Run>, u32>, choice: &[u8], allowance: u64, card: &mut [u8], disk: &mut [u8], map: &mut [u64]) -> Answer {
         let list = match list {
             Ok(_) if self.slips(Slip::MapAskedLast) && map != map_of(card) => Err(15),
             list => list,
         };
-        let stores = match list {
-            Ok(stores) => stores,
+        let runs = match list {
+            Ok(runs) => runs,
             Err(number) => {
                 if number == 15 && map.len() == 2 && self.slips(Slip::MapMended) {
                     map.copy_from_slice(&map_of(card));
@@ -742,8 +944,8 @@ impl Model {
                 return Answer::Refused(number);
             }
         };
-        let count = stores.len() as u64;
-        for store in stores.iter().take(usize::try_from(allowance).unwrap_or(usize::MAX)) {
+        let count = runs.iter().map(|run| run.stores().len() as u64).sum();
+        for store in self.made(&runs, choice, allowance) {
             let (on_disk, at, bytes) = store.unit();
             let to = if on_disk { &mut *disk } else { &mut *card };
             to[at..at + bytes.len()].copy_from_slice(bytes);
@@ -774,7 +976,7 @@ impl Model {
         }
         let mut after = card.to_vec();
         let mut map = if self.slips(Slip::PreviewMapUnasked) { map_of(card).to_vec() } else { map.to_vec() };
-        let answer = self.commit(&mut after, &mut map, numbers, data, u64::MAX);
+        let answer = self.commit(&mut after, &mut map, numbers, data, &any_choice(card), u64::MAX);
         let before_output = |number: u32| match number {
             10 | 11 | 14 => self.slips(Slip::PreviewOutputLast),
             8 => !self.slips(Slip::PreviewOutputBeforeCount),
@@ -846,10 +1048,11 @@ impl Calls for Model {
         Answer::Done(0)
     }
 
-    fn commit(&self, card: &mut [u8], map: &mut [u64], numbers: &[u64], data: &[u8], allowance: u64) -> Answer {
-        let list = self.check_settled(card, None, map).and_then(|_| self.commit_list(card, numbers, data));
+    fn commit(&self, card: &mut [u8], map: &mut [u64], numbers: &[u64], data: &[u8], choice: &[u8], allowance: u64) -> Answer {
+        let choice = self.looked_at(choice, allowance);
+        let list = self.check_settled(card, None, map, choice).and_then(|opened| self.commit_runs(&opened, numbers, data, choice));
         let before = map.to_vec();
-        let answer = self.make(list, allowance, card, &mut [], map);
+        let answer = self.make(list, choice, allowance, card, &mut [], map);
         if self.slips(Slip::OldBlocksStayTaken) {
             map.iter_mut().zip(before).for_each(|(word, old)| *word |= old);
         }
@@ -866,8 +1069,12 @@ impl Calls for Model {
         };
         match (self.slip, answer) {
             (Some(Slip::PreviewWritesRefused), Answer::Refused(_)) => blocks.fill(0),
-            (Some(Slip::PreviewStores), Answer::Done(_)) => drop(self.commit(card, &mut map.to_vec(), numbers, data, u64::MAX)),
-            (Some(Slip::PreviewHandsMapOn), Answer::Done(_)) => drop(self.commit(&mut card.to_vec(), map, numbers, data, u64::MAX)),
+            (Some(Slip::PreviewStores), Answer::Done(_)) => {
+                self.commit(card, &mut map.to_vec(), numbers, data, &any_choice(card), u64::MAX);
+            }
+            (Some(Slip::PreviewHandsMapOn), Answer::Done(_)) => {
+                self.commit(&mut card.to_vec(), map, numbers, data, &any_choice(card), u64::MAX);
+            }
             (Some(Slip::PreviewSortsNumbers), _) => numbers.sort(),
             (Some(Slip::PreviewWritesData), Answer::Done(_)) => data.fill(0),
             _ => {}
@@ -875,15 +1082,19 @@ impl Calls for Model {
         answer
     }
 
-    fn load(&self, card: &mut [u8], disk: &[u8], map: &mut [u64], block: u64, allowance: u64) -> Answer {
-        let list = self.check_settled(card, Some(disk.len()), map).and_then(|_| self.load_list(card, disk, block));
-        self.make(list, allowance, card, &mut [], map)
+    fn load(&self, card: &mut [u8], disk: &[u8], map: &mut [u64], block: u64, choice: &[u8], allowance: u64) -> Answer {
+        let choice = self.looked_at(choice, allowance);
+        let checked = self.check_settled(card, Some(disk.len()), map, choice);
+        let list = checked.and_then(|opened| self.load_runs(&opened, disk, block, choice));
+        self.make(list, choice, allowance, card, &mut [], map)
     }
 
-    fn evict(&self, card: &mut [u8], disk: &mut [u8], map: &mut [u64], block: u64, allowance: u64) -> Answer {
-        let list = self.check_settled(card, Some(disk.len()), map).and_then(|_| self.evict_list(card, disk.len(), block));
+    fn evict(&self, card: &mut [u8], disk: &mut [u8], map: &mut [u64], block: u64, choice: &[u8], allowance: u64) -> Answer {
+        let choice = self.looked_at(choice, allowance);
+        let checked = self.check_settled(card, Some(disk.len()), map, choice);
+        let list = checked.and_then(|opened| self.evict_runs(&opened, card, block, choice));
         let before = map.to_vec();
-        let answer = self.make(list, allowance, card, disk, map);
+        let answer = self.make(list, choice, allowance, card, disk, map);
         if self.slips(Slip::OldMapAfterEvict) {
             map.copy_from_slice(&before);
         }
@@ -892,8 +1103,9 @@ impl Calls for Model {
 
     fn recover(&self, card: &mut [u8], map: &mut [u64], allowance: u64) -> Answer {
         let list = self.check_unsettled(card, map).and_then(|_| self.recover_list(card));
+        let runs = list.map(|stores| stores.into_iter().map(Run::Single).collect());
         let (before, opened) = (map.to_vec(), Card::open(card, None));
-        let answer = self.make(list, allowance, card, &mut [], map);
+        let answer = self.make(runs, &[], allowance, card, &mut [], map);
         if self.slips(Slip::OldMapAfterRecover) {
             map.copy_from_slice(&before);
         }

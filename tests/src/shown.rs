@@ -446,8 +446,8 @@ mod tests {
         let mut card = vec![0; 2304];
         model.format(9, 8, 4, 16, &mut card);
         let mut map = model.fresh_map(&card);
-        model.commit(&mut card, &mut map, &[3], &[7; 512], u64::MAX);
-        model.commit(&mut card, &mut map, &[5, 3], &[9; 1024], 67 + 65);
+        model.commit(&mut card, &mut map, &[3], &[7; 512], &[0; 64], u64::MAX);
+        model.commit(&mut card, &mut map, &[5, 3], &[9; 1024], &[0; 64], 67 + 65);
         card
     }
 

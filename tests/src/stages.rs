@@ -1,7 +1,7 @@
 //! A save in stages, from the model alone: the card after each kind of store, and what a recovery gives from there. The
 //! words that name a store are made from its bytes. All that the picture of a save says is asserted here.
 
-use crate::model::{commit_stores, switched, undone, window_slots, write_entry, Card, Entry, Model, Store};
+use crate::model::{commit_stores, in_order, switched, undone, window_slots, write_entry, zeros, Card, Entry, Model, Store};
 use crate::{Answer, Calls, Geometry, Place};
 use std::ops::Range;
 
@@ -120,19 +120,24 @@ fn start(model: &Model) -> Vec<u8> {
     for number in EARLIER {
         let count = commit_stores(1, BLOCK as u64);
         let data = version(Version::Earlier, number);
-        assert_eq!(model.commit(&mut card, &mut map, &[number], &data, u64::MAX), Answer::Done(count));
+        assert_eq!(model.commit(&mut card, &mut map, &[number], &data, &zeros(BLOCK), u64::MAX), Answer::Done(count));
     }
     assert!(Card::open(&card, None).unwrap().settled());
     card
 }
 
-/// The card with the save cut after so many stores.
+/// The card with the save cut after so many stores, made in order.
 fn cut(model: &Model, allowance: u64) -> Vec<u8> {
+    cut_by(model, &in_order(BLOCK, allowance), allowance)
+}
+
+/// The card with the save cut; where that falls into a block's words, those are made that are chosen.
+fn cut_by(model: &Model, choice: &[u8], allowance: u64) -> Vec<u8> {
     let mut card = start(model);
     let mut map = model.fresh_map(&card);
     let count = commit_stores(SAVED.len() as u64, BLOCK as u64);
     let answer = if allowance < count { Answer::Cut } else { Answer::Done(count) };
-    assert_eq!(model.commit(&mut card, &mut map, &SAVED, &new_data(), allowance), answer);
+    assert_eq!(model.commit(&mut card, &mut map, &SAVED, &new_data(), choice, allowance), answer);
     card
 }
 
@@ -289,26 +294,33 @@ fn check_order(stages: &[Stage]) {
     assert!(last.card.settled() && last.recovery.is_empty());
 }
 
-/// What is said of every cut, also of those between two stages: ring, entries and recovery are those of the stage before
-/// the cut, and all sixteen blocks are read as before the save, or after the last store as saved.
+/// What is said of every cut, also of those between two stages, whatever words of a block it leaves: none, all, those in
+/// order and every second one.
 fn check_every_cut(model: &Model, stages: &[Stage]) {
-    let count = stages.last().unwrap().last;
-    for allowance in 0..=count {
-        let bytes = cut(model, allowance);
-        let (stores, read) = recovered(model, &bytes);
-        let stage = stages.iter().rfind(|stage| stage.last <= allowance).unwrap();
-        let data = SMALL.block_at(0);
-        assert_eq!(bytes[..data], stage.bytes[..data]);
-        assert_eq!(stores, stage.recovery);
-        for (number, reading) in (0..).zip(&read) {
-            let saved = allowance == count && SAVED.contains(&number);
-            let before = if EARLIER.contains(&number) { Version::Earlier } else { Version::Disk };
-            assert_eq!(reading.version, if saved { Version::New } else { before });
-            assert_eq!(reading.on_card, reading.version != Version::Disk);
+    let every_second: Vec<u8> = (0..BLOCK / 8).map(|word| word as u8 % 2).collect();
+    for allowance in 0..=stages.last().unwrap().last {
+        for choice in [zeros(BLOCK), vec![1; BLOCK / 8], in_order(BLOCK, allowance), every_second.clone()] {
+            check_cut(model, stages, &cut_by(model, &choice, allowance), allowance);
         }
-        check_settled(&bytes, &read);
-        assert_eq!(recovered(model, &other_slots(&bytes)), (stores, read));
     }
+}
+
+/// Ring, entries and recovery are those of the stage before the cut, and all sixteen blocks are read as before the save, or
+/// after the last store as saved.
+fn check_cut(model: &Model, stages: &[Stage], bytes: &[u8], allowance: u64) {
+    let (stores, read) = recovered(model, bytes);
+    let stage = stages.iter().rfind(|stage| stage.last <= allowance).unwrap();
+    let data = SMALL.block_at(0);
+    assert_eq!(bytes[..data], stage.bytes[..data]);
+    assert_eq!(stores, stage.recovery);
+    for (number, reading) in (0..).zip(&read) {
+        let saved = allowance == stages.last().unwrap().last && SAVED.contains(&number);
+        let before = if EARLIER.contains(&number) { Version::Earlier } else { Version::Disk };
+        assert_eq!(reading.version, if saved { Version::New } else { before });
+        assert_eq!(reading.on_card, reading.version != Version::Disk);
+    }
+    check_settled(bytes, &read);
+    assert_eq!(recovered(model, &other_slots(bytes)), (stores, read));
 }
 
 /// A block that has a settled data block is read from it, any other from the disk.
@@ -376,6 +388,8 @@ mod tests {
             Slip::SlotBeforeEntry,
             Slip::TailFirst,
             Slip::UnchangedCounted,
+            Slip::SingleAfterCut,
+            Slip::ChosenWhenDone,
         ];
         for slip in slips {
             let stages = std::panic::catch_unwind(|| checked_stages(&Model { slip: Some(slip) }).len());

@@ -1,4 +1,4 @@
 -- Laws behind the functions' proofs.
 pub mod Steps
-pub mod Loops
+pub mod Places
 pub mod Whole

@@ -1,44 +1,65 @@
 -- A commit's runs of stores as a function of its plan, of Head at entry and of the data: what is made once the card at entry is no longer
--- looked at.
-use Prim.Native.Nat.{ℕ, _+_, _*_, _≤_, _<_}
+-- looked at; and the run that its list has at each place.
+use Prim.Native.Nat.{ℕ, _+_, _*_, _-_, _/_, _%_, _≤_, _<_}
 use mathlib.Core.List.{List, _∷_, _++_}
+use mathlib.Core.Bool.{cond}
 use mathlib.Core.Path.{_≡_}
 use lib.ListN.{length, getD}
-use Rattle.protocol.specs.declared.Entry.{Entry}
+use lib.Dec.{eqb, ltb}
+use Rattle.protocol.specs.declared.Entry.{Entry as Fields}
 use Rattle.protocol.specs.declared.Geometry.{Geometry}
 use Rattle.protocol.specs.Below.{eachBelow, around}
-use Rattle.protocol.specs.Layout.{blockSize}
+use Rattle.protocol.specs.Layout.{blockSize, slotPlace, entryPlace, blockPlace}
 use Rattle.protocol.specs.Entry.{entryOf, switched}
-use Rattle.protocol.specs.Store.{Run, words, entryStore, slotStore, headStore, tailStore, single}
+use Rattle.protocol.specs.Store.{Run as Fenced, words, entryStore, slotStore, headStore, tailStore, single}
 use Rattle.protocol.specs.Commit.{numberOf, dataOf}
+use Rattle.stores.specs.declared.Run.{Run}
+use Rattle.stores.specs.declared.Run.the-variants.{Words, Entry, Word}
 use Rattle.plan.specs.declared.Plan.{Plan}
 use Rattle.plan.specs.Planned.{previousOf}
-
--- block i with the entry e at the place `at`: its words, its entry, its number into the slot at Head, Head forward; h is Head at entry
-unfoldable pub stepRuns : Geometry → ℕ → Entry → List ℕ → ℕ → ℕ → List Run
-stepRuns g at e bs h i =
-    words g (e .current) (dataOf g bs i)
-    ∷ (single (entryStore g at e)
-    ++ (single (slotStore (around (g .slots) h i) (e .number)) ++ single (headStore (around (g .slots) h (i + 1)))))
 
 -- a plan of these rows
 abbrev pub planBy : List ℕ → List ℕ → List ℕ → Plan
 planBy es ps qs = record { entries = es; previous = ps; blocks = qs }
 
 -- the log entry of block i
-unfoldable pub plannedEntry : Plan → List ℕ → ℕ → Entry
+unfoldable pub plannedEntry : Plan → List ℕ → ℕ → Fields
 plannedEntry p ns i = entryOf 0x83 (numberOf ns i) (previousOf (getD (p .previous) i 0)) (getD (p .blocks) i 0)
 
-unfoldable pub plannedBlock : Geometry → Plan → ℕ → List ℕ → List ℕ → ℕ → List Run
-plannedBlock g p h ns bs i = stepRuns g (getD (p .entries) i 0) (plannedEntry p ns i) bs h i
+-- block i: its words, its entry, its number into the slot at Head, Head forward; h is Head at entry
+unfoldable pub plannedBlock : Geometry → Plan → ℕ → List ℕ → List ℕ → ℕ → List Fenced
+plannedBlock g p h ns bs i =
+    words g (getD (p .blocks) i 0) (dataOf g bs i)
+    ∷ (single (entryStore g (getD (p .entries) i 0) (plannedEntry p ns i))
+    ++ (single (slotStore (around (g .slots) h i) (numberOf ns i)) ++ single (headStore (around (g .slots) h (i + 1)))))
 
-unfoldable pub plannedSwitch : Geometry → Plan → List ℕ → ℕ → List Run
+unfoldable pub plannedSwitch : Geometry → Plan → List ℕ → ℕ → List Fenced
 plannedSwitch g p ns i = single (entryStore g (getD (p .entries) i 0) (switched (plannedEntry p ns i)))
 
-unfoldable pub plannedRuns : Geometry → Plan → ℕ → List ℕ → List ℕ → List Run
+unfoldable pub plannedRuns : Geometry → Plan → ℕ → List ℕ → List ℕ → List Fenced
 plannedRuns g p h ns bs =
     eachBelow (plannedBlock g p h ns bs) (length ns)
     ++ (eachBelow (plannedSwitch g p ns) (length ns) ++ single (tailStore (around (g .slots) h (length ns))))
+
+-- ---- place by place
+
+-- the four places of block i
+unfoldable pub blockRun : Geometry → Plan → ℕ → List ℕ → ℕ → ℕ → Run
+blockRun g p h ns i part =
+    cond (eqb part 0) (Words (blockPlace g (getD (p .blocks) i 0)) (i * blockSize g))
+    (cond (eqb part 1) (Entry (entryPlace g (getD (p .entries) i 0)) (plannedEntry p ns i))
+    (cond (eqb part 2) (Word (slotPlace (around (g .slots) h i)) (numberOf ns i)) (Word 64 (around (g .slots) h (i + 1)))))
+
+unfoldable pub switchRun : Geometry → Plan → List ℕ → ℕ → Run
+switchRun g p ns i = Entry (entryPlace g (getD (p .entries) i 0)) (switched (plannedEntry p ns i))
+
+-- four places for each block, one role switch for each, then Tail's
+unfoldable pub runAt : Geometry → Plan → ℕ → List ℕ → ℕ → Run
+runAt g p h ns at =
+    cond (ltb at (4 * length ns)) (blockRun g p h ns (at / 4) (at % 4))
+    (cond (ltb (at - 4 * length ns) (length ns)) (switchRun g p ns (at - 4 * length ns)) (Word 72 (around (g .slots) h (length ns))))
+
+-- ---- what a plan must name
 
 -- each entry and each data block that the plan names for the numbers ns is one of the card's, and no number has high bytes
 pub record Named (g : Geometry) (p : Plan) (ns : List ℕ) : Type 0 where

@@ -5,25 +5,20 @@ use protocol::FRESH;
 use protocol::Geometry;
 use protocol::Map;
 use protocol::Stored;
+use stores::Run;
 ghost use mathlib.Core.Path.{_≡_};
-ghost use mathlib.Core.List.{[], _∷_};
-ghost use Prim.Native.Nat.{_+_, _*_, _≤_, _<_};
-ghost use lib.ListN.{length, getD};
-ghost use Rattle.protocol.specs.Below.{eachBelow, around};
-ghost use Rattle.protocol.specs.Layout.{blockSize};
+ghost use mathlib.Core.Bool.{true};
+ghost use Prim.Native.Nat.{_*_, _/_, _≤_, _<_};
+ghost use lib.ListN.{length};
+ghost use Rattle.protocol.specs.Below.{around};
+ghost use Rattle.protocol.specs.Layout.{goodGeometry, blockSize, slotPlace, entryPlace, blockPlace};
 ghost use Rattle.protocol.specs.Entry.{entryOf, switched};
-ghost use Rattle.protocol.specs.Store.{Medium, flat, slotStore, headStore};
+ghost use Rattle.protocol.specs.Store.{Medium};
 ghost use Rattle.ring.specs.Fitted.{Fitted};
 ghost use Rattle.stores.specs.Did.{Did};
 ghost use Rattle.plan.specs.Planned.{previousOf};
-ghost use Rattle.commit.specs.Making.{stepRuns, planBy, plannedBlock, plannedSwitch, plannedRuns, Named, Ready};
+ghost use Rattle.commit.specs.Making.{planBy, plannedRuns, blockRun, switchRun, runAt, Named, Ready};
 ghost use Rattle.commit.specs.Committed.{Committed};
-
-fn wide(x: u8) -> usize
-    ensures { λ r. ⌜ r ≡ x ⌝ }
-{
-    x as usize
-}
 
 // The previous block that a plan's byte stands for.
 fn previous_of(x: u8) -> u32
@@ -59,90 +54,120 @@ fn switch_role(e: Entry) -> Entry
     }
 }
 
-// The number into the slot at Head, and Head forward by one: Head is i places past where it stood at entry.
-fn log_number(g: Geometry, card: &mut [u8], head: u64, i: usize, number: u64, left: u64) -> u64
-    requires { ⌜ Fitted g (now card) × (head < g .slots) × (i < g .slots) ⌝ }
-    ensures { λ r. ⌜ Did Medium.card (slotStore (around (g .slots) head i) number ∷ headStore (around (g .slots) head (i + 1)) ∷ []) left (now (card .entry)) (now (card .exit)) r ⌝ }
+// The words of block i, which go to the data block `block`.
+fn words_run(g: Geometry, block: u8, i: usize) -> Run
+    requires { ⌜ (goodGeometry g ≡ true) × (block < g .blocks) × (i < g .slots) ⌝ }
+    ensures { λ r. ⌜ r ≡ Run.Words (blockPlace g block) (i * blockSize g) ⌝ }
+{
+    let to = stores::block_place(g, block as u64);
+    let from = codec::block_offset(g, i as u64);
+    Run::Words(to, from as usize)
+}
+
+fn entry_run(g: Geometry, at: u8, e: Entry) -> Run
+    requires { ⌜ (goodGeometry g ≡ true) × (at < g .blocks) ⌝ }
+    ensures { λ r. ⌜ r ≡ Run.Entry (entryPlace g at) e ⌝ }
+{
+    let place = stores::entry_place(g, at as usize);
+    Run::Entry(place, e)
+}
+
+// The number into the slot at Head, which is i places past where it stood at entry.
+fn slot_run(g: Geometry, head: u64, i: usize, number: u64) -> Run
+    requires { ⌜ (goodGeometry g ≡ true) × (head < g .slots) × (i < g .slots) ⌝ }
+    ensures { λ r. ⌜ r ≡ Run.Word (slotPlace (around (g .slots) head i)) number ⌝ }
 {
     let slot = ring::forward(g.slots, head, i as u64);
-    let next = ring::forward(g.slots, head, i as u64 + 1);
-    let a = stores::make_word(card, 128 + 8 * slot as usize, number, left);
-    stores::make_word(card, 64, next, a)
+    Run::Word(128 + 8 * slot as usize, number)
 }
 
-// Block i: its words, its entry at place `at`, its number into the ring. The number is read again, which lets the compiler store it whole.
-fn make_block(
+// Head or Tail, at byte `at` of the card, set to where Head is after n blocks.
+fn ring_run(g: Geometry, at: usize, head: u64, n: usize) -> Run
+    requires { ⌜ (goodGeometry g ≡ true) × (head < g .slots) × (n ≤ g .slots) ⌝ }
+    ensures { λ r. ⌜ r ≡ Run.Word at (around (g .slots) head n) ⌝ }
+{
+    Run::Word(at, ring::forward(g.slots, head, n as u64))
+}
+
+// What the list has of block i: its words, its entry, its number into the slot at Head, Head forward by one.
+fn block_run(
     g: Geometry,
-    card: &mut [u8],
-    at: usize,
-    e: Entry,
+    entries: &[u8; 128],
+    previous: &[u8; 128],
+    blocks: &[u8; 128],
     numbers: &[u64],
-    data: &[u8],
     head: u64,
     i: usize,
-    left: u64,
-) -> u64
-    requires { ⌜ Fitted g (now card) × (at < g .blocks) × (e .current < g .blocks) × (i * blockSize g + blockSize g ≤ length (now «data»)) × (head < g .slots) × (i < g .slots) × (i < length (now numbers)) × (e .number ≡ getD (now numbers) i 0) ⌝ }
-    ensures { λ r. ⌜ Did Medium.card (flat (stepRuns g at e (now («data» .entry)) head i)) left (now (card .entry)) (now (card .exit)) r ⌝ }
+    part: usize,
+) -> Run
+    requires { ⌜ (goodGeometry g ≡ true) × Named g (planBy (now entries) (now previous) (now blocks)) (now numbers) × (length (now numbers) < g .slots) × (head < g .slots) × (i < length (now numbers)) ⌝ }
+    ensures { λ r. ⌜ r ≡ blockRun g (planBy (now (entries .entry)) (now (previous .entry)) (now (blocks .entry))) head (now (numbers .entry)) i part ⌝ }
 {
-    let from = codec::block_offset(g, i as u64) as usize;
-    let a = stores::make_words(g, card, e.current as u64, data, from, left);
-    let b = stores::make_entry_at(g, card, at, e, a);
-    log_number(g, card, head, i, numbers[i], b)
-}
-
-// Each block in turn.
-fn make_blocks(
-    g: Geometry,
-    card: &mut [u8],
-    entries: &[u8; 128],
-    previous: &[u8; 128],
-    blocks: &[u8; 128],
-    numbers: &[u64],
-    data: &[u8],
-    head: u64,
-    left: u64,
-) -> u64
-    requires { ⌜ Fitted g (now card) × Ready g (planBy (now entries) (now previous) (now blocks)) head (now numbers) (now «data») ⌝ }
-    ensures { λ r. ⌜ Did Medium.card (flat (eachBelow (plannedBlock g (planBy (now (entries .entry)) (now (previous .entry)) (now (blocks .entry))) head (now (numbers .entry)) (now («data» .entry))) (length (now (numbers .entry))))) left (now (card .entry)) (now (card .exit)) r ⌝ }
-{
-    let mut a = left;
-    let mut i: usize = 0;
-    while i < numbers.len() {
+    if part == 0 {
+        return words_run(g, blocks[i], i);
+    }
+    if part == 1 {
         let e = log_entry(numbers[i], previous[i], blocks[i]);
-        let at = wide(entries[i]);
-        a = make_block(g, card, at, e, numbers, data, head, i, a);
-        i += 1;
+        return entry_run(g, entries[i], e);
     }
-    a
+    if part == 2 {
+        return slot_run(g, head, i, numbers[i]);
+    }
+    ring_run(g, 64, head, i + 1)
 }
 
-// The role switches: each entry again, with flag 82.
-fn make_switches(
+// The role switch of block i: its entry again, with flag 82.
+fn switch_run(
     g: Geometry,
-    card: &mut [u8],
     entries: &[u8; 128],
     previous: &[u8; 128],
     blocks: &[u8; 128],
     numbers: &[u64],
-    left: u64,
-) -> u64
-    requires { ⌜ Fitted g (now card) × Named g (planBy (now entries) (now previous) (now blocks)) (now numbers) ⌝ }
-    ensures { λ r. ⌜ Did Medium.card (flat (eachBelow (plannedSwitch g (planBy (now (entries .entry)) (now (previous .entry)) (now (blocks .entry))) (now (numbers .entry))) (length (now (numbers .entry))))) left (now (card .entry)) (now (card .exit)) r ⌝ }
+    i: usize,
+) -> Run
+    requires { ⌜ (goodGeometry g ≡ true) × Named g (planBy (now entries) (now previous) (now blocks)) (now numbers) × (i < length (now numbers)) ⌝ }
+    ensures { λ r. ⌜ r ≡ switchRun g (planBy (now (entries .entry)) (now (previous .entry)) (now (blocks .entry))) (now (numbers .entry)) i ⌝ }
 {
-    let mut a = left;
-    let mut i: usize = 0;
-    while i < numbers.len() {
-        let e = switch_role(log_entry(numbers[i], previous[i], blocks[i]));
-        let at = wide(entries[i]);
-        a = stores::make_entry_at(g, card, at, e, a);
-        i += 1;
-    }
-    a
+    let e = switch_role(log_entry(numbers[i], previous[i], blocks[i]));
+    entry_run(g, entries[i], e)
 }
 
-// All of the plan's stores: the blocks, the role switches, then Tail set to Head.
-fn make_plan(
+// What a commit's list has at a place: four for each block in turn, then one role switch for each, then Tail set to Head. Whoever makes these in
+// order, and no others, makes commit's stores.
+pub fn run_at(
+    g: Geometry,
+    entries: &[u8; 128],
+    previous: &[u8; 128],
+    blocks: &[u8; 128],
+    numbers: &[u64],
+    head: u64,
+    at: usize,
+) -> Run
+    requires { ⌜ (goodGeometry g ≡ true) × Named g (planBy (now entries) (now previous) (now blocks)) (now numbers) × (length (now numbers) < g .slots) × (head < g .slots) ⌝ }
+    ensures { λ r. ⌜ r ≡ runAt g (planBy (now (entries .entry)) (now (previous .entry)) (now (blocks .entry))) head (now (numbers .entry)) at ⌝ }
+{
+    let n = numbers.len();
+    if at < 4 * n {
+        return block_run(
+            g,
+            entries,
+            previous,
+            blocks,
+            numbers,
+            head,
+            at / 4,
+            at % 4,
+        );
+    }
+    let i = at - 4 * n;
+    if i < n {
+        return switch_run(g, entries, previous, blocks, numbers, i);
+    }
+    ring_run(g, 72, head, n)
+}
+
+// Makes the whole list. No run of it goes to the disk.
+fn make_list(
     g: Geometry,
     card: &mut [u8],
     entries: &[u8; 128],
@@ -151,34 +176,47 @@ fn make_plan(
     numbers: &[u64],
     data: &[u8],
     head: u64,
-    left: u64,
+    choice: &[u8],
+    credit: u64,
 ) -> u64
-    requires { ⌜ Fitted g (now card) × Ready g (planBy (now entries) (now previous) (now blocks)) head (now numbers) (now «data») ⌝ }
-    ensures { λ r. ⌜ Did Medium.card (flat (plannedRuns g (planBy (now (entries .entry)) (now (previous .entry)) (now (blocks .entry))) head (now (numbers .entry)) (now («data» .entry)))) left (now (card .entry)) (now (card .exit)) r ⌝ }
+    requires { ⌜ Fitted g (now card) × Ready g (planBy (now entries) (now previous) (now blocks)) head (now numbers) (now «data») × (blockSize g / 8 ≤ length (now choice)) ⌝ }
+    ensures { λ r. ⌜ Did Medium.card (plannedRuns g (planBy (now (entries .entry)) (now (previous .entry)) (now (blocks .entry))) head (now (numbers .entry)) (now («data» .entry))) (now (choice .entry)) credit (now (card .entry)) (now (card .exit)) r ⌝ }
 {
-    let a = make_blocks(
-        g,
-        card,
-        entries,
-        previous,
-        blocks,
-        numbers,
-        data,
-        head,
-        left,
-    );
-    let b = make_switches(g, card, entries, previous, blocks, numbers, a);
-    let end = ring::forward(g.slots, head, numbers.len() as u64);
-    stores::make_word(card, 72, end, b)
+    let mut no_disk = [0u8; 1];
+    let places = 5 * numbers.len() + 1;
+    let mut left = credit;
+    let mut i: usize = 0;
+    while i < places {
+        let at = i;
+        i += 1;
+        let run = run_at(g, entries, previous, blocks, numbers, head, at);
+        left = stores::make_run(g, card, &mut no_disk, data, run, choice, left);
+    }
+    left
 }
 
 // Saves the blocks `numbers`, with their bytes side by side in `data`, as one commit. `allowance` stores still happen. Refused before any
-// store: 1, 2, 4 to 11, 14 and 15. Done hands on the map of the card that is left.
-pub fn commit(card: &mut [u8], map: Map, numbers: &[u64], data: &[u8], allowance: u64) -> Stored
-    ensures { λ r. ⌜ Committed (now (card .entry)) map (now (numbers .entry)) (now («data» .entry)) allowance r (now (card .exit)) ⌝ }
+// store: 1, 2, 4 to 11, 14, 15 and 17. Where the power fails in a block's words, those are made whose byte of `choice` is 1. Done hands on the map
+// of the card that is left.
+pub fn commit(
+    card: &mut [u8],
+    map: Map,
+    numbers: &[u64],
+    data: &[u8],
+    choice: &[u8],
+    allowance: u64,
+) -> Stored
+    ensures { λ r. ⌜ Committed (now (card .entry)) map (now (numbers .entry)) (now («data» .entry)) (now (choice .entry)) allowance r (now (card .exit)) ⌝ }
 {
     let mut index = [0u8; 640];
-    let s = plan::admit(card, map, numbers, data.len(), &mut index);
+    let s = plan::admit(
+        card,
+        map,
+        numbers,
+        data.len(),
+        plan::choice_room(choice),
+        &mut index,
+    );
     if s.refusal != 0 {
         return stores::hand_on(Answer::Refused(s.refusal), map, map);
     }
@@ -197,7 +235,8 @@ pub fn commit(card: &mut [u8], map: Map, numbers: &[u64], data: &[u8], allowance
         &mut previous,
         &mut blocks,
     );
-    make_plan(
+    let count = plan::count_of(g, numbers.len());
+    make_list(
         g,
         card,
         &entries,
@@ -206,8 +245,8 @@ pub fn commit(card: &mut [u8], map: Map, numbers: &[u64], data: &[u8], allowance
         numbers,
         data,
         s.head,
-        allowance,
+        choice,
+        stores::credit(count, allowance),
     );
-    let answer = stores::answer(plan::count_of(g, numbers.len()), allowance);
-    stores::hand_on(answer, map, after)
+    stores::hand_on(stores::answer(count, allowance), map, after)
 }

@@ -16,7 +16,7 @@ use Rattle.protocol.specs.Below.{countBelow, walked}
 use Rattle.protocol.specs.Layout.{geometryOf, blockSize}
 use Rattle.protocol.specs.Entry.{entryAt}
 use Rattle.protocol.specs.Ring.{headOf, usedAt, findEntry, cached}
-use Rattle.protocol.specs.Check.{refuse, ringFits, goodEntryAt, entriesFit, entriesApart, fitRefusal, damageRefusal, cardRefusal}
+use Rattle.protocol.specs.Check.{refuse, ringFits, goodEntryAt, entriesFit, entriesApart, fitRefusal, damageRefusal, cardRefusal, choiceFits, choiceRefusal}
 use Rattle.protocol.specs.Search.{takenBy, isFree, unusedAt, searchStart, freeBlocks, unusedEntries}
 use Rattle.protocol.specs.Commit.{numberOf, uncachedAt, newBlock, entryFound, countFits, dataFits, numbersFit, numbersApart, roomFor, saveRefusal, commitRefusal}
 use Rattle.protocol.proofs.Below.{either, and-left, and-right, all-at, around-below, count-le}
@@ -42,9 +42,9 @@ pub record Passed (g : Geometry) (c ns bs : List ℕ) : Type 0 where
   pub sized : length bs ≡ length ns * blockSize g
   pub room : length ns ≤ length (freeBlocks g c)
 
-pub passed : (c : List ℕ) (m : Map) (ns bs : List ℕ) → commitRefusal c m ns bs ≡ 0 → Passed (geometryOf c) c ns bs
+pub passed : (c : List ℕ) (m : Map) (ns bs ch : List ℕ) → commitRefusal c m ns bs ch ≡ 0 → Passed (geometryOf c) c ns bs
 unfolding commitRefusal cardRefusal damageRefusal ringFits saveRefusal countFits dataFits roomFor
-passed c m ns bs z =
+passed c m ns bs ch z =
     let g : Geometry = geometryOf c in
     let (fit, more) = orElse-none (fitRefusal c) _ z in
     let (whole, rest) = orElse-none (cardRefusal g c) _ more in
@@ -54,7 +54,7 @@ passed c m ns bs z =
     let (five, six) = orElse-none (refuse 5 (entriesFit g c)) _ entries in
     let (eight, own₂) = orElse-none (refuse 8 (countFits g ns)) _ own in
     let (nine, own₃) = orElse-none (refuse 9 (dataFits g ns bs)) _ own₂ in
-    let own₄ = orElse-none (refuse 10 (numbersFit g ns)) _ own₃ .1 in
+    let own₄ = orElse-none (refuse 10 (numbersFit g ns)) _ (orElse-none (choiceRefusal g ch) _ own₃ .1) .1 in
     let last = orElse-none (refuse 11 (numbersApart ns)) _ own₄ .1 in
     record {
       fitted = fit-fitted c g 0 (sym fit) refl refl;
@@ -65,6 +65,15 @@ passed c m ns bs z =
       sized = eqb-true _ _ (refuse-none 9 (dataFits g ns bs) (omega arith) nine);
       room = leb-true _ _ (refuse-none 14 (roomFor g c (length ns)) (omega arith) last);
     }
+
+-- and its choice fits
+pub choice-passed : (c : List ℕ) (m : Map) (ns bs ch : List ℕ) → commitRefusal c m ns bs ch ≡ 0 → choiceFits (geometryOf c) ch ≡ true
+unfolding commitRefusal saveRefusal choiceRefusal
+choice-passed c m ns bs ch z =
+    let g : Geometry = geometryOf c in
+    let rest = orElse-none (cardRefusal g c) _ (orElse-none (fitRefusal c) _ z .1) .1 in
+    let own = orElse-none (refuse 8 (countFits g ns)) _ (orElse-none (mapRefusal c m) _ rest .1) .1 in
+    refuse-none 17 _ (omega arith) (orElse-none (choiceRefusal g ch) _ (orElse-none (refuse 9 (dataFits g ns bs)) _ own .1) .0)
 
 -- ---- what the searches find
 

@@ -12,7 +12,7 @@ use Rattle.protocol.specs.declared.Geometry.{Geometry}
 use Rattle.protocol.specs.declared.Map.{Map}
 use Rattle.protocol.specs.Entry.{FRESH}
 use Rattle.protocol.specs.Layout.{goodGeometry, geometryOf}
-use Rattle.protocol.specs.Check.{refuse, _orElse_, fitRefusal, cardRefusal}
+use Rattle.protocol.specs.Check.{refuse, _orElse_, fitRefusal, cardRefusal, choiceFits, choiceRefusal}
 use Rattle.protocol.specs.Search.{searchStart}
 use Rattle.protocol.specs.Map.{mapBy, isMarked, mapOf, freeCount, sameMap, mapRefusal}
 use Rattle.protocol.specs.Below.{anyBelow}
@@ -29,9 +29,10 @@ use Rattle.checks.specs.Keys.{keyAt}
 use Rattle.checks.specs.Passed.{Examined as Checked}
 use Rattle.plan.specs.declared.Admitted.{Admitted}
 use Rattle.plan.specs.declared.Saving.{Saving}
-use Rattle.plan.specs.Request.{sizeFits, requestRefusal, sizedRefusal}
+use Rattle.plan.specs.Request.{sizeFits, choiceRoom, roomFits, requestRefusal, sizedRefusal}
+use Rattle.plan.proofs.Request.{room-is, quiet-room, quiet-fits}
 use Rattle.plan.proofs.Bounds.{passed, unused-room}
-use Rattle.plan.proofs.Room.{enough-free, no-room, room, room-few, taken-block, taken-map, take-ready}
+use Rattle.plan.proofs.Room.{enough-free, no-room, room as has-room, room-few, taken-block, taken-map, take-ready}
 use Rattle.plan.specs.Planned.{previousOf, released, AllHoused, Planned, Examined, Admission, Plannable, Prepared}
 
 -- two maps that are the same, word for word
@@ -59,37 +60,62 @@ unfolding _orElse_
 orElse-assoc zero b c = refl
 orElse-assoc (suc a) b c = refl
 
--- of data so long the refusals are commit's own
-sized-is : (g : Geometry) (c ns bs : List ℕ) (size : ℕ) → length bs ≡ size → sizedRefusal g c ns size ≡ saveRefusal g c ns bs
-unfolding requestRefusal sizedRefusal saveRefusal dataFits sizeFits
-sized-is g c ns bs size l =
+-- of data so long and a choice of such room the refusals are commit's own
+sized-is : (g : Geometry) (c ns bs ch : List ℕ) (size room : ℕ) → goodGeometry g ≡ true → length bs ≡ size → choiceRoom ch ≡ room
+    → sizedRefusal g c ns size room ≡ saveRefusal g c ns bs ch
+unfolding requestRefusal sizedRefusal saveRefusal dataFits sizeFits choiceRefusal
+sized-is g c ns bs ch size room good l k =
     orElse-assoc (refuse 8 (countFits g ns)) _ _
     ∙ ap (λ (r : ℕ). refuse 8 (countFits g ns) orElse r)
     (orElse-assoc (refuse 9 (sizeFits g ns size)) _ _
-    ∙ ap (λ (r : ℕ). refuse 9 (sizeFits g ns size) orElse r) (orElse-assoc (refuse 10 (numbersFit g ns)) _ _)
+    ∙ ap (λ (r : ℕ). refuse 9 (sizeFits g ns size) orElse r)
+    (orElse-assoc (refuse 17 (roomFits g room)) _ _
+    ∙ ap (λ (r : ℕ). refuse 17 (roomFits g room) orElse r) (orElse-assoc (refuse 10 (numbersFit g ns)) _ _))
     ∙ (λ t.
     refuse 9 (sizeFits g ns (sym l t))
+    orElse refuse 17 (room-is g ch room good k t)
     orElse refuse 10 (numbersFit g ns)
     orElse refuse 11 (numbersApart ns)
     orElse refuse 14 (roomFor g c (length ns))))
 
+-- commit asks of the choice only whether it fits, and only of a card that does
+choice-alike : (c : List ℕ) (m : Map) (ns bs ch dh : List ℕ) → (fitRefusal c ≡ 0 → choiceFits (geometryOf c) ch ≡ choiceFits (geometryOf c) dh)
+    → commitRefusal c m ns bs ch ≡ commitRefusal c m ns bs dh
+unfolding commitRefusal saveRefusal choiceRefusal
+choice-alike c m ns bs ch dh f = go (fitRefusal c) refl
+  where
+    behind : Bool → ℕ
+    behind b =
+        cardRefusal (geometryOf c) c
+        orElse mapRefusal c m
+        orElse refuse 8 (countFits (geometryOf c) ns)
+        orElse refuse 9 (dataFits (geometryOf c) ns bs)
+        orElse refuse 17 b
+        orElse refuse 10 (numbersFit (geometryOf c) ns)
+        orElse refuse 11 (numbersApart ns)
+        orElse refuse 14 (roomFor (geometryOf c) c (length ns))
+
+    go : (r : ℕ) → fitRefusal c ≡ r → r orElse behind (choiceFits (geometryOf c) ch) ≡ r orElse behind (choiceFits (geometryOf c) dh)
+    go zero e = unfold _orElse_ in ap behind (f e)
+    go (suc r) e = unfold _orElse_ in refl
+
 -- ---- commit's own refusals, whatever card has so many free blocks
 
-module _ (g : Geometry) (free : ℕ) (ns : List ℕ) (size r : ℕ) (e : r ≡ requestRefusal g ns size) where
-  pub own-request : (r ≡ 0 → ⊥) → (c : List ℕ) → free ≡ freeCount (mapBy (isMarked g c)) → r ≡ sizedRefusal g c ns size
+module _ (g : Geometry) (free : ℕ) (ns : List ℕ) (size room r : ℕ) (e : r ≡ requestRefusal g ns size room) where
+  pub own-request : (r ≡ 0 → ⊥) → (c : List ℕ) → free ≡ freeCount (mapBy (isMarked g c)) → r ≡ sizedRefusal g c ns size room
   unfolding sizedRefusal
-  own-request h c q = orElse-first r (requestRefusal g ns size) _ e h
+  own-request h c q = orElse-first r (requestRefusal g ns size room) _ e h
 
   module _ (z : r ≡ 0) (good : goodGeometry g ≡ true) where
-    past-request : (c : List ℕ) (q : ℕ) → q ≡ refuse 14 (roomFor g c (length ns)) → q ≡ sizedRefusal g c ns size
+    past-request : (c : List ℕ) (q : ℕ) → q ≡ refuse 14 (roomFor g c (length ns)) → q ≡ sizedRefusal g c ns size room
     unfolding sizedRefusal
-    past-request c q h = orElse-next q (requestRefusal g ns size) _ (sym z ∙ e) h
+    past-request c q h = orElse-next q (requestRefusal g ns size room) _ (sym z ∙ e) h
 
-    pub own-full : free < length ns → (c : List ℕ) → free ≡ freeCount (mapBy (isMarked g c)) → 14 ≡ sizedRefusal g c ns size
+    pub own-full : free < length ns → (c : List ℕ) → free ≡ freeCount (mapBy (isMarked g c)) → 14 ≡ sizedRefusal g c ns size room
     own-full l c q = past-request c 14 (refuse-failed 14 (roomFor g c (length ns)) (no-room g c good (mapBy (isMarked g c)) refl free q (length ns) l))
 
-    pub own-passed : length ns ≤ free → (c : List ℕ) → free ≡ freeCount (mapBy (isMarked g c)) → 0 ≡ sizedRefusal g c ns size
-    own-passed l c q = past-request c 0 (refuse-passed 14 (roomFor g c (length ns)) (room g c good (mapBy (isMarked g c)) refl free q (length ns) l))
+    pub own-passed : length ns ≤ free → (c : List ℕ) → free ≡ freeCount (mapBy (isMarked g c)) → 0 ≡ sizedRefusal g c ns size room
+    own-passed l c q = past-request c 0 (refuse-passed 14 (roomFor g c (length ns)) (has-room g c good (mapBy (isMarked g c)) refl free q (length ns) l))
 
 -- ---- the plan
 
@@ -124,8 +150,8 @@ module _ (g : Geometry) (c ns : List ℕ) (good : goodGeometry g ≡ true) (m : 
 
 -- ---- the card's refusals before them
 
-module _ (g : Geometry) (c xs : List ℕ) (m : Map) (ns : List ℕ) (size : ℕ) (v : Verdict) (h : Checked g c xs v) where
-  pub examined-damaged : (v .refusal ≡ 0 → ⊥) → Examined g c m ns size xs (v .refusal)
+module _ (g : Geometry) (c xs : List ℕ) (m : Map) (ns : List ℕ) (size room : ℕ) (v : Verdict) (h : Checked g c xs v) where
+  pub examined-damaged : (v .refusal ≡ 0 → ⊥) → Examined g c m ns size room xs (v .refusal)
   examined-damaged o = record {
     refusal-is = orElse-first (v .refusal) (cardRefusal g c) _ (h .refusal-is) o;
     indexed = λ z. absurd (o z);
@@ -136,11 +162,11 @@ module _ (g : Geometry) (c xs : List ℕ) (m : Map) (ns : List ℕ) (size : ℕ)
     same-is : sameMap m (mapBy (isMarked g c)) ≡ t
     same-is = ap (sameMap m) (sym (h .known z .map-is)) ∙ sym e
 
-    past-card : (r : ℕ) → r ≡ refuse 15 (sameMap m (mapBy (isMarked g c))) orElse sizedRefusal g c ns size
-        → r ≡ cardRefusal g c orElse refuse 15 (sameMap m (mapBy (isMarked g c))) orElse sizedRefusal g c ns size
+    past-card : (r : ℕ) → r ≡ refuse 15 (sameMap m (mapBy (isMarked g c))) orElse sizedRefusal g c ns size room
+        → r ≡ cardRefusal g c orElse refuse 15 (sameMap m (mapBy (isMarked g c))) orElse sizedRefusal g c ns size room
     past-card r q = orElse-next r (cardRefusal g c) _ (sym z ∙ h .refusal-is) q
 
-    pub examined-other : not t ≡ true → Examined g c m ns size xs 15
+    pub examined-other : not t ≡ true → Examined g c m ns size room xs 15
     examined-other k = record {
       refusal-is =
           past-card 15 (orElse-first 15 (refuse 15 (sameMap m (mapBy (isMarked g c)))) _ (refuse-failed 15 _ (same-is ∙ not-true t k)) (omega arith));
@@ -148,8 +174,8 @@ module _ (g : Geometry) (c xs : List ℕ) (m : Map) (ns : List ℕ) (size : ℕ)
       map-is = λ y. absurd (omega arith);
     }
 
-    pub examined-passed : (r : ℕ) → not t ≡ false → ((y : List ℕ) → v .free ≡ freeCount (mapBy (isMarked g y)) → r ≡ sizedRefusal g y ns size)
-        → Examined g c m ns size xs r
+    pub examined-passed : (r : ℕ) → not t ≡ false → ((y : List ℕ) → v .free ≡ freeCount (mapBy (isMarked g y)) → r ≡ sizedRefusal g y ns size room)
+        → Examined g c m ns size room xs r
     examined-passed r k s = record {
       refusal-is = past-card r (orElse-next r _ _ (refuse-passed 15 _ (same-is ∙ not-false t k)) (s c (h .known z .free-is)));
       indexed = λ y. h .known z .indexed;
@@ -158,30 +184,37 @@ module _ (g : Geometry) (c xs : List ℕ) (m : Map) (ns : List ℕ) (size : ℕ)
 
 -- ---- all of them
 
-module _ (c : List ℕ) (m : Map) (ns : List ℕ) (size : ℕ) (xs : List ℕ) (f : Fit) (o : Opened c f) where
-  pub admit-misfit : (u : Admitted) → (f .refusal ≡ 0 → ⊥) → u .refusal ≡ f .refusal → Admission c m ns size xs u
+module _ (c : List ℕ) (m : Map) (ns : List ℕ) (size room : ℕ) (xs : List ℕ) (f : Fit) (o : Opened c f) where
+  pub admit-misfit : (u : Admitted) → (f .refusal ≡ 0 → ⊥) → u .refusal ≡ f .refusal → Admission c m ns size room xs u
   unfolding commitRefusal
   admit-misfit u n q = record {
-    refusal-is = λ bs l. q ∙ orElse-first (f .refusal) (fitRefusal c) _ (o .refusal-is) n;
+    refusal-is = λ bs ch l k. q ∙ orElse-first (f .refusal) (fitRefusal c) _ (o .refusal-is) n;
     geometry-is = λ z. absurd (n (sym q ∙ z));
     plannable = λ z. absurd (n (sym q ∙ z));
   }
 
-  module _ (z : f .refusal ≡ 0) (r : ℕ) (x : Examined (f .geometry) c m ns size xs r) where
-    refusal-of : (bs : List ℕ) → length bs ≡ size → r ≡ commitRefusal c m ns bs
+  module _ (z : f .refusal ≡ 0) (r : ℕ) (x : Examined (f .geometry) c m ns size room xs r) where
+    refusal-of : (bs ch : List ℕ) → length bs ≡ size → choiceRoom ch ≡ room → r ≡ commitRefusal c m ns bs ch
     unfolding commitRefusal mapRefusal mapOf
-    refusal-of bs l =
+    refusal-of bs ch l k =
         let q = o .framed z .geometry-is in
+        let good = ap goodGeometry (sym q) ∙ o .framed z .fitted .good in
         orElse-next r (fitRefusal c) _ (sym z ∙ o .refusal-is)
         (x .refusal-is
-        ∙ (λ t. cardRefusal (q t) c orElse refuse 15 (sameMap m (mapBy (isMarked (q t) c))) orElse sized-is (q t) c ns bs size l t))
+        ∙ (λ t. cardRefusal (q t) c orElse refuse 15 (sameMap m (mapBy (isMarked (q t) c))) orElse sizedRefusal (q t) c ns size room)
+        ∙ ap (λ (s : ℕ). cardRefusal (geometryOf c) c orElse refuse 15 (sameMap m (mapBy (isMarked (geometryOf c) c))) orElse s)
+        (sized-is (geometryOf c) c ns bs ch size room good l k))
 
     module _ (y : r ≡ 0) where
       bytes : List ℕ
       bytes = replicate size 0
 
-      none : commitRefusal c m ns bytes ≡ 0
-      none = unfold bytes in sym (refusal-of (replicate size 0) (length-replicate {A = ℕ} size 0)) ∙ y
+      quiet : List ℕ
+      quiet = replicate room 0
+
+      none : commitRefusal c m ns bytes quiet ≡ 0
+      unfolding bytes quiet
+      none = sym (refusal-of (replicate size 0) (replicate room 0) (length-replicate {A = ℕ} size 0) (quiet-room room)) ∙ y
 
       late : refuse 10 (numbersFit (geometryOf c) ns) orElse refuse 11 (numbersApart ns) orElse refuse 14 (roomFor (geometryOf c) c (length ns)) ≡ 0
       unfolding commitRefusal saveRefusal
@@ -189,7 +222,7 @@ module _ (c : List ℕ) (m : Map) (ns : List ℕ) (size : ℕ) (xs : List ℕ) (
           let g = geometryOf c in
           let w = orElse-none (fitRefusal c) _ none .1 in
           let v = orElse-none (mapRefusal c m) _ (orElse-none (cardRefusal g c) _ w .1) .1 in
-          orElse-none (refuse 9 (dataFits g ns bytes)) _ (orElse-none (refuse 8 (countFits g ns)) _ v .1) .1
+          orElse-none (choiceRefusal g quiet) _ (orElse-none (refuse 9 (dataFits g ns bytes)) _ (orElse-none (refuse 8 (countFits g ns)) _ v .1) .1) .1
 
       plannable-of : Plannable (f .geometry) c (f .head) xs m ns
       plannable-of =
@@ -203,10 +236,10 @@ module _ (c : List ℕ) (m : Map) (ns : List ℕ) (size : ℕ) (xs : List ℕ) (
                 rw q
                 (refuse-none 14 _ (omega arith)
                 (orElse-none (refuse 11 (numbersApart ns)) _ (orElse-none (refuse 10 (numbersFit (geometryOf c) ns)) _ late .1) .1));
-            unused = rw q (unused-room (passed c m ns bytes none));
+            unused = rw q (unused-room (passed c m ns bytes quiet none));
           }
 
-    pub admit-examined : Admission c m ns size xs (record { refusal = r; geometry = f .geometry; head = f .head })
+    pub admit-examined : Admission c m ns size room xs (record { refusal = r; geometry = f .geometry; head = f .head })
     admit-examined = record {
       refusal-is = refusal-of;
       geometry-is = λ y. o .framed z .geometry-is;
@@ -215,10 +248,15 @@ module _ (c : List ℕ) (m : Map) (ns : List ℕ) (size : ℕ) (xs : List ℕ) (
 
 -- ---- a plan as a whole
 
-module _ (c : List ℕ) (m : Map) (ns : List ℕ) (size : ℕ) (xs : List ℕ) (a : Admitted) (x : Admission c m ns size xs a) where
+module _ (c : List ℕ) (m : Map) (ns : List ℕ) (size : ℕ) (xs : List ℕ) (a : Admitted) (x : Admission c m ns size 512 xs a) where
+  -- the choice of 512 zeros fits, so any that fits is refused as it is
+  prepared-refusal : (bs ch : List ℕ) → length bs ≡ size → choiceFits (geometryOf c) ch ≡ true → a .refusal ≡ commitRefusal c m ns bs ch
+  prepared-refusal bs ch l k =
+      x .refusal-is bs (replicate 512 0) l (quiet-room 512) ∙ choice-alike c m ns bs (replicate 512 0) ch (λ z. quiet-fits c z ∙ sym k)
+
   pub prepared-refused : (u : Saving) → (a .refusal ≡ 0 → ⊥) → u .refusal ≡ a .refusal → Prepared c m ns size u
   prepared-refused u o q = record {
-    refusal-is = λ bs l. q ∙ x .refusal-is bs l;
+    refusal-is = λ bs ch l k. q ∙ prepared-refusal bs ch l k;
     entries = λ z. absurd (o (sym q ∙ z));
     previous = λ z. absurd (o (sym q ∙ z));
     blocks = λ z. absurd (o (sym q ∙ z));
@@ -229,7 +267,7 @@ module _ (c : List ℕ) (m : Map) (ns : List ℕ) (size : ℕ) (xs : List ℕ) (
   prepared-planned z es ps qs y p =
       let w = subst (λ (k : Geometry). Planned k c ns es ps qs y) (x .geometry-is z) p in
       record {
-        refusal-is = λ bs l. sym z ∙ x .refusal-is bs l;
+        refusal-is = λ bs ch l k. sym z ∙ prepared-refusal bs ch l k;
         entries = λ v. w .entries;
         previous = λ v. w .previous;
         blocks = λ v. w .blocks;

@@ -11,7 +11,7 @@ use Rattle.protocol.specs.Below.{anyBelow}
 use Rattle.protocol.specs.Entry.{FRESH}
 use Rattle.protocol.specs.Layout.{geometryOf}
 use Rattle.protocol.specs.Ring.{headOf, findEntry, cached, currentOf}
-use Rattle.protocol.specs.Check.{refuse, _orElse_, cardRefusal}
+use Rattle.protocol.specs.Check.{refuse, _orElse_, cardRefusal, choiceFits}
 use Rattle.protocol.specs.Search.{unusedEntries}
 use Rattle.protocol.specs.Map.{mapBy, isMarked, sameMap}
 use Rattle.protocol.specs.Commit.{newBlock, entryFound, oldBlock, numbersFit, roomFor, commitRefusal}
@@ -20,7 +20,7 @@ use Rattle.checks.specs.Passed.{Indexed}
 use Rattle.plan.specs.declared.Admitted.{Admitted}
 use Rattle.plan.specs.declared.Home.{Home}
 use Rattle.plan.specs.declared.Saving.{Saving}
-use Rattle.plan.specs.Request.{sizedRefusal}
+use Rattle.plan.specs.Request.{choiceRoom, sizedRefusal}
 use Rattle.plan.specs.Walked.{unusedBefore}
 
 -- the previous block that a byte stands for: FRESH where it is no data block's number
@@ -62,20 +62,20 @@ pub record Planned (g : Geometry) (c ns es ps qs : List ℕ) (m : Map) : Type 0 
       (isMarked g c x || anyBelow (λ k. eqb (newBlock g c k) x) (length ns)) && not (anyBelow (λ k. eqb (oldBlock g c ns k) x) (length ns)))
 
 -- the refusals of the card's contents and of the map before commit's own; and where there is none the index of the card's numbers
-pub record Examined (g : Geometry) (c : List ℕ) (m : Map) (ns : List ℕ) (size : ℕ) (xs : List ℕ) (r : ℕ) : Type 0 where
-  pub refusal-is : r ≡ cardRefusal g c orElse refuse 15 (sameMap m (mapBy (isMarked g c))) orElse sizedRefusal g c ns size
+pub record Examined (g : Geometry) (c : List ℕ) (m : Map) (ns : List ℕ) (size room : ℕ) (xs : List ℕ) (r : ℕ) : Type 0 where
+  pub refusal-is : r ≡ cardRefusal g c orElse refuse 15 (sameMap m (mapBy (isMarked g c))) orElse sizedRefusal g c ns size room
   pub indexed : r ≡ 0 → Indexed g c xs
   pub map-is : r ≡ 0 → m ≡ mapBy (isMarked g c)
 
--- all of commit's refusals, whatever the bytes of the data are; and where there is none what its plan starts from
-pub record Admission (c : List ℕ) (m : Map) (ns : List ℕ) (size : ℕ) (xs : List ℕ) (r : Admitted) : Type 0 where
-  pub refusal-is : (bs : List ℕ) → length bs ≡ size → r .refusal ≡ commitRefusal c m ns bs
+-- all of commit's refusals, whatever the bytes of the data and of the choice are; and where there is none what its plan starts from
+pub record Admission (c : List ℕ) (m : Map) (ns : List ℕ) (size room : ℕ) (xs : List ℕ) (r : Admitted) : Type 0 where
+  pub refusal-is : (bs ch : List ℕ) → length bs ≡ size → choiceRoom ch ≡ room → r .refusal ≡ commitRefusal c m ns bs ch
   pub geometry-is : r .refusal ≡ 0 → r .geometry ≡ geometryOf c
   pub plannable : r .refusal ≡ 0 → Plannable (r .geometry) c (r .head) xs m ns
 
--- the same, and where there is no refusal the plan
+-- the same of a choice that fits, and where there is no refusal the plan
 pub record Prepared (c : List ℕ) (m : Map) (ns : List ℕ) (size : ℕ) (r : Saving) : Type 0 where
-  pub refusal-is : (bs : List ℕ) → length bs ≡ size → r .refusal ≡ commitRefusal c m ns bs
+  pub refusal-is : (bs ch : List ℕ) → length bs ≡ size → choiceFits (geometryOf c) ch ≡ true → r .refusal ≡ commitRefusal c m ns bs ch
   pub entries : r .refusal ≡ 0 → Lists (entryFound (geometryOf c) c ns) (r .plan .entries) (length ns)
   pub previous : r .refusal ≡ 0 → (i : ℕ) → i < length ns → previousOf (getD (r .plan .previous) i 0) ≡ oldBlock (geometryOf c) c ns i
   pub blocks : r .refusal ≡ 0 → Lists (newBlock (geometryOf c) c) (r .plan .blocks) (length ns)

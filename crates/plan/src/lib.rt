@@ -16,7 +16,7 @@ ghost use Rattle.ring.specs.Fitted.{Fitted, Framed};
 ghost use Rattle.checks.specs.Keys.{NONE};
 ghost use Rattle.checks.specs.Chain.{Blank};
 ghost use Rattle.checks.specs.Passed.{Indexed};
-ghost use Rattle.plan.specs.Request.{requestRefusal, sizedRefusal};
+ghost use Rattle.plan.specs.Request.{choiceRoom, requestRefusal, sizedRefusal};
 ghost use Rattle.plan.specs.Walked.{unusedBefore, Reached};
 ghost use Rattle.plan.specs.Planned.{released, Housed, AllHoused, Planned, Examined, Admission, Plannable, Prepared};
 
@@ -72,10 +72,28 @@ fn numbers_apart(numbers: &[u64]) -> bool
     true
 }
 
-// 8 to 11, which the numbers and the data's length decide alone. Nothing is shifted before the count has passed: n·B then fits a word.
-fn request_refusal(g: Geometry, numbers: &[u64], size: usize) -> u8
+// How many stores of a run the choice speaks of: none where a byte is above 1, which is too few for any run. It looks at all bytes, so that the
+// compiler compares sixteen at a time.
+pub fn choice_room(choice: &[u8]) -> usize
+    ensures { λ r. ⌜ r ≡ choiceRoom (now (choice .entry)) ⌝ }
+{
+    let mut most: u8 = 0;
+    let mut i: usize = 0;
+    while i < choice.len() {
+        let x = choice[i];
+        i += 1;
+        if most < x {
+            most = x;
+        }
+    }
+    if most < 2 { choice.len() } else { 0 }
+}
+
+// 8, 9, 17, 10 and 11, which the numbers, the data's length and the choice's room decide alone. Nothing is shifted before the count has passed:
+// n·B then fits a word.
+fn request_refusal(g: Geometry, numbers: &[u64], size: usize, room: usize) -> u8
     requires { ⌜ goodGeometry g ≡ true ⌝ }
-    ensures { λ r. ⌜ r ≡ requestRefusal g (now (numbers .entry)) size ⌝ }
+    ensures { λ r. ⌜ r ≡ requestRefusal g (now (numbers .entry)) size room ⌝ }
 {
     let n = numbers.len() as u64;
     if n == 0 {
@@ -86,6 +104,9 @@ fn request_refusal(g: Geometry, numbers: &[u64], size: usize) -> u8
     }
     if size as u64 != codec::block_offset(g, n) {
         return 9;
+    }
+    if (room as u64) < codec::block_size(g) / 8 {
+        return 17;
     }
     if !numbers_fit(g, numbers) {
         return 10;
@@ -210,22 +231,30 @@ fn release(map: Map, previous: &[u8; 128], n: usize) -> Map
     left
 }
 
-// 8 to 14, where `free` blocks are free.
-fn save_refusal(g: Geometry, free: u64, numbers: &[u64], size: usize) -> u8
+// 8 to 14 and 17, where `free` blocks are free.
+fn save_refusal(g: Geometry, free: u64, numbers: &[u64], size: usize, room: usize) -> u8
     requires { ⌜ goodGeometry g ≡ true ⌝ }
-    ensures { λ r. ⌜ ((c : List ℕ) → free ≡ freeCount (mapBy (isMarked g c)) → r ≡ sizedRefusal g c (now (numbers .entry)) size) ⌝ }
+    ensures { λ r. ⌜ ((c : List ℕ) → free ≡ freeCount (mapBy (isMarked g c)) → r ≡ sizedRefusal g c (now (numbers .entry)) size room) ⌝ }
 {
-    let refusal = request_refusal(g, numbers, size);
+    let refusal = request_refusal(g, numbers, size, room);
     if refusal != 0 {
         return refusal;
     }
     if free < numbers.len() as u64 { 14 } else { 0 }
 }
 
-// 4 to 15 of a card that fits, and the index of its numbers. Each entry is read once, for the checks and for the plan.
-fn examine(f: Fit, card: &[u8], map: Map, numbers: &[u64], size: usize, index: &mut [u8; 640]) -> u8
+// 4 to 17 of a card that fits, and the index of its numbers. Each entry is read once, for the checks and for the plan.
+fn examine(
+    f: Fit,
+    card: &[u8],
+    map: Map,
+    numbers: &[u64],
+    size: usize,
+    room: usize,
+    index: &mut [u8; 640],
+) -> u8
     requires { ⌜ Framed (now card) f × Blank (now index) ⌝ }
-    ensures { λ r. ⌜ Examined (f .geometry) (now (card .entry)) map (now (numbers .entry)) size (now (index .exit)) r ⌝ }
+    ensures { λ r. ⌜ Examined (f .geometry) (now (card .entry)) map (now (numbers .entry)) size room (now (index .exit)) r ⌝ }
 {
     let v = checks::examine(f, card, index);
     if v.refusal != 0 {
@@ -234,7 +263,7 @@ fn examine(f: Fit, card: &[u8], map: Map, numbers: &[u64], size: usize, index: &
     if !freemap::same(map, v.map) {
         return 15;
     }
-    save_refusal(f.geometry, v.free, numbers, size)
+    save_refusal(f.geometry, v.free, numbers, size, room)
 }
 
 // What a commit is told before it is planned: its refusal, and where there is none the card's geometry and Head.
@@ -244,10 +273,17 @@ pub struct Admitted {
     pub head: u64,
 }
 
-// All of the refusals of a commit of `size` bytes, and where there is none the index of the card's numbers, for the plan.
-pub fn admit(card: &[u8], map: Map, numbers: &[u64], size: usize, index: &mut [u8; 640]) -> Admitted
+// All of the refusals of a commit of `size` bytes with a choice of this room, and where there is none the index of the card's numbers, for the plan.
+pub fn admit(
+    card: &[u8],
+    map: Map,
+    numbers: &[u64],
+    size: usize,
+    room: usize,
+    index: &mut [u8; 640],
+) -> Admitted
     requires { ⌜ Blank (now index) ⌝ }
-    ensures { λ r. ⌜ Admission (now (card .entry)) map (now (numbers .entry)) size (now (index .exit)) r ⌝ }
+    ensures { λ r. ⌜ Admission (now (card .entry)) map (now (numbers .entry)) size room (now (index .exit)) r ⌝ }
 {
     let f = ring::fit_of(card);
     let g = f.geometry;
@@ -258,7 +294,7 @@ pub fn admit(card: &[u8], map: Map, numbers: &[u64], size: usize, index: &mut [u
             head: 0,
         };
     }
-    let r = examine(f, card, map, numbers, size, index);
+    let r = examine(f, card, map, numbers, size, room, index);
     Admitted {
         refusal: r,
         geometry: g,
@@ -313,12 +349,12 @@ pub fn unplanned(refusal: u8) -> Saving
     }
 }
 
-// What a commit of `size` bytes comes to on the card at entry: its refusal, and where there is none its plan.
+// What a commit of `size` bytes, with a choice that fits, comes to on the card at entry: its refusal, and where there is none its plan.
 pub fn prepare(card: &[u8], map: Map, numbers: &[u64], size: usize) -> Saving
     ensures { λ r. ⌜ Prepared (now (card .entry)) map (now (numbers .entry)) size r ⌝ }
 {
     let mut index = [0u8; 640];
-    let a = admit(card, map, numbers, size, &mut index);
+    let a = admit(card, map, numbers, size, 512, &mut index);
     if a.refusal != 0 {
         return unplanned(a.refusal);
     }

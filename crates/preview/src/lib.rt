@@ -44,7 +44,7 @@ pub fn preview(card: &[u8], map: Map, numbers: &[u64], data: &[u8], blocks: &mut
     let n = numbers.len();
     let size = size_asked(n, blocks.len(), data.len());
     let mut index = [0u8; 640];
-    let a = plan::admit(card, map, numbers, size, &mut index);
+    let a = plan::admit(card, map, numbers, size, 512, &mut index);
     if a.refusal != 0 {
         return Answer::Refused(a.refusal);
     }

@@ -118,7 +118,7 @@ pub fn make_step(g: Geometry, card: &mut [u8], i: usize, u: Step, left: u64) -> 
         },
         Step::Undo(e) => Progress {
             count: 1,
-            left: stores::make_entry_at(g, card, i, e, left),
+            left: stores::make_entry(card, stores::entry_place(g, i), e, left),
         },
         Step::Tail(v) => Progress {
             count: 1,

@@ -1,29 +1,43 @@
-// Stores made one after the other under an allowance: as many as it gives, and the rest of it handed on. Where it is 0 nothing is made, so
-// that no caller asks where the cut falls.
+// Runs of stores made one after the other under a credit, and the rest of it handed on. Where it is 0 nothing is made, so that no caller asks
+// where the cut falls.
 use protocol::Answer;
 use protocol::Entry;
 use protocol::Geometry;
 use protocol::Map;
 use protocol::Stored;
 ghost use mathlib.Core.Path.{_≡_};
-ghost use mathlib.Core.List.{[], _∷_};
+ghost use mathlib.Core.List.{List, [], _∷_};
 ghost use mathlib.Core.Bool.{true, cond};
-ghost use Prim.Native.Nat.{_+_, _*_, _%_, _^_, _≤_, _<_, min};
+ghost use Prim.Native.Nat.{ℕ, _+_, _*_, _%_, _^_, _≤_, _<_, min};
 ghost use lib.ListN.{length};
 ghost use lib.Dec.{ltb};
 ghost use Rattle.numbers.specs.Bytes.{part};
-ghost use Rattle.protocol.specs.Layout.{goodGeometry, blockSize, entryPlace, blockPlace, diskPlace, cardLength, diskLength};
+ghost use Rattle.protocol.specs.Layout.{goodGeometry, entryPlace, blockPlace, diskPlace};
 ghost use Rattle.protocol.specs.Entry.{entryBytes};
 ghost use Rattle.protocol.specs.Map.{handedOn};
-ghost use Rattle.protocol.specs.Store.{Medium, card, disk, units, words, sectors, entryStore, wordStore};
-ghost use Rattle.stores.specs.Did.{Did, cardStore};
+ghost use Rattle.protocol.specs.Store.{Medium, madeOn, chosen, units, single, wordStore};
+ghost use Rattle.stores.specs.Did.{Did, cardStore, unfenced};
+ghost use Rattle.stores.specs.Told.{told, Placed};
+
+// What a call that makes runs has to go on with: one more than the stores that still happen, and 0 where a store is missing already, after which
+// nothing is made. A call of at most `most` stores never needs more than that.
+pub fn credit(most: u64, allowance: u64) -> u64
+    requires { ⌜ most < 18446744073709551615 ⌝ }
+    ensures { λ r. ⌜ r ≡ min most allowance + 1 ⌝ }
+{
+    if allowance < most {
+        allowance + 1
+    } else {
+        most + 1
+    }
+}
 
 // The word v at byte `at` of the card.
-pub fn make_word(s: &mut [u8], at: usize, v: u64, left: u64) -> u64
+fn make_word(s: &mut [u8], at: usize, v: u64, left: u64) -> u64
     requires { ⌜ at + 8 ≤ length (now s) ⌝ }
-    ensures { λ r. ⌜ Did card (wordStore at v ∷ []) left (now (s .entry)) (now (s .exit)) r ⌝ }
+    ensures { λ r. ⌜ ((ch : List ℕ) → Did Medium.card (single (wordStore at v)) ch left (now (s .entry)) (now (s .exit)) r) ⌝ }
 {
-    if left == 0 {
+    if left < 2 {
         return 0;
     }
     numbers::put(s, at, 8, v);
@@ -32,12 +46,12 @@ pub fn make_word(s: &mut [u8], at: usize, v: u64, left: u64) -> u64
 
 // The entry e at byte `at` of the card, an entry's place. Its bytes are staged, so that one move of sixteen bytes stores them. They are put at
 // at % 16, which is 0, and the compiler does not know it: of bytes put at a place that it knows it would store each by itself.
-pub fn make_entry(s: &mut [u8], at: usize, e: Entry, left: u64) -> u64
+fn make_entry(s: &mut [u8], at: usize, e: Entry, left: u64) -> u64
     requires { ⌜ (at + 16 ≤ length (now s)) × (at % 16 ≡ 0) ⌝ }
-    ensures { λ r. ⌜ Did card (cardStore at (entryBytes e) ∷ []) left (now (s .entry)) (now (s .exit)) r ⌝ }
+    ensures { λ r. ⌜ ((ch : List ℕ) → Did Medium.card (single (cardStore at (entryBytes e))) ch left (now (s .entry)) (now (s .exit)) r) ⌝ }
 {
-    if left == 0 {
-        return left;
+    if left < 2 {
+        return 0;
     }
     let mut staged = [0u8; 32];
     codec::put_entry(&mut staged, at % 16, e);
@@ -45,34 +59,92 @@ pub fn make_entry(s: &mut [u8], at: usize, e: Entry, left: u64) -> u64
     left - 1
 }
 
-// How many of `count` stores the allowance lets happen.
-fn allowed(count: usize, left: u64) -> usize
-    ensures { λ r. ⌜ r ≡ min count left ⌝ }
-{
-    if left < count as u64 {
-        left as usize
-    } else {
-        count
-    }
-}
-
-// `count` units of 2 ^ `places` bytes side by side from byte `to` of dst, with the bytes of src from `from` on: the words of a data block on
-// the card, or the sectors of a disk block. Those that happen stand at the front, so that they are one copy.
-pub fn make_units(
+// Of `count` units of 2 ^ `places` bytes side by side those whose byte of the choice is 1.
+fn make_chosen(
     dst: &mut [u8],
     to: usize,
     src: &[u8],
     from: usize,
     places: u64,
     count: usize,
+    choice: &[u8],
+)
+    requires { ⌜ (places ≤ 9) × (count ≤ 512) × (to + count * 2 ^ places ≤ length (now dst)) × (from + count * 2 ^ places ≤ length (now src)) × (count ≤ length (now choice)) ⌝ }
+    ensures { λ _. ⌜ ((m : Medium) → now (dst .exit) ≡ madeOn m (chosen (now (choice .entry)) (units m (2 ^ places) count to (part (now (src .entry)) from (count * 2 ^ places)))) (now (dst .entry))) ⌝ }
+{
+    let mut i: usize = 0;
+    while i < count {
+        let at = i;
+        i += 1;
+        if choice[at] == 1 {
+            let past = at << places;
+            numbers::copy(dst, to + past, src, from + past, 1 << places);
+        }
+    }
+}
+
+// An unordered run: `count` units of 2 ^ `places` bytes side by side from byte `to` of dst, with the bytes of src from `from` on. All of them where
+// the credit covers them, which is one copy; of a run in which the power fails the chosen ones, as many as they are.
+fn make_units(
+    dst: &mut [u8],
+    to: usize,
+    src: &[u8],
+    from: usize,
+    places: u64,
+    count: usize,
+    choice: &[u8],
     left: u64,
 ) -> u64
-    requires { ⌜ (places ≤ 9) × (count ≤ 512) × (to + count * 2 ^ places ≤ length (now dst)) × (from + count * 2 ^ places ≤ length (now src)) ⌝ }
-    ensures { λ r. ⌜ ((m : Medium) → Did m (units m (2 ^ places) count to (part (now (src .entry)) from (count * 2 ^ places))) left (now (dst .entry)) (now (dst .exit)) r) ⌝ }
+    requires { ⌜ (places ≤ 9) × (count ≤ 512) × (to + count * 2 ^ places ≤ length (now dst)) × (from + count * 2 ^ places ≤ length (now src)) × (count ≤ length (now choice)) ⌝ }
+    ensures { λ r. ⌜ ((m : Medium) → Did m (unfenced (units m (2 ^ places) count to (part (now (src .entry)) from (count * 2 ^ places))) ∷ []) (now (choice .entry)) left (now (dst .entry)) (now (dst .exit)) r) ⌝ }
 {
-    let n = allowed(count, left);
-    numbers::copy(dst, to, src, from, n << places);
-    left - n as u64
+    if (count as u64) < left {
+        numbers::copy(dst, to, src, from, count << places);
+        return left - count as u64;
+    }
+    if left != 0 {
+        make_chosen(dst, to, src, from, places, count, choice);
+    }
+    0
+}
+
+// A run of a call's list: the words of a data block, at a place of the card and from an offset of the data; the sectors of a disk block, at a place
+// of the disk and from a place of the card; an entry or a word at a place of the card; or nothing, where a list leaves a place out.
+pub enum Run {
+    Nothing,
+    Words(usize, usize),
+    Sectors(usize, usize),
+    Entry(usize, Entry),
+    Word(usize, u64),
+}
+
+// Makes the run as far as the credit goes, and hands on what is left of it: the rule on cuts, for every call.
+pub fn make_run(
+    g: Geometry,
+    card: &mut [u8],
+    disk: &mut [u8],
+    data: &[u8],
+    run: Run,
+    choice: &[u8],
+    left: u64,
+) -> u64
+    requires { ⌜ (goodGeometry g ≡ true) × Placed g run (length (now card)) (length (now disk)) (length (now «data»)) (length (now choice)) ⌝ }
+    ensures card { λ r. ⌜ Did Medium.card (told g run (now («data» .entry)) (now (card .entry))) (now (choice .entry)) left (now (card .entry)) (now (card .exit)) r ⌝ }
+    ensures disk { λ r. ⌜ Did Medium.disk (told g run (now («data» .entry)) (now (card .entry))) (now (choice .entry)) left (now (disk .entry)) (now (disk .exit)) r ⌝ }
+{
+    match run {
+        Run::Nothing => left,
+        Run::Words(to, from) => {
+            let count = codec::block_size(g) / 8;
+            make_units(card, to, data, from, 3, count as usize, choice, left)
+        }
+        Run::Sectors(to, from) => {
+            let count = codec::block_size(g) / 512;
+            make_units(disk, to, card, from, 9, count as usize, choice, left)
+        }
+        Run::Entry(at, e) => make_entry(card, at, e, left),
+        Run::Word(at, v) => make_word(card, at, v, left),
+    }
 }
 
 // The place of entry i; past the last entry, where the data blocks begin.
@@ -97,32 +169,6 @@ pub fn disk_place(g: Geometry, b: u64) -> usize
     ensures { λ r. ⌜ r ≡ diskPlace g b ⌝ }
 {
     codec::block_offset(g, b) as usize
-}
-
-// The entry e at place i of the card.
-pub fn make_entry_at(g: Geometry, s: &mut [u8], i: usize, e: Entry, left: u64) -> u64
-    requires { ⌜ (goodGeometry g ≡ true) × (length (now s) ≡ cardLength g) × (i < g .blocks) ⌝ }
-    ensures { λ r. ⌜ Did card (entryStore g i e ∷ []) left (now (s .entry)) (now (s .exit)) r ⌝ }
-{
-    make_entry(s, entry_place(g, i), e, left)
-}
-
-// The words of data block p, with the bytes of src from `from` on.
-pub fn make_words(g: Geometry, s: &mut [u8], p: u64, src: &[u8], from: usize, left: u64) -> u64
-    requires { ⌜ (goodGeometry g ≡ true) × (length (now s) ≡ cardLength g) × (p < g .blocks) × (from + blockSize g ≤ length (now src)) ⌝ }
-    ensures { λ r. ⌜ Did card (words g p (part (now (src .entry)) from (blockSize g))) left (now (s .entry)) (now (s .exit)) r ⌝ }
-{
-    let count = codec::block_size(g) / 8;
-    make_units(s, block_place(g, p), src, from, 3, count as usize, left)
-}
-
-// The sectors of disk block b, with the bytes of src from `from` on.
-pub fn make_sectors(g: Geometry, s: &mut [u8], b: u64, src: &[u8], from: usize, left: u64) -> u64
-    requires { ⌜ (goodGeometry g ≡ true) × (length (now s) ≡ diskLength g) × (b < g .disk) × (from + blockSize g ≤ length (now src)) ⌝ }
-    ensures { λ r. ⌜ Did disk (sectors g b (part (now (src .entry)) from (blockSize g))) left (now (s .entry)) (now (s .exit)) r ⌝ }
-{
-    let count = codec::block_size(g) / 512;
-    make_units(s, disk_place(g, b), src, from, 9, count as usize, left)
 }
 
 // The answer to a call that was not refused and has `count` stores.

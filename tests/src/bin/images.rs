@@ -5,7 +5,7 @@
 
 use std::path::Path;
 use tinca_tests::drive::put;
-use tinca_tests::model::{commit_stores, map_of, Model};
+use tinca_tests::model::{commit_stores, in_order, map_of, zeros, Model};
 use tinca_tests::{Answer, Calls, Geometry};
 
 const SMALL: Geometry = Geometry { k: 9, slots: 8, data_blocks: 4, disk_blocks: 16 };
@@ -42,12 +42,12 @@ fn save(card: &mut [u8], name: &str, numbers: &[u64], allowance: u64) {
     let count = commit_stores(numbers.len() as u64, BLOCK as u64);
     let answer = if allowance < count { Answer::Cut } else { Answer::Done(count) };
     let mut map = map_of(card);
-    assert_eq!(Model::default().commit(card, &mut map, numbers, &data, allowance), answer);
+    assert_eq!(Model::default().commit(card, &mut map, numbers, &data, &in_order(BLOCK, allowance), allowance), answer);
 }
 
 fn load(card: &mut [u8], number: u64) {
     let mut map = map_of(card);
-    assert_eq!(Model::default().load(card, &disk(), &mut map, number, u64::MAX), Answer::Done(65));
+    assert_eq!(Model::default().load(card, &disk(), &mut map, number, &zeros(BLOCK), u64::MAX), Answer::Done(65));
 }
 
 fn recover(card: &[u8], allowance: u64, answer: Answer) -> Vec<u8> {
@@ -71,7 +71,7 @@ fn saved() -> Vec<u8> {
 fn cut() -> Vec<u8> {
     let mut card = saved();
     let mut map = map_of(&card);
-    assert_eq!(Model::default().evict(&mut card, &mut disk(), &mut map, 12, u64::MAX), Answer::Done(1));
+    assert_eq!(Model::default().evict(&mut card, &mut disk(), &mut map, 12, &zeros(BLOCK), u64::MAX), Answer::Done(1));
     save(&mut card, "save d", &[1, 7], 67 + 65);
     card
 }

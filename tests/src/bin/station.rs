@@ -5,11 +5,12 @@
 //!     station FOLDER SEED [format] [units]
 //!
 //! With `units` the library works on a copy, and each unit goes to the mapped card by one instruction: the call is made at each
-//! allowance in turn, and what changed from the one before is the next unit.
+//! allowance in turn, with the choice that makes its stores in order, and what changed from the one before is the next unit.
 
 use std::path::Path;
 use tinca_tests::ffi::Library;
 use tinca_tests::mapped::*;
+use tinca_tests::model::in_order;
 use tinca_tests::random::Random;
 use tinca_tests::{Answer, Calls, State};
 
@@ -103,17 +104,23 @@ impl Station {
                 other => break other,
             }
         };
-        let answer = self.noted(COMMIT, group, |card, _, map, allowance| Library.commit(card, map, &numbers, &data, allowance));
+        let answer = self.noted(COMMIT, group, |card, _, map, allowance| {
+            Library.commit(card, map, &numbers, &data, &in_order(BLOCK, allowance), allowance)
+        });
         assert!(matches!(answer, Answer::Done(_)) && answer == foretold, "commit {answer:?}, preview {foretold:?}");
     }
 
     fn evict(&mut self, block: u64) {
-        let answer = self.noted(EVICT, block, |card, disk, map, allowance| Library.evict(card, disk, map, block, allowance));
+        let answer = self.noted(EVICT, block, |card, disk, map, allowance| {
+            Library.evict(card, disk, map, block, &in_order(BLOCK, allowance), allowance)
+        });
         assert!(matches!(answer, Answer::Done(_) | Answer::Refused(13)), "evict {answer:?}");
     }
 
     fn load(&mut self, block: u64) {
-        let answer = self.noted(LOAD, block, |card, disk, map, allowance| Library.load(card, disk, map, block, allowance));
+        let answer = self.noted(LOAD, block, |card, disk, map, allowance| {
+            Library.load(card, disk, map, block, &in_order(BLOCK, allowance), allowance)
+        });
         assert!(matches!(answer, Answer::Done(_) | Answer::Refused(12 | 14)), "load {answer:?}");
     }
 }

@@ -9,7 +9,7 @@ fit-of-requires : tie.Need-fit-of-requires
 fit-of-requires c κs = search needs
 
 returns : tie.Need-returns
-returns c = admit-misfit _ _ _ _ _ _ (c .before .before .before .fit-of .ensures) _ (c .if1 .taken) refl
+returns c = admit-misfit _ _ _ _ _ _ _ (c .before .before .before .fit-of .ensures) _ (c .if1 .taken) refl
 
 examine-requires : tie.Need-examine-requires
 examine-requires c κs =
@@ -20,7 +20,7 @@ examine-requires c κs =
 returns-2 : tie.Need-returns-2
 returns-2 c =
     let e = c .before .before in
-    admit-examined _ _ _ _ _ _ (e .before .before .before .fit-of .ensures) (e .if1 .left) _ (c .examine .ensures)
+    admit-examined _ _ _ _ _ _ _ (e .before .before .before .fit-of .ensures) (e .if1 .left) _ (c .examine .ensures)
 
 pub admit-spec : {M : Type 1} → statement M
 admit-spec = tie.close (tie.spec fit-of-requires returns examine-requires returns-2)

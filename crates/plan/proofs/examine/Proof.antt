@@ -26,7 +26,7 @@ returns-3 c =
     let t = c .before in
     let s = t .before in
     let e = s .before in
-    examined-passed _ _ _ _ _ _ _ (e .before .before .examine .ensures) (e .if1 .left) _ (s .same .ensures) _ (t .if2 .left) (c .save-refusal .ensures)
+    examined-passed _ _ _ _ _ _ _ _ (e .before .before .examine .ensures) (e .if1 .left) _ (s .same .ensures) _ (t .if2 .left) (c .save-refusal .ensures)
 
 pub examine-spec : {M : Type 1} → statement M
 examine-spec =

@@ -1,15 +1,12 @@
--- `make_units` makes as many units as are allowed: those lie side by side, so that one copy makes them.
-use native.Mathlib.Omega.{arith}
+-- `make_units` makes the run: whole where the credit covers it, which is one copy; chosen where the power fails in it; and nothing where it failed
+-- before.
 use borrow.Author.Needs.{needs}
-use Rattle.stores.proofs.Laws.{units-room, units-did}
+use Rattle.stores.proofs.Laws.{units-room, units-all, units-chosen, units-none}
 use Rattle.stores.proofs.make_units.Statement.{statement}
 use Rattle.stores.proofs.make_units.Tie as tie
 
-allowed-requires : tie.Need-allowed-requires
-allowed-requires c κs = search needs
-
 shl-copy : tie.Need-shl-copy
-shl-copy c = omega arith
+shl-copy c = search needs
 
 copy-requires : tie.Need-copy-requires
 copy-requires c κs = search (units-room, needs)
@@ -21,8 +18,21 @@ same-length : tie.Need-same-length
 same-length c = search needs
 
 returns : tie.Need-returns
-returns c m = search (units-did, needs)
+returns c m = search (units-all, needs)
+
+make-chosen-requires : tie.Need-make-chosen-requires
+make-chosen-requires c κs = search needs
+
+same-length-2 : tie.Need-same-length-2
+same-length-2 c = search needs
+
+returns-2 : tie.Need-returns-2
+returns-2 c m = let p = c .before .before .make-chosen .ensures m in search (units-chosen, p, needs)
+
+returns-3 : tie.Need-returns-3
+returns-3 c m = search (units-none, needs)
 
 pub make-units-spec : {M : Type 1} → statement M
 make-units-spec =
-    tie.close (tie.spec allowed-requires shl-copy copy-requires sub-result same-length returns)
+    tie.close
+    (tie.spec shl-copy copy-requires sub-result same-length returns make-chosen-requires same-length-2 returns-2 returns-3)
