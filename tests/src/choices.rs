@@ -237,7 +237,11 @@ mod tests {
 
     /// Choices at k 9 with some allowances, and whether 17 passes them: B/8 bytes or more, each 0 or 1.
     fn tried() -> Vec<(bool, Vec<u8>, u64)> {
-        let above = |length: usize, place: usize, byte: u8| -> Vec<u8> { (0..length).map(|at| if at == place { byte } else { 0 }).collect() };
+        let above = |length: usize, place: usize, byte: u8| {
+            let mut choice = vec![0; length];
+            choice[place] = byte;
+            choice
+        };
         let right = [vec![0; 64], vec![1; 64], vec![1; 65], vec![0; 100_000]];
         let short = [vec![], vec![0; 1], vec![1; 63]];
         let inside = [above(64, 0, 2), above(64, 31, 255), above(64, 63, 2), vec![255; 64]];
@@ -284,7 +288,9 @@ mod tests {
             let before = (card.clone(), disk.clone());
             for (passes, choice, allowance) in tried() {
                 let refused = |right: u32, wrong: u32| Answer::Refused(if passes { right } else { wrong });
-                let mut load = |map: &[u64], disk: &[u8], number| calls.load(&mut card, disk, &mut map.to_vec(), number, &choice, allowance);
+                let mut load = |map: &[u64], disk: &[u8], number| {
+                    calls.load(&mut card, disk, &mut map.to_vec(), number, &choice, allowance)
+                };
                 assert_eq!(load(&[0; 2], &[], 5), refused(3, 3));
                 assert_eq!(load(&[0; 2], &disk, 99), refused(15, 15));
                 assert_eq!([99, 3].map(|number| load(&map, &disk, number)), [refused(10, 17), refused(12, 17)]);

@@ -930,7 +930,15 @@ impl Model {
 
     /// Makes the stores of the list that allowance and choice leave, and answers. A call that is done writes the map of the card that
     /// it leaves; a cut or refused one writes none.
-    fn make(&self, list: Result<Vec<Run>, u32>, choice: &[u8], allowance: u64, card: &mut [u8], disk: &mut [u8], map: &mut [u64]) -> Answer {
+    fn make(
+        &self,
+        list: Result<Vec<Run>, u32>,
+        choice: &[u8],
+        allowance: u64,
+        card: &mut [u8],
+        disk: &mut [u8],
+        map: &mut [u64],
+    ) -> Answer {
         let list = match list {
             Ok(_) if self.slips(Slip::MapAskedLast) && map != map_of(card) => Err(15),
             list => list,

@@ -7,18 +7,17 @@ use mathlib.Core.Logic.{⊎-elim}
 use native.Mathlib.Omega.{arith}
 use borrow.Author.Tests.{ne-eqb, eq-eqb}
 use Rattle.protocol.specs.declared.Geometry.{Geometry}
-use Rattle.protocol.specs.Store.{card, flat, storesOf}
+use Rattle.protocol.specs.Store.{card, storesOf, afterOn}
 use Rattle.protocol.specs.Map.{mapOf, makeRefusal}
 use Rattle.protocol.specs.Recover.{recoverRuns, recoverRefusal, recoverWork}
 use Rattle.protocol.proofs.Below.{absurd-bool, same-or-other}
 use Rattle.protocol.proofs.Checks.{orElse-first, orElse-next}
 use Rattle.protocol.proofs.Handed.{own-map}
-use Rattle.stores.proofs.Laws.{refused-after, made-after}
+use Rattle.stores.proofs.Laws.{refused-after}
 use Rattle.recovery.specs.declared.Checked.{Checked}
 use Rattle.recovery.specs.Step.{Examined}
 use Rattle.image.specs.declared.Walk.{Walk}
 use Rattle.image.specs.Walked.{Walked, Repaired}
-use Rattle.image.proofs.Walking.{walked-went}
 
 -- with the card's own map recovery is refused as making the map is
 own-refusal : (c : List ℕ) → makeRefusal c ≡ recoverRefusal c (mapOf c)
@@ -46,16 +45,16 @@ module _ (a : ℕ) (c : List ℕ) (s : Checked) (x : Examined c s) where
         short = λ e. absurd-bool e refl;
       }
 
-  pub repaired-walked : s .refusal ≡ 0 → (d : List ℕ) (w : Walk) → Walked (flat (recoverRuns (s .geometry) c)) a c d w
+  pub repaired-walked : s .refusal ≡ 0 → (d : List ℕ) (w : Walk) → Walked (recoverRuns (s .geometry) c) a c d w
       → Repaired a c d (record { refusal = 0; count = w .count; made = w .made; failed = w .failed })
-  unfolding recoverWork storesOf
+  unfolding recoverWork storesOf afterOn
   repaired-walked z d w y =
       let none : makeRefusal c ≡ 0 = sym (x .refusal-is) ∙ z in
-      let own = subst (λ (g : Geometry). Walked (flat (recoverRuns g c)) a c d w) (x .own z) y in
+      let own = subst (λ (g : Geometry). Walked (recoverRuns g c) a c d w) (x .own z) y in
       record {
         refusal-is = sym none;
         count-is = own .counted ∙ rw (eq-eqb (makeRefusal c) 0 none) refl;
-        after-is = made-after (recoverWork c (mapOf c)) (w .made) (s .refusal) refusal-is z (walked-went _ a c d w own .did);
+        after-is = own .made-is ∙ sym (rw (← refusal-is, eq-eqb (s .refusal) 0 z));
         within = y .within;
         listed = y .listed;
         whole = y .whole;

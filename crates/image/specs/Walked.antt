@@ -1,20 +1,21 @@
 -- What stores that may fail at any one have come to. Whether a write to a file fails is not ours to say; what holds either way stands here.
 use Prim.Native.Nat.{ℕ, _≤_, _<_, min}
-use mathlib.Core.List.{List}
+use mathlib.Core.List.{List, []}
 use mathlib.Core.Bool.{true, false, cond}
 use mathlib.Core.Path.{_≡_}
-use lib.ListN.{length, take}
+use lib.ListN.{length}
 use lib.Dec.{eqb}
-use Rattle.protocol.specs.Store.{card, Store, madeOn, storesOf, afterOn}
+use Rattle.protocol.specs.Store.{card, Run, madeOn, flat, made, storesOf, afterOn}
 use Rattle.protocol.specs.Map.{mapOf, makeRefusal}
 use Rattle.protocol.specs.Recover.{recoverWork}
 use Rattle.image.specs.declared.Walk.{Walk}
 use Rattle.image.specs.declared.Repair.{Repair}
 
--- of the stores ss the first ones are made, d after them and c before: all that the allowance a lets happen, or where a write failed fewer
-pub record Walked (ss : List Store) (a : ℕ) (c d : List ℕ) (r : Walk) : Type 0 where
-  pub counted : r .count ≡ length ss
-  pub made-is : d ≡ madeOn card (take (r .made) ss) c
+-- of the runs rs, each a single store, the first stores are made, d after them and c before: all that the allowance a lets happen, or where a
+-- write failed fewer
+pub record Walked (rs : List Run) (a : ℕ) (c d : List ℕ) (r : Walk) : Type 0 where
+  pub counted : r .count ≡ length (flat rs)
+  pub made-is : d ≡ madeOn card (made (r .made) [] rs) c
   pub within : r .made ≤ a
   pub listed : r .made ≤ r .count
   pub whole : r .failed ≡ false → r .made ≡ min a (r .count)

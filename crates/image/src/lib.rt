@@ -9,9 +9,9 @@ ghost use mathlib.Core.List.{List, _++_};
 ghost use Prim.Native.Nat.{ℕ, _+_, _≤_, _<_};
 ghost use lib.ListN.{length};
 ghost use Rattle.io.specs.Counts.{Counts};
-ghost use Rattle.protocol.specs.Store.{Store, flat};
+ghost use Rattle.protocol.specs.Store.{Run};
 ghost use Rattle.protocol.specs.Recover.{recoverRuns};
-ghost use Rattle.recovery.specs.Step.{stepStores, undoes};
+ghost use Rattle.recovery.specs.Step.{stepRuns, undoes};
 ghost use Rattle.ring.specs.Fitted.{Fitted, WindowOf};
 ghost use Rattle.image.specs.Walked.{Walked, Repaired};
 
@@ -99,7 +99,7 @@ fn walk_step(
     allowance: u64,
 ) -> Walk
     requires { ⌜ Fitted g (now card) × (undoes u ≡ true → at < g .blocks) × (so .made ≤ so .count) × (so .count ≤ at) × (at ≤ g .blocks) ⌝ }
-    ensures { λ r. ⌜ ((ss : List Store) (c : List ℕ) → Walked ss allowance c (now (card .entry)) so → Walked (ss ++ stepStores g at u) allowance c (now (card .exit)) r) × (r .count ≤ so .count + 1) ⌝ }
+    ensures { λ r. ⌜ ((rs : List Run) (c : List ℕ) → Walked rs allowance c (now (card .entry)) so → Walked (rs ++ stepRuns g at u) allowance c (now (card .exit)) r) × (r .count ≤ so .count + 1) ⌝ }
 {
     let s = recovery::spell(g, at, u);
     let size = s.size;
@@ -122,7 +122,7 @@ fn walk_step(
             failed: true,
         };
     }
-    recovery::make_step(g, card, at, u, 1);
+    recovery::make_step(g, card, at, u, 2);
     Walk {
         count: count,
         made: so.made + 1,
@@ -133,7 +133,7 @@ fn walk_step(
 // The whole list, in its order.
 fn walk_list(fd: i32, g: Geometry, card: &mut [u8], w: Window, allowance: u64) -> Walk
     requires { ⌜ Fitted g (now card) × WindowOf g (now card) w ⌝ }
-    ensures { λ r. ⌜ Walked (flat (recoverRuns g (now (card .entry)))) allowance (now (card .entry)) (now (card .exit)) r ⌝ }
+    ensures { λ r. ⌜ Walked (recoverRuns g (now (card .entry))) allowance (now (card .entry)) (now (card .exit)) r ⌝ }
 {
     let n = g.blocks as usize;
     let mut so = Walk {

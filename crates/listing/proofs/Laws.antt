@@ -9,7 +9,7 @@ use Rattle.numbers.specs.Bytes.{part, patch}
 use Rattle.numbers.proofs.Laws.{length-part, length-patch, part-patch-same}
 use Rattle.protocol.specs.declared.Geometry.{Geometry}
 use Rattle.protocol.specs.Below.{eachBelow}
-use Rattle.protocol.specs.Store.{Store, flat}
+use Rattle.protocol.specs.Store.{Run, flat}
 use Rattle.protocol.specs.Recover.{recoverRuns}
 use Rattle.stores.proofs.Laws.{length-each}
 use Rattle.recovery.specs.declared.Spelled.{Spelled}
@@ -32,15 +32,17 @@ lines-first g c = refl
 module _ (g : Geometry) (c : List ℕ) (i count : ℕ) (x : count ≡ length (flat (eachBelow (runsAt g c) i))) (u : Step) (k : Listed g c i u) (s : Spelled)
     (e : spelledStores s ≡ stepStores g i u) where
   pub lines-skip : s .size ≡ 0 → count ≡ length (flat (eachBelow (runsAt g c) (i + 1)))
+  unfolding stepStores
   lines-skip z =
-      let n : length (flat (runsAt g c i)) ≡ 0 = sym (ap length (k .stores)) ∙ ap length (no-store s (stepStores g i u) e z) in
+      let n : length (flat (runsAt g c i)) ≡ 0 = sym (ap (λ (rs : List Run). length (flat rs)) (k .runs)) ∙ ap length (no-store s (stepStores g i u) e z) in
       omega (arith, x, length-each (runsAt g c) i)
 
   pub lines-more : (s .size ≡ 0 → ⊥) → count + 1 ≡ length (flat (eachBelow (runsAt g c) (i + 1)))
+  unfolding stepStores
   lines-more h =
-      let n : length (flat (runsAt g c i)) ≡ 1 = sym (ap length (k .stores)) ∙ one-store s (stepStores g i u) e h in
+      let n : length (flat (runsAt g c i)) ≡ 1 = sym (ap (λ (rs : List Run). length (flat rs)) (k .runs)) ∙ one-store s (stepStores g i u) e h in
       omega (arith, x, length-each (runsAt g c) i)
 
 pub lines-last : (g : Geometry) (c : List ℕ) (count i n : ℕ) → n < i → i ≤ n + 1 → n ≡ g .blocks
     → count ≡ length (flat (eachBelow (runsAt g c) i)) → count ≡ length (flat (recoverRuns g c))
-lines-last g c count i n h k e x = list-ends g c i n h k e (λ (ss : List Store). count ≡ length ss) x
+lines-last g c count i n h k e x = list-ends g c i n h k e (λ (rs : List Run). count ≡ length (flat rs)) x

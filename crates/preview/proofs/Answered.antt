@@ -5,7 +5,7 @@ use mathlib.Core.Bool.{Bool, true, cond}
 use mathlib.Core.Path.{_≡_, refl, sym, ap, _∙_}
 use mathlib.Core.Logic.{⊎-elim}
 use native.Mathlib.Omega.{arith}
-use lib.ListN.{length, getD, set}
+use lib.ListN.{length, getD, set, replicate}
 use lib.Seq.{getD-set-same, getD-set-other, ext-getD}
 use lib.Dec.{eqb}
 use borrow.Author.Tests.{eq-eqb, ne-eqb, eqb-true, eqb-false}
@@ -14,9 +14,7 @@ use Rattle.protocol.specs.declared.Geometry.{Geometry}
 use Rattle.protocol.specs.declared.Map.{Map}
 use Rattle.protocol.specs.Layout.{goodGeometry, geometryOf, blockSize}
 use Rattle.protocol.specs.Search.{searchStart}
-use Rattle.protocol.specs.Store.{storesOf}
 use Rattle.protocol.specs.Map.{freeCount}
-use Rattle.protocol.specs.Commit.{commitWork}
 use Rattle.protocol.specs.Preview.{previewRefusal, previewAnswer, blocksOf, blocksAfter}
 use Rattle.protocol.proofs.Below.{either, same-or-other}
 use Rattle.protocol.proofs.Checks.{Limits, limits}
@@ -28,6 +26,7 @@ use Rattle.plan.specs.Planned.{Admission, Plannable}
 use Rattle.plan.proofs.Bounds.{passed}
 use Rattle.plan.proofs.Count.{runs-count}
 use Rattle.plan.proofs.Order.{plan-few, plan-ready}
+use Rattle.plan.proofs.Request.{quiet-room, quiet-fits}
 use Rattle.plan.proofs.Room.{enough-free, taken-block}
 use Rattle.plan.proofs.Start.{start-is}
 use Rattle.preview.specs.ToldBlocks.{ToldBlocks}
@@ -55,11 +54,16 @@ module _ (n told long : ℕ) where
   asked-not h = rw (ne-eqb told n h)
 
 module _ (c : List ℕ) (m : Map) (ns bs out : List ℕ) (size : ℕ) (e : size ≡ cond (eqb (length out) (length ns)) (length bs) 0) (xs : List ℕ)
-    (a : Admitted) (x : Admission c m ns size xs a) where
+    (a : Admitted) (x : Admission c m ns size 512 xs a) where
+  -- a choice that fits every card that does
+  quiet : List ℕ
+  quiet = replicate 512 0
+
   refusal-is : a .refusal ≡ previewRefusal c m ns bs out
+  unfolding quiet
   refusal-is = ⊎-elim
-      (λ h. x .refusal-is bs (sym (e ∙ rw h)) ∙ sym (refusal-same c m ns bs out (eqb-true _ _ h)))
-      (λ h. x .refusal-is [] (sym (e ∙ rw h)) ∙ sym (refusal-nine c m ns bs out (eqb-false _ _ h)))
+      (λ h. x .refusal-is bs quiet (sym (e ∙ rw h)) (quiet-room 512) ∙ sym (refusal-same c m ns bs out quiet (eqb-true _ _ h) (quiet-fits c)))
+      (λ h. x .refusal-is [] quiet (sym (e ∙ rw h)) (quiet-room 512) ∙ sym (refusal-nine c m ns bs out quiet (eqb-false _ _ h)))
       (either (eqb (length out) (length ns)))
 
   pub preview-refused : (a .refusal ≡ 0 → ⊥) → (Refused (a .refusal) ≡ previewAnswer c m ns bs out) × (out ≡ blocksAfter c m ns bs out)
@@ -85,9 +89,10 @@ module _ (c : List ℕ) (m : Map) (ns bs out : List ℕ) (size : ℕ) (e : size 
     preview-few = omega (arith, told-length, plan-few (a .geometry) c ns preview-good m (ready .map-is) (ready .room))
 
     pub preview-counts : (goodGeometry (a .geometry) ≡ true) × (length ns < a .geometry .slots)
+    unfolding quiet
     preview-counts =
         let q = x .geometry-is z in
-        let v = passed c m ns bs (sym (refusal-same c m ns bs out told-length) ∙ none) in
+        let v = passed c m ns bs quiet (sym (refusal-same c m ns bs out quiet told-length (quiet-fits c)) ∙ none) in
         let l : Limits (geometryOf c) = limits (geometryOf c) (v .fitted .good) in
         rw q (v .fitted .good, omega (arith, v .count))
 
@@ -101,7 +106,7 @@ module _ (c : List ℕ) (m : Map) (ns bs out : List ℕ) (size : ℕ) (e : size 
       pub preview-done : (n : ℕ) (found told : List ℕ) (t : Map) → n ≡ length ns * (blockSize (a .geometry) / 8 + 4) + 1
           → Took m start (length ns) found t → ToldBlocks found out told
           → (Done n ≡ previewAnswer c m ns bs out) × (told ≡ blocksAfter c m ns bs out)
-      unfolding previewAnswer blocksAfter commitWork storesOf
+      unfolding previewAnswer blocksAfter
       preview-done n found told t k w h =
           let g = a .geometry in
           let q = x .geometry-is z in

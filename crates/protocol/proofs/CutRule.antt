@@ -37,7 +37,7 @@ use Rattle.protocol.proofs.Loaded.{Rest, eviction, loading}
 use Rattle.protocol.proofs.Passed.{first-zero, second-zero, passed, evict-passed, load-passed, commit-passed}
 use Rattle.protocol.proofs.Recovered.{recovery, settled-by}
 use Rattle.protocol.proofs.Shape.{kindAt, Shape, Inv, window-empty}
-use Rattle.protocol.proofs.Stores.{runs-covered, runs-before, Along}
+use Rattle.protocol.proofs.Stores.{runs-covered, runs-before, single-cut, Along}
 
 -- ---- what a call leaves, by its answer
 
@@ -130,7 +130,7 @@ module _ {g : Geometry} {row : Row} (m : Media) (s : Map) (v : Inv g row (m .onC
         let short : a ≤ length (flat (front ns bs v ps)) =
         omega (arith, ap length (commit-flat ns bs v ps), length-append (flat (front ns bs v ps)) (last ∷ [])) in
         let t : made a ch (runs g) ≡ made a ch (front ns bs v ps) =
-        ap (made a ch) (commit-front ns bs v ps) ∙ runs-before a ch (front ns bs v ps) last short in
+        ap (made a ch) (commit-front ns bs v ps) ∙ runs-before a ch (front ns bs v ps) (single last) (single-cut ch last) short in
         subst (λ (ss : List Store). Inv g row (madeOn card ss (m .onCard)) (madeOn disk ss (m .onDisk))) (sym t) (commit-cut ns bs v ps a ch)
 
     keeps-commit : (a : ℕ) → Left (Inv g (rowStep g (commit ns bs ch) (answerOf a saving) row)) a saving m

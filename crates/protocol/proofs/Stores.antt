@@ -96,16 +96,16 @@ pub single-cut : (ch : List ℕ) (s : Store) → made 0 ch (single s) ≡ []
 unfolding made single landed
 single-cut ch s = refl
 
--- what is made of a run before a last single store that is not reached
-pub runs-before : (a : ℕ) (ch : List ℕ) (rs : List Run) (s : Store) → a ≤ length (flat rs) → made a ch (rs ++ single s) ≡ made a ch rs
-runs-before a ch rs s h =
+-- runs of which nothing is made without an allowance, behind runs that take all of it
+pub runs-before : (a : ℕ) (ch : List ℕ) (rs qs : List Run) → made 0 ch qs ≡ [] → a ≤ length (flat rs) → made a ch (rs ++ qs) ≡ made a ch rs
+runs-before a ch rs qs none h =
     ⊎-elim
-    (λ l. runs-within a ch rs (single s) l)
+    (λ l. runs-within a ch rs qs l)
     (λ l.
     let z : a - length (flat rs) ≡ 0 = omega arith in
-    runs-past a ch rs (single s) l
-    ∙ ap (λ (k : ℕ). flat rs ++ made k ch (single s)) z
-    ∙ ap (λ (ss : List Store). flat rs ++ ss) (single-cut ch s)
+    runs-past a ch rs qs l
+    ∙ ap (λ (k : ℕ). flat rs ++ made k ch qs) z
+    ∙ ap (λ (ss : List Store). flat rs ++ ss) none
     ∙ append-nil (flat rs)
     ∙ sym (runs-covered a ch rs l))
     (below-or-above a (length (flat rs)))
@@ -135,15 +135,38 @@ confined-chosen m at n (x ∷ ch) (s ∷ ss) h = go (eqb x 1) (confined-chosen m
     go true k = (h .0, k)
     go false k = k
 
--- what is made of one run, whatever the allowance and the choice
-pub some-made : (a : ℕ) (ch : List ℕ) (r : Run) → Some (made a ch (r ∷ [])) (r .stores)
-unfolding made landed
-some-made a ch r m at n h = go (leb (length (r .stores)) a) (r .unordered)
+module _ (m : Medium) (at n : ℕ) where
+  pub confined-append : (ss ts : List Store) → Confined m at n ss → Confined m at n ts → Confined m at n (ss ++ ts)
+  confined-append [] ts x y = y
+  confined-append (s ∷ ss) ts x y = (x .0, confined-append ss ts (x .1) y)
+
+  confined-front : (ss ts : List Store) → Confined m at n (ss ++ ts) → Confined m at n ss
+  confined-front [] ts x = tt
+  confined-front (s ∷ ss) ts x = (x .0, confined-front ss ts (x .1))
+
+  confined-back : (ss ts : List Store) → Confined m at n (ss ++ ts) → Confined m at n ts
+  confined-back [] ts x = x
+  confined-back (s ∷ ss) ts x = confined-back ss ts (x .1)
+
+-- what is made of the runs, whatever the allowance and the choice
+pub some-runs : (a : ℕ) (ch : List ℕ) (rs : List Run) → Some (made a ch rs) (flat rs)
+unfolding made landed flat
+some-runs a ch [] m at n h = tt
+some-runs a ch (r ∷ rs) m at n h =
+    go (leb (length (r .stores)) a) (r .unordered)
+    (confined-front m at n (r .stores) (flat rs) h)
+    (some-runs (a - length (r .stores)) ch rs m at n (confined-back m at n (r .stores) (flat rs) h))
   where
-    go : (b u : Bool) → Confined m at n (cond b (r .stores ++ []) (cond u (chosen ch (r .stores)) []))
-    go true u = subst (Confined m at n) (sym (append-nil (r .stores))) h
-    go false true = confined-chosen m at n ch (r .stores) h
-    go false false = tt
+    go : (b u : Bool) → Confined m at n (r .stores) → Confined m at n (made (a - length (r .stores)) ch rs)
+        → Confined m at n (cond b (r .stores ++ made (a - length (r .stores)) ch rs) (cond u (chosen ch (r .stores)) []))
+    go true u x y = confined-append m at n (r .stores) (made (a - length (r .stores)) ch rs) x y
+    go false true x y = confined-chosen m at n ch (r .stores) x
+    go false false x y = tt
+
+-- and of one run
+pub some-made : (a : ℕ) (ch : List ℕ) (r : Run) → Some (made a ch (r ∷ [])) (r .stores)
+unfolding flat
+some-made a ch r m at n h = some-runs a ch (r ∷ []) m at n (subst (Confined m at n) (sym (append-nil (r .stores))) h)
 
 -- what lies outside stays
 pub confined-part : (m : Medium) (at n : ℕ) (ss : List Store) (xs : List ℕ) (from k : ℕ) → Confined m at n ss

@@ -146,7 +146,7 @@ noted-none g c =
 
 -- c is the card c₀ after i turns, cut anywhere, and u the step of the next place
 module _ (g : Geometry) (c₀ : List ℕ) (i a : ℕ) (c : List ℕ) (n r : ℕ)
-    (x : Went (flat (eachBelow (runsAt g c₀) i)) a c₀ c (record { count = n; left = r })) (top : i ≤ g .blocks)
+    (x : Went (eachBelow (runsAt g c₀) i) a c₀ c (record { count = n; left = r })) (top : i ≤ g .blocks)
     (w : Window) (v : WindowOf g c₀ w) (fit : entriesFit g c₀ ≡ true) where
   good₀ : i < g .blocks → goodEntryAt g c₀ i ≡ true
   unfolding entriesFit

@@ -1,11 +1,10 @@
 -- What recovery's refusal decides: the call is refused, or the card fits and its stores are made; and the map that each hands on.
 -- Assumes nothing.
-use Prim.Native.Nat.{ℕ, _≤_, _<_}
+use Prim.Native.Nat.{ℕ, _+_, _≤_, _<_, min}
 use mathlib.Core.List.{List}
 use mathlib.Core.Bool.{Bool, true, false, cond, not}
 use mathlib.Core.Path.{_≡_, refl, sym, ap, subst, _∙_}
 use native.Mathlib.Omega.{arith}
-use lib.Seq.{take-all}
 use lib.Dec.{eqb, ltb}
 use borrow.Author.Tests.{eq-eqb, ne-eqb, eqb-true, not-true, not-false}
 use Rattle.protocol.specs.declared.Answer.{Answer}
@@ -15,7 +14,7 @@ use Rattle.protocol.specs.declared.Map.{Map}
 use Rattle.protocol.specs.declared.Mapped.the-variants.{Is, Refused as RefusedMap}
 use Rattle.protocol.specs.Layout.{geometryOf}
 use Rattle.protocol.specs.Check.{entriesFit, fitRefusal, damageRefusal}
-use Rattle.protocol.specs.Store.{card, Store, flat, madeOn, storesOf, answerOf, afterOn}
+use Rattle.protocol.specs.Store.{card, storesOf, answerOf, afterOn}
 use Rattle.protocol.specs.Map.{mapBy, isMarked, mapOf, sameMap, makeRefusal, madeMap, mapRefusal, handedOn, mapAfter}
 use Rattle.protocol.specs.Recover.{recoverRuns, recoverRefusal, recoverWork}
 use Rattle.protocol.proofs.Below.{and-left, and-right}
@@ -25,7 +24,7 @@ use Rattle.checks.specs.declared.Verdict.{Verdict}
 use Rattle.checks.specs.Passed.{Inspected}
 use Rattle.freemap.specs.Bits.{movedMap}
 use Rattle.ring.specs.Fitted.{Fitted, Placed, WindowOf, Framed, Opened}
-use Rattle.stores.proofs.Laws.{says-cut, says-done, refused-answer, refused-after, made-answer, made-after}
+use Rattle.stores.proofs.Laws.{says-cut, says-done, refused-answer, refused-after, made-answer, made-after, made-map}
 use Rattle.ring.specs.declared.Fit.{Fit}
 use Rattle.ring.specs.declared.Window.{Window}
 use Rattle.recovery.specs.declared.Checked.{Checked}
@@ -35,6 +34,7 @@ use Rattle.recovery.specs.Step.{Examined}
 use Rattle.recovery.specs.Went.{Went, Recovered}
 use Rattle.recovery.specs.Blocks.{BlocksNoted}
 use Rattle.recovery.proofs.Moving.{moved-map}
+use Rattle.recovery.proofs.Turns.{list-short}
 
 -- ---- refusals in order
 
@@ -141,13 +141,17 @@ module _ (a : ℕ) (c : List ℕ) (m : Map) where
 
       -- ---- the stores made
 
-      module _ (h : not t ≡ false) (d : List ℕ) (p : Progress) (y : Went (flat (recoverRuns (s .geometry) c)) a c d p) where
+      module _ (h : not t ≡ false) (k : ℕ) (credit : k ≡ min 129 a + 1) (d : List ℕ) (p : Progress) (y : Went (recoverRuns (s .geometry) c) k c d p) where
         none : 0 ≡ recoverRefusal c m
         unfolding recoverRefusal mapRefusal
         none = orElse-next 0 (makeRefusal c) _ (sym z ∙ x .refusal-is) (refuse-passed 15 (sameMap m (mapOf c)) (sym told ∙ not-false t h))
 
-        made : Went (flat (recoverRuns (geometryOf c) c)) a c d p
-        made = subst (λ (g : Geometry). Went (flat (recoverRuns g c)) a c d p) (x .own z) y
+        made : Went (recoverRuns (geometryOf c) c) k c d p
+        made = subst (λ (g : Geometry). Went (recoverRuns g c) k c d p) (x .own z) y
+
+        short : storesOf (recoverWork c m) ≤ 129
+        unfolding recoverWork storesOf
+        short = list-short (geometryOf c) c (subst (λ (g : Geometry). Fitted g c) (x .own z) (x .fitted z))
 
         answer-is : (r : Answer) → r ≡ cond (ltb a (p .count)) Cut (Done (p .count)) → r ≡ answerOf a (recoverWork c m)
         unfolding recoverWork storesOf
@@ -155,7 +159,7 @@ module _ (a : ℕ) (c : List ℕ) (m : Map) where
 
         after-is : d ≡ afterOn card a (recoverWork c m) c
         unfolding recoverWork
-        after-is = made-after (recoverWork c m) a 0 none refl (made .did)
+        after-is = made-after (recoverWork c m) a 0 none refl credit short (made .did)
 
         pub cut-recovery : a < p .count → Recovered a c m d (record { answer = Cut; map = m })
         unfolding mapAfter handedOn
@@ -169,19 +173,15 @@ module _ (a : ℕ) (c : List ℕ) (m : Map) where
 
         pub done-recovery : p .count ≤ a → (b : Moved) → BlocksNoted (s .geometry) c (s .geometry .blocks) b → (n : Map) → n ≡ movedMap m (b .gone) (b .come)
             → Recovered a c m d (record { answer = Done (p .count); map = n })
-        unfolding mapAfter handedOn
-        done-recovery l b k n e =
+        unfolding handedOn recoverWork
+        done-recovery l b q n e =
             let said = answer-is (Done (p .count)) (says-done a (p .count) l) in
-            let all : d ≡ madeOn card (flat (recoverRuns (geometryOf c) c)) c =
-            made .did .made ∙ ap (λ (ss : List Store). madeOn card ss c) (take-all a _ (omega (arith, made .counted))) in
             let old : m ≡ mapOf c = same-map m (mapOf c) (sym told ∙ not-false t h) in
-            let own = subst (λ (g : Geometry). BlocksNoted g c (g .blocks) b) (x .own z) k in
+            let own = subst (λ (g : Geometry). BlocksNoted g c (g .blocks) b) (x .own z) q in
+            let left = e ∙ ap (λ (o : Map). movedMap o (b .gone) (b .come)) old ∙ moved-map c m (sym none) b own in
             record {
               answer-is = said;
-              map-is =
-                  e ∙ ap (λ (o : Map). movedMap o (b .gone) (b .come)) old ∙ moved-map c m (sym none) b own
-                  ∙ ap mapOf (sym all ∙ after-is)
-                  ∙ ap (λ (r : Answer). handedOn r m (mapOf (afterOn card a (recoverWork c m) c))) said;
+              map-is = made-map (recoverWork c m) a 0 none refl (Done (p .count)) c m n said left;
               after-is = after-is;
             }
 

@@ -14,12 +14,12 @@ use Rattle.protocol.specs.declared.Entry.{Entry}
 use Rattle.protocol.specs.declared.Geometry.{Geometry}
 use Rattle.protocol.specs.Layout.{goodGeometry, entryPlace}
 use Rattle.protocol.specs.Entry.{entryBytes}
-use Rattle.protocol.specs.Store.{Store, card, entryStore, tailStore, wordStore}
+use Rattle.protocol.specs.Store.{Store, card, flat, single, entryStore, tailStore, wordStore}
 use Rattle.protocol.proofs.Checks.{Limits, limits}
 use Rattle.recovery.specs.declared.Spelled.{Spelled}
 use Rattle.recovery.specs.declared.Step.{Step}
 use Rattle.recovery.specs.declared.Step.the-variants.{Nothing, Undo, Tail}
-use Rattle.recovery.specs.Step.{stepStores, undoes, spelledStores}
+use Rattle.recovery.specs.Step.{stepRuns, stepStores, undoes, spelledStores}
 use Rattle.recovery.proofs.Turns.{undo-fits}
 
 pub front-spelled : (n : ℕ) (xs out bs : List ℕ) → length xs ≡ 16 → length bs ≡ n → n ≤ 16 → out ≡ patch xs 0 bs → part out 0 n ≡ bs
@@ -27,17 +27,17 @@ front-spelled n xs out bs l k h q = ap (λ (z : List ℕ). part z 0 n) q ∙ par
 
 module _ (g : Geometry) (i : ℕ) (u : Step) (bs : List ℕ) where
   pub spelled-nothing : u ≡ Nothing → spelledStores (record { place = 0; size = 0; bytes = bs }) ≡ stepStores g i u
-  unfolding spelledStores stepStores
+  unfolding spelledStores stepStores stepRuns flat single
   spelled-nothing q = sym (ap (stepStores g i) q)
 
   pub spelled-undo : (e : Entry) (at : ℕ) → u ≡ Undo e → at ≡ entryPlace g i → part bs 0 16 ≡ entryBytes e
       → spelledStores (record { place = at; size = 16; bytes = bs }) ≡ stepStores g i u
-  unfolding spelledStores stepStores entryStore
+  unfolding spelledStores stepStores stepRuns flat single entryStore
   spelled-undo e at q p b = (λ t. record { medium = card; place = p t; bytes = b t } ∷ []) ∙ sym (ap (stepStores g i) q)
 
   pub spelled-tail : (v : ℕ) → u ≡ Tail v → part bs 0 8 ≡ bytesBE 8 v
       → spelledStores (record { place = 72; size = 8; bytes = bs }) ≡ stepStores g i u
-  unfolding spelledStores stepStores tailStore wordStore
+  unfolding spelledStores stepStores stepRuns flat single tailStore wordStore
   spelled-tail v q b = (λ t. record { medium = card; place = 72; bytes = b t } ∷ []) ∙ sym (ap (stepStores g i) q)
 
 pub undo-placed : (g : Geometry) (i : ℕ) (u : Step) (e : Entry) → u ≡ Undo e → (undoes u ≡ true → i < g .blocks) → i ≤ g .blocks

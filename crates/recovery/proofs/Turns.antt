@@ -8,7 +8,8 @@ use mathlib.Core.Path.{_≡_, refl, sym, ap, subst, _∙_}
 use mathlib.Core.Logic.{_⊎_, inl, inr}
 use native.Mathlib.Omega.{arith}
 use native.Mathlib.Numerals.{add-one}
-use lib.ListN.{length, take}
+use lib.ListN.{length, length-append}
+use lib.Dec.{ltb}
 use borrow.Author.Tests.{eq-eqb, ne-eqb, lt-ltb, le-ltb, not-true, not-false}
 use mir.Syntax.{w64}
 use mir.Val.{Fits}
@@ -20,22 +21,26 @@ use Rattle.protocol.specs.Below.{eachBelow}
 use Rattle.protocol.specs.Layout.{slotPlace, entryPlace}
 use Rattle.protocol.specs.Entry.{FRESH, unused, entryOf, entryIn, entryAt, inUse, hasLogRole, undone}
 use Rattle.protocol.specs.Ring.{headOf, tailOf, slotAt, inWindow, usedAt, undoableAt}
-use Rattle.protocol.specs.Store.{card, Store, Run, single, flat, entryStore, wordStore, tailStore}
+use Rattle.protocol.specs.Store.{card, Store, Run, single, flat, made, entryStore, wordStore, tailStore}
 use Rattle.protocol.specs.Recover.{sameBytes, ifChanging, undoRuns, recoverRuns}
 use Rattle.protocol.proofs.Below.{around-below, absurd-bool, below-or-above}
 use Rattle.protocol.proofs.Codec.{entry-of-part, length-entry}
 use Rattle.protocol.proofs.Shape.{window-kept, number-kept, in-window-kept}
-use Rattle.protocol.proofs.Stores.{Held, Confined, confined-take, confined-part, flat-append, flat-single}
+use Rattle.protocol.proofs.Stores.{Held, Confined, confined-append, confined-part, some-runs, single-cut, flat-append}
+use Rattle.protocol.proofs.Region.{entry, in-card, place-entry}
 use Rattle.checks.specs.Keys.{undoableEntry}
 use Rattle.ring.specs.declared.Window.{Window}
 use Rattle.ring.specs.Fitted.{Fitted, WindowOf}
 use Rattle.ring.proofs.Laws.{fitted-long, fitted-blocks}
-use Rattle.stores.specs.Did.{Did}
-use Rattle.stores.proofs.Laws.{did-none, did-same, did-each, did-length, length-each}
+use Rattle.stores.specs.declared.Run.{Run as Told}
+use Rattle.stores.specs.declared.Run.the-variants.{Nothing as NoRun, Entry as EntryRun, Word as WordRun}
+use Rattle.stores.specs.Did.{underCredit, Did}
+use Rattle.stores.specs.Told.{told, Placed}
+use Rattle.stores.proofs.Laws.{Ordered, did-none, did-same, did-any, did-each, did-length, length-each, entry-aligned}
 use Rattle.recovery.specs.declared.Progress.{Progress}
 use Rattle.recovery.specs.declared.Step.{Step}
 use Rattle.recovery.specs.declared.Step.the-variants.{Nothing, Undo, Tail}
-use Rattle.recovery.specs.Step.{changedAt, runsAt, stepStores, undoes, UndoneBy, Listed}
+use Rattle.recovery.specs.Step.{changedAt, runsAt, stepRuns, stepRun, stepCount, undoes, UndoneBy, Listed}
 use Rattle.recovery.specs.Went.{Went, sameEntry}
 use Rattle.recovery.proofs.Skipped.{entry-left-out, entry-changing, tail-left-out, tail-changing}
 
@@ -51,23 +56,16 @@ undone-saved e h = rw (ne-eqb (e .previous) FRESH h)
 
 -- ---- one step of the list
 
-single-stores : (rs : List Run) (s : Store) → rs ≡ single s → s ∷ [] ≡ flat rs
-single-stores rs s e = sym (ap flat e ∙ flat-single s)
-
-no-stores : (rs : List Run) → rs ≡ [] → [] ≡ flat rs
-unfolding flat
-no-stores rs e = rw e refl
-
 undoable-is : (g : Geometry) (c : List ℕ) (i : ℕ) (e : Entry) (t : Bool) → e ≡ entryAt g c i → t ≡ undoableEntry g c e → undoableAt g c i ≡ t
 unfolding undoableAt usedAt undoableEntry
 undoable-is g c i e t p q = ap (undoableEntry g c) (sym p) ∙ sym q
 
 module _ (g : Geometry) (c : List ℕ) (i : ℕ) (e : Entry) (t : Bool) (p : e ≡ entryAt g c i) (q : t ≡ undoableEntry g c e) where
   pub step-passed : not t ≡ true → UndoneBy g c i Nothing
-  unfolding undoRuns stepStores undoes changedAt
+  unfolding undoRuns stepRuns undoes changedAt
   step-passed h =
       let n : undoableAt g c i ≡ false = undoable-is g c i e t p q ∙ not-true t h in
-      record { stores = no-stores _ (rw n refl); changes = rw n refl }
+      record { runs = rw n refl; changes = rw n refl }
 
   module _ (f : Fitted g c) (b : Bytes c) (l : i < g .blocks) (h : not t ≡ false) (u : Entry) (k : u ≡ undone e) (s : Bool) (m : s ≡ sameEntry e u) where
     is-undoable : undoableAt g c i ≡ true
@@ -85,16 +83,16 @@ module _ (g : Geometry) (c : List ℕ) (i : ℕ) (e : Entry) (t : Bool) (p : e �
     changed-is b z = rw (is-undoable, same-is, z)
 
     pub step-left-out : s ≡ true → UndoneBy g c i Nothing
-    unfolding stepStores undoes
+    unfolding stepRuns undoes
     step-left-out z =
-        record { stores = no-stores _ (runs-are ∙ entry-left-out g c (f .long) b i l (same-is ∙ z)); changes = changed-is true z }
+        record { runs = sym (runs-are ∙ entry-left-out g c (f .long) b i l (same-is ∙ z)); changes = changed-is true z }
 
     pub step-undone : s ≡ false → UndoneBy g c i (Undo u)
-    unfolding stepStores undoes
+    unfolding stepRuns undoes
     step-undone z =
         record {
-          stores =
-              single-stores _ _
+          runs =
+              sym
               (runs-are
               ∙ entry-changing g c (f .long) b i l (same-is ∙ z)
               ∙ ap (λ (y : Entry). single (entryStore g i y)) (ap undone (sym p) ∙ sym k));
@@ -102,13 +100,13 @@ module _ (g : Geometry) (c : List ℕ) (i : ℕ) (e : Entry) (t : Bool) (p : e �
         }
 
 module _ (g : Geometry) (i : ℕ) (c : List ℕ) (b : Bytes c) (n : 128 ≤ length c) (h t : ℕ) (eh : h ≡ headOf c) (et : t ≡ tailOf c) where
-  pub tail-stands : t ≡ h → stepStores g i Nothing ≡ flat (ifChanging c (tailStore (headOf c)))
-  unfolding stepStores
-  tail-stands e = no-stores _ (tail-left-out c n b (sym et ∙ e ∙ eh))
+  pub tail-stands : t ≡ h → stepRuns g i Nothing ≡ ifChanging c (tailStore (headOf c))
+  unfolding stepRuns
+  tail-stands e = sym (tail-left-out c n b (sym et ∙ e ∙ eh))
 
-  pub tail-moves : (t ≡ h → ⊥) → stepStores g i (Tail h) ≡ flat (ifChanging c (tailStore (headOf c)))
-  unfolding stepStores
-  tail-moves e = single-stores _ _ (tail-changing c n b (λ q. e (et ∙ q ∙ sym eh)) ∙ ap (λ (v : ℕ). single (tailStore v)) (sym eh))
+  pub tail-moves : (t ≡ h → ⊥) → stepRuns g i (Tail h) ≡ ifChanging c (tailStore (headOf c))
+  unfolding stepRuns
+  tail-moves e = sym (tail-changing c n b (λ q. e (et ∙ q ∙ sym eh)) ∙ ap (λ (v : ℕ). single (tailStore v)) (sym eh))
 
 -- the list's place i is an entry's below N, and Tail's from there on
 at-entry : (g : Geometry) (c : List ℕ) (i : ℕ) → i < g .blocks → runsAt g c i ≡ undoRuns g c i
@@ -121,36 +119,68 @@ at-tail g c i l = rw (le-ltb i (g .blocks) l)
 
 module _ (g : Geometry) (c : List ℕ) (i : ℕ) (u : Step) where
   pub listed-entry : i < g .blocks → UndoneBy g c i u → Listed g c i u
-  listed-entry l e = record { stores = e .stores ∙ ap flat (sym (at-entry g c i l)); fits = λ q. l; changes = λ q. e .changes }
+  listed-entry l e = record { runs = e .runs ∙ sym (at-entry g c i l); fits = λ q. l; changes = λ q. e .changes }
 
-  pub listed-tail : g .blocks ≤ i → (stepStores g i u ≡ flat (ifChanging c (tailStore (headOf c)))) × (undoes u ≡ false) → Listed g c i u
+  pub listed-tail : g .blocks ≤ i → (stepRuns g i u ≡ ifChanging c (tailStore (headOf c))) × (undoes u ≡ false) → Listed g c i u
   listed-tail l e =
       record {
-        stores = e .0 ∙ ap flat (sym (at-tail g c i l));
+        runs = e .0 ∙ sym (at-tail g c i l);
         fits = λ q. absurd-bool q (e .1);
         changes = λ q. absurd (omega arith);
       }
 
--- what making a step does, in each of its three forms
-module _ (g : Geometry) (i a : ℕ) (c : List ℕ) (u : Step) where
-  one-went : (s : Store) → stepStores g i u ≡ s ∷ [] → (d : List ℕ) (r : ℕ) → Did card (s ∷ []) a c d r
-      → Went (stepStores g i u) a c d (record { count = 1; left = r }) × (1 ≤ 1)
-  one-went s e d r x = (record { did = did-same (sym e) x; counted = sym (ap length e) }, omega arith)
+-- a step is the run that it is told as, and lies on the card
+pub step-told : (g : Geometry) (i : ℕ) (u : Step) (s c : List ℕ) → told g (stepRun g i u) s c ≡ stepRuns g i u
+unfolding told stepRun stepRuns entryStore tailStore
+step-told g i Nothing s c = refl
+step-told g i (Undo e) s c = refl
+step-told g i (Tail v) s c = refl
 
-  pub nothing-went : u ≡ Nothing → Went (stepStores g i u) a c c (record { count = 0; left = a }) × (0 ≤ 1)
-  unfolding stepStores
-  nothing-went q = (record { did = did-same (sym (ap (stepStores g i) q)) did-none; counted = sym (ap (λ (v : Step). length (stepStores g i v)) q) }, omega arith)
+pub step-placed : (g : Geometry) (i : ℕ) (u : Step) (r : Told) (c : List ℕ) (d s h : ℕ) → Fitted g c → (undoes u ≡ true → i < g .blocks)
+    → r ≡ stepRun g i u → Placed g r (length c) d s h
+unfolding stepRun undoes
+step-placed g i Nothing r c d s h f l e = subst (λ (x : Told). Placed g x (length c) d s h) (sym e) tt
+step-placed g i (Undo x) r c d s h f l e =
+    subst (λ (y : Told). Placed g y (length c) d s h) (sym e) (
+      omega (arith, f .long, in-card g (entry i) (omega arith) (l refl), place-entry g i),
+      entry-aligned g i _ (f .good) refl,
+    )
+step-placed g i (Tail v) r c d s h f l e = subst (λ (y : Told). Placed g y (length c) d s h) (sym e) (omega (arith, fitted-long g c f))
 
-  module _ (d : List ℕ) (r : ℕ) where
-    pub undo-went : (e : Entry) → u ≡ Undo e → Did card (entryStore g i e ∷ []) a c d r
-        → Went (stepStores g i u) a c d (record { count = 1; left = r }) × (1 ≤ 1)
-    unfolding stepStores
-    undo-went e q x = one-went _ (ap (stepStores g i) q) d r x
+counted-step : (g : Geometry) (i : ℕ) (u : Step) → stepCount u ≡ length (flat (stepRuns g i u))
+unfolding stepCount stepRuns flat single
+counted-step g i Nothing = refl
+counted-step g i (Undo e) = refl
+counted-step g i (Tail v) = refl
 
-    pub tail-went : (v : ℕ) → u ≡ Tail v → Did card (wordStore 72 v ∷ []) a c d r
-        → Went (stepStores g i u) a c d (record { count = 1; left = r }) × (1 ≤ 1)
-    unfolding stepStores tailStore
-    tail-went v q x = one-went _ (ap (stepStores g i) q) d r x
+few-step : (u : Step) → stepCount u ≤ 1
+unfolding stepCount
+few-step Nothing = omega arith
+few-step (Undo e) = omega arith
+few-step (Tail v) = omega arith
+
+-- without an allowance nothing is made of it
+pub step-none : (g : Geometry) (i : ℕ) (u : Step) (ch : List ℕ) → made 0 ch (stepRuns g i u) ≡ []
+unfolding stepRuns
+step-none g i Nothing ch = unfold made in refl
+step-none g i (Undo e) ch = single-cut ch (entryStore g i e)
+step-none g i (Tail v) ch = single-cut ch (tailStore v)
+
+-- what making a step does
+pub step-went : (g : Geometry) (i a : ℕ) (c d s ch : List ℕ) (u : Step) (r : Told) (k n : ℕ) → r ≡ stepRun g i u → Did card (told g r s c) ch a c d k
+    → n ≡ stepCount u → Went (stepRuns g i u) a c d (record { count = n; left = k }) × (n ≤ 1)
+step-went g i a c d s ch u r k n e x q = (
+  record {
+    did = did-any (fenced u) (did-same (ap (λ (y : Told). told g y s c) e ∙ step-told g i u s c) x);
+    counted = q ∙ counted-step g i u;
+  },
+  omega (arith, few-step u),
+)
+  where
+    fenced : (u : Step) → Ordered (stepRuns g i u)
+    fenced Nothing = unfold stepRuns in tt
+    fenced (Undo e) = unfold stepRuns in unfold single in (refl, tt)
+    fenced (Tail v) = unfold stepRuns in unfold single in (refl, tt)
 
 pub undo-fits : (g : Geometry) (i : ℕ) (u : Step) (e : Entry) → u ≡ Undo e → (undoes u ≡ true → i < g .blocks) → i < g .blocks
 unfolding undoes
@@ -163,10 +193,6 @@ confined-wide at n k [] h x = tt
 confined-wide at n k (s ∷ ss) h x =
     let y : Held card at n s = x .0 in
     (record { on = y .on; from = y .from; to = omega (arith, y .to) }, confined-wide at n k ss h (x .1))
-
-confined-append : (at n : ℕ) (ss ts : List Store) → Confined card at n ss → Confined card at n ts → Confined card at n (ss ++ ts)
-confined-append at n [] ts x y = y
-confined-append at n (s ∷ ss) ts x y = (x .0, confined-append at n ss ts (x .1) y)
 
 changing-confined : (c : List ℕ) (s : Store) (at n : ℕ) → Held card at n s → Confined card at n (flat (ifChanging c s))
 unfolding ifChanging flat single
@@ -192,7 +218,7 @@ turns-confined g c zero l = tt
 turns-confined g c (suc i) l =
     let own = subst (λ (rs : List Run). Confined card (128 + 8 * g .slots) (16 * suc i) (flat rs)) (sym (at-entry g c i (omega arith))) (turn-confined g c i) in
     subst (Confined card (128 + 8 * g .slots) (16 * suc i)) (sym (flat-append (eachBelow (runsAt g c) i) (runsAt g c i)))
-    (confined-append (128 + 8 * g .slots) (16 * suc i) (flat (eachBelow (runsAt g c) i)) (flat (runsAt g c i))
+    (confined-append card (128 + 8 * g .slots) (16 * suc i) (flat (eachBelow (runsAt g c) i)) (flat (runsAt g c i))
     (confined-wide (128 + 8 * g .slots) (16 * i) (16 * suc i) (flat (eachBelow (runsAt g c) i)) (omega arith) (turns-confined g c i (omega arith)))
     own)
 
@@ -202,14 +228,20 @@ changing-by : (c d : List ℕ) (s : Store) → part c (s .place) (length (s .byt
 unfolding ifChanging
 changing-by c d s e = ap (λ (bs : List ℕ). cond (sameBytes bs (s .bytes)) [] (single s)) e
 
+-- what is made under a credit lies where the runs do
+confined-credit : (at n a : ℕ) (rs : List Run) → Confined card at n (flat rs) → Confined card at n (underCredit a [] rs)
+unfolding underCredit
+confined-credit at n zero rs h = tt
+confined-credit at n (suc a) rs h = some-runs a [] rs card at n h
+
 -- c is the card c₀ after i turns, cut anywhere
 module _ (g : Geometry) (c₀ : List ℕ) (i a : ℕ) (c : List ℕ) (n r : ℕ)
-    (x : Went (flat (eachBelow (runsAt g c₀) i)) a c₀ c (record { count = n; left = r })) (top : i ≤ g .blocks) where
+    (x : Went (eachBelow (runsAt g c₀) i) a c₀ c (record { count = n; left = r })) (top : i ≤ g .blocks) where
   kept : (from k : ℕ) → (128 + 8 * g .slots + 16 * i ≤ from) ⊎ (from + k ≤ 128 + 8 * g .slots) → part c from k ≡ part c₀ from k
   kept from k d =
       ap (λ (z : List ℕ). part z from k) (x .did .made)
-      ∙ confined-part card (128 + 8 * g .slots) (16 * i) (take a (flat (eachBelow (runsAt g c₀) i))) c₀ from k
-      (confined-take card (128 + 8 * g .slots) (16 * i) a (flat (eachBelow (runsAt g c₀) i)) (turns-confined g c₀ i top)) d
+      ∙ confined-part card (128 + 8 * g .slots) (16 * i) (underCredit a [] (eachBelow (runsAt g c₀) i)) c₀ from k
+      (confined-credit (128 + 8 * g .slots) (16 * i) a (eachBelow (runsAt g c₀) i) (turns-confined g c₀ i top)) d
 
   head-stays : headOf c ≡ headOf c₀
   unfolding headOf numberAt
@@ -292,20 +324,20 @@ module _ (g : Geometry) (c₀ : List ℕ) (i a : ℕ) (c : List ℕ) (n r : ℕ)
         go (inr l) = at-tail g c i l ∙ settle-stays ∙ sym (at-tail g c₀ i l)
 
     -- what the list has at this place now it had at the start
-    pub step-stays : (u : Step) → Listed g c i u → stepStores g i u ≡ flat (runsAt g c₀ i)
-    step-stays u k = k .stores ∙ ap flat place-stays
+    pub step-stays : (u : Step) → Listed g c i u → stepRuns g i u ≡ runsAt g c₀ i
+    step-stays u k = k .runs ∙ place-stays
 
-    pub turn-next : (u : Step) → Listed g c i u → (d : List ℕ) (p : Progress) → Went (stepStores g i u) r c d p
-        → Went (flat (eachBelow (runsAt g c₀) (i + 1))) a c₀ d (record { count = n + p .count; left = p .left })
+    pub turn-next : (u : Step) → Listed g c i u → (d : List ℕ) (p : Progress) → Went (stepRuns g i u) r c d p
+        → Went (eachBelow (runsAt g c₀) (i + 1)) a c₀ d (record { count = n + p .count; left = p .left })
     turn-next u k d p y =
         let same = step-stays u k in
         record {
           did = did-each (runsAt g c₀) i (x .did) (did-same same (y .did));
-          counted = (λ t. x .counted t + (y .counted ∙ ap length same) t) ∙ sym (length-each (runsAt g c₀) i);
+          counted = (λ t. x .counted t + (y .counted ∙ ap (λ (rs : List Run). length (flat rs)) same) t) ∙ sym (length-each (runsAt g c₀) i);
         }
 
 -- before the first turn
-pub turn-first : (g : Geometry) (c : List ℕ) (a : ℕ) → Went (flat (eachBelow (runsAt g c) 0)) a c c (record { count = 0; left = a })
+pub turn-first : (g : Geometry) (c : List ℕ) (a : ℕ) → Went (eachBelow (runsAt g c) 0) a c c (record { count = 0; left = a })
 unfolding eachBelow flat
 turn-first g c a = record { did = did-none; counted = refl }
 
@@ -322,19 +354,40 @@ list-whole g c =
     (ap (λ (rs : List Run). rs ++ runsAt g c (g .blocks)) (entries-below g c (g .blocks) (omega arith))
     ∙ ap (λ (rs : List Run). eachBelow (undoRuns g c) (g .blocks) ++ rs) (at-tail g c (g .blocks) (omega arith)))
 
+-- one store a place at most
+few-at : (g : Geometry) (c : List ℕ) (i : ℕ) → length (flat (runsAt g c i)) ≤ 1
+unfolding runsAt undoRuns ifChanging
+few-at g c i = if-few (ltb i (g .blocks)) _ _ (if-few (undoableAt g c i) _ _ (changing (entryStore g i (undone (entryAt g c i)))) none) (changing (tailStore (headOf c)))
+  where
+    if-few : (b : Bool) (rs qs : List Run) → length (flat rs) ≤ 1 → length (flat qs) ≤ 1 → length (flat (cond b rs qs)) ≤ 1
+    if-few true rs qs x y = x
+    if-few false rs qs x y = y
+
+    none : length (flat []) ≤ 1
+    none = unfold flat in omega arith
+
+    changing : (s : Store) → length (flat (cond (sameBytes (part c (s .place) (length (s .bytes))) (s .bytes)) [] (single s))) ≤ 1
+    changing s = if-few (sameBytes (part c (s .place) (length (s .bytes))) (s .bytes)) [] (single s) none (unfold flat in unfold single in omega arith)
+
+few-below : (g : Geometry) (c : List ℕ) (i : ℕ) → length (flat (eachBelow (runsAt g c) i)) ≤ i
+unfolding eachBelow flat
+few-below g c zero = omega arith
+few-below g c (suc i) =
+    omega (arith, few-below g c i, few-at g c i, ap length (flat-append (eachBelow (runsAt g c) i) (runsAt g c i)), length-append (flat (eachBelow (runsAt g c) i)) (flat (runsAt g c i)))
+
+pub list-short : (g : Geometry) (c : List ℕ) → Fitted g c → length (flat (recoverRuns g c)) ≤ 129
+list-short g c f = omega (arith, ap (λ (rs : List Run). length (flat rs)) (list-whole g c), few-below g c (g .blocks + 1), fitted-blocks g c f)
+
 -- what holds of the stores of all places holds of recovery's list
-pub list-ends : (g : Geometry) (c : List ℕ) (i n : ℕ) → n < i → i ≤ n + 1 → n ≡ g .blocks → (P : List Store → Type 0)
-    → P (flat (eachBelow (runsAt g c) i)) → P (flat (recoverRuns g c))
+pub list-ends : (g : Geometry) (c : List ℕ) (i n : ℕ) → n < i → i ≤ n + 1 → n ≡ g .blocks → (P : List Run → Type 0)
+    → P (eachBelow (runsAt g c) i) → P (recoverRuns g c)
 list-ends g c i n h k e P x =
     let q : i ≡ g .blocks + 1 = omega arith in
-    subst (λ (rs : List Run). P (flat rs)) (ap (eachBelow (runsAt g c)) q ∙ list-whole g c) x
+    subst P (ap (eachBelow (runsAt g c)) q ∙ list-whole g c) x
 
 pub turn-last : (g : Geometry) (c : List ℕ) (a : ℕ) (d : List ℕ) (p : Progress) (i n : ℕ) → n < i → i ≤ n + 1 → n ≡ g .blocks
-    → Went (flat (eachBelow (runsAt g c) i)) a c d p → Went (flat (recoverRuns g c)) a c d p
-turn-last g c a d p i n h k e x = list-ends g c i n h k e (λ (ss : List Store). Went ss a c d p) x
-
-pub tail-place-fits : (g : Geometry) (c : List ℕ) → Fitted g c → 72 + 8 ≤ length c
-tail-place-fits g c f = omega (arith, fitted-long g c f)
+    → Went (eachBelow (runsAt g c) i) a c d p → Went (recoverRuns g c) a c d p
+turn-last g c a d p i n h k e x = list-ends g c i n h k e (λ (rs : List Run). Went rs a c d p) x
 
 -- the place and the count stay small
 pub place-fits : (g : Geometry) (c : List ℕ) (i n : ℕ) → Fitted g c → n ≡ g .blocks → i ≤ n → Fits w64 (i + 1)
@@ -345,3 +398,29 @@ step-fits g c at n f h k = omega (arith, fitted-blocks g c f)
 
 pub count-fits : (g : Geometry) (c : List ℕ) (i n m k : ℕ) → Fitted g c → n ≡ g .blocks → i ≤ n → m ≤ i → k ≤ 1 → Fits w64 (m + k)
 count-fits g c i n m k f e l h z = omega (arith, fitted-blocks g c f)
+
+-- ---- a step as a run, and its count: one law for each of its three forms
+
+pub run-nothing : (g : Geometry) (i : ℕ) (u : Step) → u ≡ Nothing → NoRun ≡ stepRun g i u
+unfolding stepRun
+run-nothing g i u e = sym (ap (stepRun g i) e)
+
+pub run-undo : (g : Geometry) (i : ℕ) (u : Step) (e : Entry) (at : ℕ) → u ≡ Undo e → at ≡ entryPlace g i → EntryRun at e ≡ stepRun g i u
+unfolding stepRun
+run-undo g i u e at q p = ap (λ (x : ℕ). EntryRun x e) p ∙ sym (ap (stepRun g i) q)
+
+pub run-tail : (g : Geometry) (i : ℕ) (u : Step) (v : ℕ) → u ≡ Tail v → WordRun 72 v ≡ stepRun g i u
+unfolding stepRun
+run-tail g i u v e = sym (ap (stepRun g i) e)
+
+pub count-nothing : (u : Step) → u ≡ Nothing → 0 ≡ stepCount u
+unfolding stepCount
+count-nothing u e = sym (ap stepCount e)
+
+pub count-undo : (u : Step) (e : Entry) → u ≡ Undo e → 1 ≡ stepCount u
+unfolding stepCount
+count-undo u e q = sym (ap stepCount q)
+
+pub count-tail : (u : Step) (v : ℕ) → u ≡ Tail v → 1 ≡ stepCount u
+unfolding stepCount
+count-tail u v q = sym (ap stepCount q)

@@ -10,10 +10,12 @@ use Rattle.protocol.specs.Entry.{entryAt, undone}
 use Rattle.protocol.specs.Ring.{headOf, undoableAt}
 use Rattle.protocol.specs.Check.{entriesFit}
 use Rattle.protocol.specs.Map.{mapOf, makeRefusal}
-use Rattle.protocol.specs.Store.{Run, Store, flat, entryStore, tailStore}
+use Rattle.protocol.specs.Store.{Run, Store, flat, single, entryStore, tailStore}
 use Rattle.protocol.specs.Recover.{ifChanging, undoRuns}
-use Rattle.protocol.specs.Layout.{geometryOf}
+use Rattle.protocol.specs.Layout.{geometryOf, entryPlace}
 use Rattle.ring.specs.Fitted.{Fitted, WindowOf}
+use Rattle.stores.specs.declared.Run.{Run as Told}
+use Rattle.stores.specs.declared.Run.the-variants.{Nothing as NoRun, Entry as EntryRun, Word as WordRun}
 use Rattle.stores.specs.Did.{cardStore}
 use Rattle.recovery.specs.declared.Spelled.{Spelled}
 use Rattle.recovery.specs.declared.Checked.{Checked}
@@ -25,15 +27,31 @@ use Rattle.recovery.specs.Went.{sameEntry}
 unfoldable pub changedAt : Geometry → List ℕ → ℕ → Bool
 changedAt g c i = undoableAt g c i && not (sameEntry (entryAt g c i) (undone (entryAt g c i)))
 
--- the stores of place i of the list: those of entry i, and at place N Tail's
+-- the runs of place i of the list: those of entry i, and at place N Tail's
 unfoldable pub runsAt : Geometry → List ℕ → ℕ → List Run
 runsAt g c i = cond (ltb i (g .blocks)) (undoRuns g c i) (ifChanging c (tailStore (headOf c)))
 
--- the stores that a step at place i stands for
+-- the runs that a step at place i stands for, each a single store
+unfoldable pub stepRuns : Geometry → ℕ → Step → List Run
+stepRuns g i Nothing = []
+stepRuns g i (Undo e) = single (entryStore g i e)
+stepRuns g i (Tail v) = single (tailStore v)
+
+-- the same as a run of the list that every call tells
+unfoldable pub stepRun : Geometry → ℕ → Step → Told
+stepRun g i Nothing = NoRun
+stepRun g i (Undo e) = EntryRun (entryPlace g i) e
+stepRun g i (Tail v) = WordRun 72 v
+
+-- and its stores
 unfoldable pub stepStores : Geometry → ℕ → Step → List Store
-stepStores g i Nothing = []
-stepStores g i (Undo e) = entryStore g i e ∷ []
-stepStores g i (Tail v) = tailStore v ∷ []
+stepStores g i u = flat (stepRuns g i u)
+
+-- how many they are
+unfoldable pub stepCount : Step → ℕ
+stepCount Nothing = 0
+stepCount (Undo e) = 1
+stepCount (Tail v) = 1
 
 -- the step undoes an entry
 unfoldable pub undoes : Step → Bool
@@ -47,12 +65,12 @@ spelledStores s = cond (eqb (s .size) 0) [] (cardStore (s .place) (part (s .byte
 
 -- the step u is what becomes of entry i of the card c
 pub record UndoneBy (g : Geometry) (c : List ℕ) (i : ℕ) (u : Step) : Type 0 where
-  pub stores : stepStores g i u ≡ flat (undoRuns g c i)
+  pub runs : stepRuns g i u ≡ undoRuns g c i
   pub changes : undoes u ≡ changedAt g c i
 
 -- the step u is what the list of the card c has at place i
 pub record Listed (g : Geometry) (c : List ℕ) (i : ℕ) (u : Step) : Type 0 where
-  pub stores : stepStores g i u ≡ flat (runsAt g c i)
+  pub runs : stepRuns g i u ≡ runsAt g c i
   pub fits : undoes u ≡ true → i < g .blocks
   pub changes : i < g .blocks → undoes u ≡ changedAt g c i
 

@@ -1,6 +1,6 @@
 -- What recovery did, or a part of it, and when it leaves a store out.
 use Prim.Native.Nat.{ℕ}
-use mathlib.Core.List.{List}
+use mathlib.Core.List.{List, []}
 use mathlib.Core.Bool.{Bool, _&&_}
 use mathlib.Core.Path.{_≡_}
 use lib.ListN.{length}
@@ -8,16 +8,16 @@ use lib.Dec.{eqb}
 use Rattle.protocol.specs.declared.Entry.{Entry}
 use Rattle.protocol.specs.declared.Map.{Map}
 use Rattle.protocol.specs.declared.Stored.{Stored}
-use Rattle.protocol.specs.Store.{card, Store, answerOf, afterOn}
+use Rattle.protocol.specs.Store.{card, Run, flat, answerOf, afterOn}
 use Rattle.protocol.specs.Map.{mapAfter}
 use Rattle.protocol.specs.Recover.{recoverWork}
 use Rattle.stores.specs.Did.{Did}
 use Rattle.recovery.specs.declared.Progress.{Progress}
 
--- the stores ss were made on the card as far as the allowance a went, and counted, made or not
-pub record Went (ss : List Store) (a : ℕ) (c d : List ℕ) (p : Progress) : Type 0 where
-  pub did : Did card ss a c d (p .left)
-  pub counted : p .count ≡ length ss
+-- the runs rs were made on the card as far as the credit a went, and their stores counted, made or not
+pub record Went (rs : List Run) (a : ℕ) (c d : List ℕ) (p : Progress) : Type 0 where
+  pub did : Did card rs [] a c d (p .left)
+  pub counted : p .count ≡ length (flat rs)
 
 -- two entries are the same, field by field
 unfoldable pub sameEntry : Entry → Entry → Bool

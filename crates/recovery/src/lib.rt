@@ -7,6 +7,7 @@ use protocol::Map;
 use protocol::Mapped;
 use protocol::Stored;
 use ring::Window;
+use stores::Run;
 ghost use mathlib.Core.Path.{_≡_};
 ghost use mathlib.Core.Bool.{true, false};
 ghost use mathlib.Core.List.{List};
@@ -17,15 +18,15 @@ ghost use Rattle.protocol.specs.Layout.{goodGeometry};
 ghost use Rattle.protocol.specs.Entry.{FRESH as NO_BLOCK, undone, entryAt, entryBytes};
 ghost use Rattle.protocol.specs.Ring.{headOf};
 ghost use Rattle.protocol.specs.Check.{goodEntryAt, entriesFit};
-ghost use Rattle.protocol.specs.Store.{flat, tailStore};
+ghost use Rattle.protocol.specs.Store.{tailStore};
 ghost use Rattle.protocol.specs.Map.{madeMap};
 ghost use Rattle.protocol.specs.Recover.{ifChanging, recoverRuns};
 ghost use Rattle.ring.specs.Fitted.{Fitted, WindowOf};
-ghost use Rattle.recovery.specs.Step.{stepStores, undoes, spelledStores, UndoneBy, Listed, Examined};
+ghost use Rattle.recovery.specs.Step.{stepRuns, stepRun, stepStores, stepCount, undoes, spelledStores, UndoneBy, Listed, Examined};
 ghost use Rattle.recovery.specs.Went.{Went, Recovered, sameEntry};
 ghost use Rattle.recovery.specs.Blocks.{noted, BlocksNoted};
 
-// How far recovery has come: the stores that its list has so far, and what is left of the allowance.
+// How far recovery has come: the stores that its list has so far, and what is left of the credit.
 pub struct Progress {
     pub count: u64,
     pub left: u64,
@@ -84,7 +85,7 @@ fn undo_step(g: Geometry, card: &[u8], w: Window, i: usize) -> Step
 
 // Tail set to Head, which empties the window.
 fn tail_step(g: Geometry, w: Window, i: usize) -> Step
-    ensures { λ r. ⌜ ((c : List ℕ) → Bytes c → 128 ≤ length c → WindowOf g c w → stepStores g i r ≡ flat (ifChanging c (tailStore (headOf c)))) × (undoes r ≡ false) ⌝ }
+    ensures { λ r. ⌜ ((c : List ℕ) → Bytes c → 128 ≤ length c → WindowOf g c w → stepRuns g i r ≡ ifChanging c (tailStore (headOf c))) × (undoes r ≡ false) ⌝ }
 {
     if w.tail == w.head {
         Step::Nothing
@@ -106,24 +107,40 @@ pub fn step_at(g: Geometry, card: &[u8], w: Window, i: usize) -> Step
     }
 }
 
-// Makes the step u of place i, where it is one and the allowance lets it happen.
-pub fn make_step(g: Geometry, card: &mut [u8], i: usize, u: Step, left: u64) -> Progress
-    requires { ⌜ Fitted g (now card) × (undoes u ≡ true → i < g .blocks) ⌝ }
-    ensures { λ r. ⌜ Went (stepStores g i u) left (now (card .entry)) (now (card .exit)) r × (r .count ≤ 1) ⌝ }
+// The step u of place i as a run of a call's list.
+pub fn run_of(g: Geometry, i: usize, u: Step) -> Run
+    requires { ⌜ (goodGeometry g ≡ true) × (undoes u ≡ true → i < g .blocks) ⌝ }
+    ensures { λ r. ⌜ r ≡ stepRun g i u ⌝ }
 {
     match u {
-        Step::Nothing => Progress {
-            count: 0,
-            left: left,
-        },
-        Step::Undo(e) => Progress {
-            count: 1,
-            left: stores::make_entry(card, stores::entry_place(g, i), e, left),
-        },
-        Step::Tail(v) => Progress {
-            count: 1,
-            left: stores::make_word(card, 72, v, left),
-        },
+        Step::Nothing => Run::Nothing,
+        Step::Undo(e) => Run::Entry(stores::entry_place(g, i), e),
+        Step::Tail(v) => Run::Word(72, v),
+    }
+}
+
+fn count_of(u: Step) -> u64
+    ensures { λ r. ⌜ r ≡ stepCount u ⌝ }
+{
+    match u {
+        Step::Nothing => 0,
+        Step::Undo(_) => 1,
+        Step::Tail(_) => 1,
+    }
+}
+
+// Makes the step u of place i, where it is one and the credit lets it happen. It goes to no disk, and has no data and no choice.
+pub fn make_step(g: Geometry, card: &mut [u8], i: usize, u: Step, left: u64) -> Progress
+    requires { ⌜ Fitted g (now card) × (undoes u ≡ true → i < g .blocks) ⌝ }
+    ensures { λ r. ⌜ Went (stepRuns g i u) left (now (card .entry)) (now (card .exit)) r × (r .count ≤ 1) ⌝ }
+{
+    let mut no_disk = [0u8; 1];
+    let no_bytes = [0u8; 1];
+    let run = run_of(g, i, u);
+    let after = stores::make_run(g, card, &mut no_disk, &no_bytes, run, &no_bytes, left);
+    Progress {
+        count: count_of(u),
+        left: after,
     }
 }
 
@@ -219,13 +236,13 @@ pub struct Made {
 
 // Makes the whole list. A store touches its own entry alone, so the others and the window are read as they stood at the start. A block may
 // go from one entry to another, so what is given up and what is taken are kept apart.
-fn make_list(g: Geometry, card: &mut [u8], w: Window, allowance: u64) -> Made
+fn make_list(g: Geometry, card: &mut [u8], w: Window, credit: u64) -> Made
     requires { ⌜ Fitted g (now card) × WindowOf g (now card) w × (entriesFit g (now card) ≡ true) ⌝ }
-    ensures { λ r. ⌜ Went (flat (recoverRuns g (now (card .entry)))) allowance (now (card .entry)) (now (card .exit)) (r .progress) × BlocksNoted g (now (card .entry)) (g .blocks) (r .moved) ⌝ }
+    ensures { λ r. ⌜ Went (recoverRuns g (now (card .entry))) credit (now (card .entry)) (now (card .exit)) (r .progress) × BlocksNoted g (now (card .entry)) (g .blocks) (r .moved) ⌝ }
 {
     let n = g.blocks as usize;
     let mut count: u64 = 0;
-    let mut left = allowance;
+    let mut left = credit;
     let mut moved = Moved {
         gone: Map { low: 0, high: 0 },
         come: Map { low: 0, high: 0 },
@@ -330,7 +347,8 @@ pub fn recover(card: &mut [u8], map: Map, allowance: u64) -> Stored
             map: map,
         };
     }
-    let r = make_list(s.geometry, card, s.window, allowance);
+    let credit = stores::credit(129, allowance);
+    let r = make_list(s.geometry, card, s.window, credit);
     let p = r.progress;
     let count = p.count;
     if allowance < count {

@@ -5,7 +5,7 @@ use mathlib.Core.Bool.{true, false}
 use mathlib.Core.Path.{_≡_, refl, sym, ap, subst, _∙_}
 use native.Mathlib.Omega.{arith}
 use lib.ListN.{length}
-use Rattle.numbers.specs.Bytes.{part}
+use Rattle.numbers.specs.Bytes.{part, bytesBE}
 use Rattle.protocol.specs.declared.Entry.{Entry as Fields}
 use Rattle.protocol.specs.declared.Geometry.{Geometry}
 use Rattle.protocol.specs.Layout.{goodGeometry, blockSize}
@@ -32,6 +32,27 @@ other-stays m o at n r ch (suc a) zs h d = sym (confined-elsewhere m o at n (mad
 did-other : (m o : Medium) (at n : ℕ) (r : Fenced) {ch : List ℕ} {a : ℕ} {xs ys zs : List ℕ} {q : ℕ} → Confined m at n (r .stores) → isOn o m ≡ false
     → Did m (r ∷ []) ch a xs ys q → Did o (r ∷ []) ch a zs zs q
 did-other m o at n r {ch} {a} {xs} {ys} {zs} {q} h d x = record { made = other-stays m o at n r ch a zs h d; left = x .left }
+
+-- the run has nothing for the disk
+abbrev pub OnCard : Run → Type 0
+OnCard Nothing = Unit
+OnCard (Words to from) = Unit
+OnCard (Sectors to from) = ⊥
+OnCard (Entry at e) = Unit
+OnCard (Word at v) = Unit
+
+-- and so it leaves any disk
+pub told-beside : (g : Geometry) (run : Run) (s c ch : List ℕ) (a : ℕ) (xs ys zs : List ℕ) (q : ℕ) → OnCard run → Did card (told g run s c) ch a xs ys q
+    → Did disk (told g run s c) ch a zs zs q
+unfolding told isOn single wordStore
+told-beside g Nothing s c ch a xs ys zs q o x = record { made = did-none {m = disk} {ch = ch} {a = a} {xs = zs} .made; left = x .left }
+told-beside g (Words to from) s c ch a xs ys zs q o x =
+    did-other card disk to (blockSize g / 8 * 8) _ (units-confined card 8 (blockSize g / 8) to (part s from (blockSize g))) refl x
+told-beside g (Sectors to from) s c ch a xs ys zs q o x = absurd o
+told-beside g (Entry at e) s c ch a xs ys zs q o x =
+    did-other card disk at (length (entryBytes e)) _ (record { on = refl; from = omega arith; to = omega arith }, tt) refl x
+told-beside g (Word at v) s c ch a xs ys zs q o x =
+    did-other card disk at (length (bytesBE 8 v)) _ (record { on = refl; from = omega arith; to = omega arith }, tt) refl x
 
 -- ---- each kind
 

@@ -1,6 +1,6 @@
 -- Load's and evict's own refusals in their order, the places that they find, and that these lie on the card. A load finds its places as a
 -- commit of its one block would. Assumes nothing.
-use Prim.Native.Nat.{ℕ, _+_, _%_, _≤_, _<_}
+use Prim.Native.Nat.{ℕ, _%_, _/_, _≤_, _<_}
 use mathlib.Core.List.{List, [], _∷_}
 use mathlib.Core.Bool.{Bool, true, false, not}
 use mathlib.Core.Path.{_≡_, refl, sym, ap, subst, _∙_}
@@ -136,20 +136,20 @@ module _ (g : Geometry) (c : List ℕ) (h : ℕ) (xs : List ℕ) (m : Map) (free
                     };
               }
 
-module _ (c d : List ℕ) (m : Map) (b : ℕ) (xs : List ℕ) (s : Basis) (x : Examined c d m b xs s) where
-  pub roomed-refused : (r : Room) → (s .refusal ≡ 0 → ⊥) → r .refusal ≡ s .refusal → Roomed c d m b r
+module _ (c d : List ℕ) (m : Map) (b : ℕ) (ch : List ℕ) (xs : List ℕ) (s : Basis) (x : Examined c d m b ch xs s) where
+  pub roomed-refused : (r : Room) → (s .refusal ≡ 0 → ⊥) → r .refusal ≡ s .refusal → Roomed c d m b ch r
   unfolding loadRefusal
   roomed-refused r h q =
       record {
-        refusal-is = q ∙ orElse-first (s .refusal) (sharedRefusal c d m b) _ (x .refusal-is) h ∙ sym (own-after c d m b _);
+        refusal-is = q ∙ orElse-first (s .refusal) (sharedRefusal c d m b ch) _ (x .refusal-is) h ∙ sym (own-after c d m b ch _);
         free = λ z. absurd (h (sym q ∙ z));
       }
 
-  pub located-refused : (s .refusal ≡ 0 → ⊥) → Located c d m b (record { refusal = s .refusal; geometry = s .geometry; at = 0 })
+  pub located-refused : (s .refusal ≡ 0 → ⊥) → Located c d m b ch (record { refusal = s .refusal; geometry = s .geometry; at = 0 })
   unfolding evictRefusal
   located-refused h =
       record {
-        refusal-is = orElse-first (s .refusal) (sharedRefusal c d m b) _ (x .refusal-is) h ∙ sym (own-after c d m b _);
+        refusal-is = orElse-first (s .refusal) (sharedRefusal c d m b ch) _ (x .refusal-is) h ∙ sym (own-after c d m b ch _);
         geometry-is = λ z. absurd (h z);
         at = λ z. absurd (h z);
       }
@@ -159,17 +159,17 @@ module _ (c d : List ℕ) (m : Map) (b : ℕ) (xs : List ℕ) (s : Basis) (x : E
     geometry = x .geometry-is z
 
     pub examined-inside : b < s .geometry .disk
-    examined-inside = subst (λ (h : Geometry). b < h .disk) (sym geometry) (shared c d m b (sym (x .refusal-is) ∙ z) .inside)
+    examined-inside = subst (λ (h : Geometry). b < h .disk) (sym geometry) (shared c d m b ch (sym (x .refusal-is) ∙ z) .inside)
 
     pub examined-key : b < NONE
     examined-key = number-key (s .geometry) c (s .head) xs m (s .free) (x .searchable z) b examined-inside
 
-    pub roomed-chosen : (r : Room) → Chosen (s .geometry) c b r → Roomed c d m b r
+    pub roomed-chosen : (r : Room) → Chosen (s .geometry) c b r → Roomed c d m b ch r
     unfolding loadRefusal
     roomed-chosen r y =
         let own : Chosen (geometryOf c) c b r = subst (λ (h : Geometry). Chosen h c b r) geometry y in
         record {
-          refusal-is = orElse-next (r .refusal) (sharedRefusal c d m b) _ (sym z ∙ x .refusal-is) (own .refusal-is) ∙ sym (own-after c d m b _);
+          refusal-is = orElse-next (r .refusal) (sharedRefusal c d m b ch) _ (sym z ∙ x .refusal-is) (own .refusal-is) ∙ sym (own-after c d m b ch _);
           free = own .free;
         }
 
@@ -178,13 +178,13 @@ module _ (c d : List ℕ) (m : Map) (b : ℕ) (xs : List ℕ) (s : Basis) (x : E
       finds : at ≡ findEntry (geometryOf c) c b
       finds = e ∙ ap (λ (h : Geometry). findEntry h c b) geometry
 
-      past-shared : (t : ℕ) (k : Bool) → ltb at (s .geometry .blocks) ≡ k → t ≡ refuse 13 k → t ≡ evictRefusal c d m b
+      past-shared : (t : ℕ) (k : Bool) → ltb at (s .geometry .blocks) ≡ k → t ≡ refuse 13 k → t ≡ evictRefusal c d m b ch
       unfolding evictRefusal cached
       past-shared t k h p =
           let same : k ≡ cached (geometryOf c) c b = sym h ∙ (λ j. ltb (finds j) (geometry j .blocks)) in
-          orElse-next t (sharedRefusal c d m b) _ (sym z ∙ x .refusal-is) (p ∙ ap (refuse 13) same) ∙ sym (own-after c d m b _)
+          orElse-next t (sharedRefusal c d m b ch) _ (sym z ∙ x .refusal-is) (p ∙ ap (refuse 13) same) ∙ sym (own-after c d m b ch _)
 
-      pub located-found : at < s .geometry .blocks → Located c d m b (record { refusal = 0; geometry = s .geometry; at = at })
+      pub located-found : at < s .geometry .blocks → Located c d m b ch (record { refusal = 0; geometry = s .geometry; at = at })
       located-found l =
           record {
             refusal-is = past-shared 0 true (lt-ltb at (s .geometry .blocks) l) (refuse-passed 13 true refl);
@@ -192,7 +192,7 @@ module _ (c d : List ℕ) (m : Map) (b : ℕ) (xs : List ℕ) (s : Basis) (x : E
             at = λ k. finds;
           }
 
-      pub located-missing : s .geometry .blocks ≤ at → Located c d m b (record { refusal = 13; geometry = s .geometry; at = 0 })
+      pub located-missing : s .geometry .blocks ≤ at → Located c d m b ch (record { refusal = 13; geometry = s .geometry; at = 0 })
       located-missing l =
           record {
             refusal-is = past-shared 13 false (le-ltb at (s .geometry .blocks) l) (refuse-failed 13 false refl);
@@ -203,8 +203,8 @@ module _ (c d : List ℕ) (m : Map) (b : ℕ) (xs : List ℕ) (s : Basis) (x : E
 -- ---- what a call that is not refused has found
 
 -- a load's block and entry, both on the card
-pub record Ready (g : Geometry) (c d : List ℕ) (m : Map) (b : ℕ) : Type 0 where
-  pub passed : Shared g c d m b
+pub record Ready (g : Geometry) (c d : List ℕ) (m : Map) (b : ℕ) (ch : List ℕ) : Type 0 where
+  pub passed : Shared g c d m b ch
   pub block : newBlock g c 0 < g .blocks
   pub entry : getD (unusedEntries g c) 0 0 < g .blocks
 
@@ -213,13 +213,13 @@ as-entry : (g : Geometry) (c : List ℕ) (b : ℕ) → cached g c b ≡ false �
 unfolding entryFound uncachedAt numberOf countBelow
 as-entry g c b h = rw h
 
-pub load-ready : (c d : List ℕ) (m : Map) (b : ℕ) → loadRefusal c d m b ≡ 0 → Ready (geometryOf c) c d m b
+pub load-ready : (c d : List ℕ) (m : Map) (b : ℕ) (ch : List ℕ) → loadRefusal c d m b ch ≡ 0 → Ready (geometryOf c) c d m b ch
 unfolding loadRefusal
-load-ready c d m b z =
+load-ready c d m b ch z =
     let g : Geometry = geometryOf c in
-    let (first, own) = orElse-none (sharedRefusal c d m b) _ (sym (own-after c d m b _) ∙ z) in
+    let (first, own) = orElse-none (sharedRefusal c d m b ch) _ (sym (own-after c d m b ch _) ∙ z) in
     let (twelve, fourteen) = orElse-none (refuse 12 (not (cached g c b))) _ own in
-    let s : Shared g c d m b = shared c d m b first in
+    let s : Shared g c d m b ch = shared c d m b ch first in
     let absent : cached g c b ≡ false = not-true _ (refuse-none 12 (not (cached g c b)) (omega arith) twelve) in
     let v = as-commit g c b (s .fitted) (s .whole) (refuse-none 14 (roomFor g c 1) (omega arith) fourteen) in
     record {
@@ -229,17 +229,17 @@ load-ready c d m b z =
     }
 
 -- an evicted block's entry, and its data block, on the card
-pub record Held (g : Geometry) (c d : List ℕ) (m : Map) (b : ℕ) : Type 0 where
-  pub passed : Shared g c d m b
+pub record Held (g : Geometry) (c d : List ℕ) (m : Map) (b : ℕ) (ch : List ℕ) : Type 0 where
+  pub passed : Shared g c d m b ch
   pub at : findEntry g c b < g .blocks
   pub current : currentOf g c b < g .blocks
 
-pub evict-held : (c d : List ℕ) (m : Map) (b : ℕ) → evictRefusal c d m b ≡ 0 → Held (geometryOf c) c d m b
+pub evict-held : (c d : List ℕ) (m : Map) (b : ℕ) (ch : List ℕ) → evictRefusal c d m b ch ≡ 0 → Held (geometryOf c) c d m b ch
 unfolding evictRefusal cached currentOf entriesFit goodEntryAt
-evict-held c d m b z =
+evict-held c d m b ch z =
     let g : Geometry = geometryOf c in
-    let (first, own) = orElse-none (sharedRefusal c d m b) _ (sym (own-after c d m b _) ∙ z) in
-    let s : Shared g c d m b = shared c d m b first in
+    let (first, own) = orElse-none (sharedRefusal c d m b ch) _ (sym (own-after c d m b ch _) ∙ z) in
+    let s : Shared g c d m b ch = shared c d m b ch first in
     let k : Limits g = limits g (s .fitted .good) in
     let here = ltb-true _ _ (refuse-none 13 (cached g c b) (omega arith) own) in
     let good = all-at (goodEntryAt g c) (g .blocks) (findEntry g c b) (s .whole .fits) here in
@@ -251,19 +251,12 @@ evict-held c d m b z =
 
 -- ---- what the calls go on with
 
-pub card-holds : (g : Geometry) (c : List ℕ) (p from : ℕ) → Fitted g c → p < g .blocks → from ≡ blockPlace g p → from + blockSize g ≤ length c
-card-holds g c p from f l e = omega (arith, f .long, in-card g (block p) (omega arith) l, place-block g p)
-
-pub disk-holds : (g : Geometry) (d : List ℕ) (b from : ℕ) → length d ≡ diskLength g → b < g .disk → from ≡ diskPlace g b
-    → from + blockSize g ≤ length d
-disk-holds g d b from n l e = omega (arith, in-disk g b l)
-
-module _ (c d : List ℕ) (m : Map) (b : ℕ) (r : Room) (x : Roomed c d m b r) (z : r .refusal ≡ 0) where
-  ready : Ready (geometryOf c) c d m b
-  ready = load-ready c d m b (sym (x .refusal-is) ∙ z)
+module _ (c d : List ℕ) (m : Map) (b : ℕ) (ch : List ℕ) (r : Room) (x : Roomed c d m b ch r) (z : r .refusal ≡ 0) where
+  ready : Ready (geometryOf c) c d m b ch
+  ready = load-ready c d m b ch (sym (x .refusal-is) ∙ z)
 
   pub load-goes : Fitted (r .geometry) c × (length d ≡ diskLength (r .geometry)) × (b < r .geometry .disk) × (r .block < r .geometry .blocks)
-      × (r .entry < r .geometry .blocks)
+      × (r .entry < r .geometry .blocks) × (blockSize (r .geometry) / 8 ≤ length ch)
   load-goes =
       rw (x .free z .geometry-is) (
         ready .passed .fitted,
@@ -271,11 +264,12 @@ module _ (c d : List ℕ) (m : Map) (b : ℕ) (r : Room) (x : Roomed c d m b r) 
         ready .passed .inside,
         subst (λ (i : ℕ). i < geometryOf c .blocks) (sym (x .free z .block)) (ready .block),
         subst (λ (i : ℕ). i < geometryOf c .blocks) (sym (x .free z .entry)) (ready .entry),
+        ready .passed .wide,
       )
 
-module _ (c d : List ℕ) (m : Map) (b : ℕ) (r : Place) (x : Located c d m b r) (z : r .refusal ≡ 0) where
-  held : Held (geometryOf c) c d m b
-  held = evict-held c d m b (sym (x .refusal-is) ∙ z)
+module _ (c d : List ℕ) (m : Map) (b : ℕ) (ch : List ℕ) (r : Place) (x : Located c d m b ch r) (z : r .refusal ≡ 0) where
+  held : Held (geometryOf c) c d m b ch
+  held = evict-held c d m b ch (sym (x .refusal-is) ∙ z)
 
   q : r .geometry ≡ geometryOf c
   q = x .geometry-is z
@@ -293,7 +287,7 @@ module _ (c d : List ℕ) (m : Map) (b : ℕ) (r : Place) (x : Located c d m b r
 
     pub evict-goes : Fitted (r .geometry) c × (length d ≡ diskLength (r .geometry)) × (b < r .geometry .disk)
         × (r .at ≡ findEntry (r .geometry) c b) × (r .at < r .geometry .blocks) × (e ≡ entryAt (r .geometry) c (r .at))
-        × (e .current < r .geometry .blocks)
+        × (e .current < r .geometry .blocks) × (blockSize (r .geometry) / 8 ≤ length ch)
     evict-goes = (
       evict-place .0,
       held .passed .disk ∙ ap diskLength (sym q),
@@ -302,6 +296,7 @@ module _ (c d : List ℕ) (m : Map) (b : ℕ) (r : Place) (x : Located c d m b r
       evict-place .1,
       h,
       omega (arith, current-is, held .current, ap (λ (y : Geometry). y .blocks) q),
+      subst (λ (y : Geometry). blockSize y / 8 ≤ length ch) (sym q) (held .passed .wide),
     )
 
     -- evict's bit cleared gives the map of the card that its stores leave
@@ -310,4 +305,4 @@ module _ (c d : List ℕ) (m : Map) (b : ℕ) (r : Place) (x : Located c d m b r
         let k : currentOf (geometryOf c) c b < 128 = omega (arith, current-is, evict-few) in
         (λ t. withoutBit (held .passed .map-is t) (current-is t))
         ∙ without-by (isMarked (geometryOf c) c) (currentOf (geometryOf c) c b) k
-        ∙ sym (evict-map c d m b (sym (x .refusal-is) ∙ z))
+        ∙ sym (evict-map c d m b ch (sym (x .refusal-is) ∙ z))

@@ -9,7 +9,7 @@ use Rattle.protocol.specs.declared.Geometry.{Geometry}
 use Rattle.protocol.specs.declared.Map.{Map}
 use Rattle.protocol.specs.Layout.{geometryOf}
 use Rattle.protocol.specs.Ring.{headOf, findEntry, cached}
-use Rattle.protocol.specs.Check.{refuse, _orElse_, cardRefusal}
+use Rattle.protocol.specs.Check.{refuse, _orElse_, cardRefusal, choiceRefusal}
 use Rattle.protocol.specs.Search.{unusedEntries}
 use Rattle.protocol.specs.Map.{mapBy, isMarked, mapRefusal, freeCount}
 use Rattle.protocol.specs.Commit.{newBlock, roomFor}
@@ -19,9 +19,9 @@ use Rattle.transfer.specs.declared.Basis.{Basis}
 use Rattle.transfer.specs.declared.Room.{Room}
 use Rattle.transfer.specs.declared.Place.{Place}
 
--- the refusals that load and evict share: 1 to 7, 15 and 10
-unfoldable pub sharedRefusal : List ℕ → List ℕ → Map → ℕ → ℕ
-sharedRefusal c d m b = pairRefusal c d orElse mapRefusal c m orElse blockRefusal (geometryOf c) b
+-- the refusals that load and evict share: 1 to 7, 15, 17 and 10
+unfoldable pub sharedRefusal : List ℕ → List ℕ → Map → ℕ → List ℕ → ℕ
+sharedRefusal c d m b ch = pairRefusal c d orElse mapRefusal c m orElse choiceRefusal (geometryOf c) ch orElse blockRefusal (geometryOf c) b
 
 -- what a search goes on from: a card that passed its checks, its Head, the index of its numbers, its map and how many blocks are free
 pub record Searchable (g : Geometry) (c : List ℕ) (h : ℕ) (xs : List ℕ) (m : Map) (free : ℕ) : Type 0 where
@@ -32,8 +32,8 @@ pub record Searchable (g : Geometry) (c : List ℕ) (h : ℕ) (xs : List ℕ) (m
   pub free-is : free ≡ freeCount m
 
 -- what they found, and where none is given what a search goes on from
-pub record Examined (c d : List ℕ) (m : Map) (b : ℕ) (xs : List ℕ) (r : Basis) : Type 0 where
-  pub refusal-is : r .refusal ≡ sharedRefusal c d m b
+pub record Examined (c d : List ℕ) (m : Map) (b : ℕ) (ch : List ℕ) (xs : List ℕ) (r : Basis) : Type 0 where
+  pub refusal-is : r .refusal ≡ sharedRefusal c d m b ch
   pub geometry-is : r .refusal ≡ 0 → r .geometry ≡ geometryOf c
   pub searchable : r .refusal ≡ 0 → Searchable (r .geometry) c (r .head) xs m (r .free)
 
@@ -50,12 +50,12 @@ pub record Chosen (g : Geometry) (c : List ℕ) (b : ℕ) (r : Room) : Type 0 wh
   pub free : r .refusal ≡ 0 → Free g c r
 
 -- all of load's refusals, and where none is given its room
-pub record Roomed (c d : List ℕ) (m : Map) (b : ℕ) (r : Room) : Type 0 where
-  pub refusal-is : r .refusal ≡ loadRefusal c d m b
+pub record Roomed (c d : List ℕ) (m : Map) (b : ℕ) (ch : List ℕ) (r : Room) : Type 0 where
+  pub refusal-is : r .refusal ≡ loadRefusal c d m b ch
   pub free : r .refusal ≡ 0 → Free (geometryOf c) c r
 
 -- all of evict's refusals, and where none is given the place of the entry for b
-pub record Located (c d : List ℕ) (m : Map) (b : ℕ) (r : Place) : Type 0 where
-  pub refusal-is : r .refusal ≡ evictRefusal c d m b
+pub record Located (c d : List ℕ) (m : Map) (b : ℕ) (ch : List ℕ) (r : Place) : Type 0 where
+  pub refusal-is : r .refusal ≡ evictRefusal c d m b ch
   pub geometry-is : r .refusal ≡ 0 → r .geometry ≡ geometryOf c
   pub at : r .refusal ≡ 0 → r .at ≡ findEntry (geometryOf c) c b

@@ -1,29 +1,45 @@
--- What load and evict leave on both media, answer and hand on.
-use Prim.Native.Nat.{ℕ}
+-- What load and evict have at each place of their lists, and what they leave on both media, answer and hand on.
+use Prim.Native.Nat.{ℕ, _+_, _/_}
 use mathlib.Core.List.{List, _∷_}
 use mathlib.Core.Bool.{cond}
 use mathlib.Core.Path.{_≡_}
-use lib.ListN.{length, take}
-use lib.Dec.{ltb}
+use lib.ListN.{length}
+use lib.Dec.{eqb, ltb}
 use Rattle.protocol.specs.declared.Answer.{Answer}
 use Rattle.protocol.specs.declared.Answer.the-variants.{Done, Cut}
+use Rattle.protocol.specs.declared.Entry.{Entry as Fields}
 use Rattle.protocol.specs.declared.Geometry.{Geometry}
 use Rattle.protocol.specs.declared.Map.{Map}
 use Rattle.protocol.specs.declared.Stored.{Stored}
-use Rattle.protocol.specs.Layout.{diskBlock}
-use Rattle.protocol.specs.Entry.{FRESH, entryOf}
-use Rattle.protocol.specs.Store.{Medium, Store, Run, Work, madeOn, words, entryStore, single, answerOf, afterOn}
+use Rattle.protocol.specs.Layout.{blockSize, entryPlace, blockPlace, diskPlace, diskBlock}
+use Rattle.protocol.specs.Entry.{FRESH, entryOf, unused, isModified}
+use Rattle.protocol.specs.Store.{Medium, Run as Fenced, Work, madeOn, flat, made, words, entryStore, single, answerOf, afterOn}
 use Rattle.protocol.specs.Map.{mapAfter}
+use Rattle.stores.specs.declared.Run.{Run}
+use Rattle.stores.specs.declared.Run.the-variants.{Nothing, Words, Sectors, Entry}
+
+-- a load's two places: the words of disk block b into data block p, then its entry at place i
+unfoldable pub loadRun : Geometry → ℕ → ℕ → ℕ → ℕ → Run
+loadRun g b p i at = cond (eqb at 0) (Words (blockPlace g p) (diskPlace g b)) (Entry (entryPlace g i) (entryOf 0x80 b FRESH p))
+
+-- an evict's two places: the sectors of disk block b where its entry e is modified, then zeros over the entry at place i
+unfoldable pub evictRun : Geometry → ℕ → ℕ → Fields → ℕ → Run
+evictRun g b i e at =
+    cond (eqb at 0) (cond (isModified e) (Sectors (diskPlace g b) (blockPlace g (e .current))) Nothing) (Entry (entryPlace g i) unused)
+
+-- "B/512 sectors ascending, then zeros the entry. Of a clean block it only zeros the entry"
+unfoldable pub evictCount : Geometry → Fields → ℕ
+evictCount g e = cond (isModified e) (blockSize g / 512 + 1) 1
 
 -- the runs of a load of disk block b into data block p, with its entry at place i: "80, number, FRESH, current"
-abbrev pub loadedRuns : Geometry → List ℕ → ℕ → ℕ → ℕ → List Run
+abbrev pub loadedRuns : Geometry → List ℕ → ℕ → ℕ → ℕ → List Fenced
 loadedRuns g d b p i = words g p (diskBlock g d b) ∷ single (entryStore g i (entryOf 0x80 b FRESH p))
 
--- of the stores ss as many were made as the allowance a gave, on the card c and the disk d, and answered
-pub record Moved (ss : List Store) (a : ℕ) (c c′ d d′ : List ℕ) (r : Answer) : Type 0 where
-  pub card : c′ ≡ madeOn Medium.card (take a ss) c
-  pub disk : d′ ≡ madeOn Medium.disk (take a ss) d
-  pub answered : r ≡ cond (ltb a (length ss)) Cut (Done (length ss))
+-- the runs rs were made under the allowance a and the choice ch, on the card c and the disk d, and answered
+pub record Moved (rs : List Fenced) (ch : List ℕ) (a : ℕ) (c c′ d d′ : List ℕ) (r : Answer) : Type 0 where
+  pub card : c′ ≡ madeOn Medium.card (made a ch rs) c
+  pub disk : d′ ≡ madeOn Medium.disk (made a ch rs) d
+  pub answered : r ≡ cond (ltb a (length (flat rs))) Cut (Done (length (flat rs)))
 
 -- a call with the work w and the map m is through, under the allowance a: answered, the map handed on, and the card c and the disk d left so
 pub record Finished (w : Work) (a : ℕ) (m : Map) (c c′ d d′ : List ℕ) (r : Stored) : Type 0 where

@@ -5,18 +5,19 @@ use protocol::FRESH;
 use protocol::Geometry;
 use protocol::Map;
 use protocol::Stored;
+use stores::Run;
 ghost use mathlib.Core.Path.{_≡_};
-ghost use Prim.Native.Nat.{_<_};
+ghost use mathlib.Core.Bool.{true};
+ghost use Prim.Native.Nat.{_/_, _≤_, _<_};
 ghost use lib.ListN.{length};
-ghost use Rattle.protocol.specs.Layout.{diskLength};
+ghost use Rattle.protocol.specs.Layout.{goodGeometry, blockSize, diskLength};
 ghost use Rattle.protocol.specs.Entry.{entryAt};
 ghost use Rattle.protocol.specs.Ring.{findEntry};
-ghost use Rattle.protocol.specs.Store.{flat};
 ghost use Rattle.protocol.specs.Load.{loadWork, evictRuns, evictWork};
 ghost use Rattle.ring.specs.Fitted.{Fitted};
 ghost use Rattle.checks.specs.Chain.{Blank};
 ghost use Rattle.transfer.specs.Examined.{Searchable, Examined, Chosen, Roomed, Located};
-ghost use Rattle.transfer.specs.Moved.{loadedRuns, Moved, Finished};
+ghost use Rattle.transfer.specs.Moved.{loadRun, evictRun, evictCount, loadedRuns, Moved, Finished};
 
 // What load and evict go on from: their refusal, and where there is none the card's geometry, its Head and how many data blocks are free.
 pub struct Basis {
@@ -37,10 +38,17 @@ fn stopped(g: Geometry, refusal: u8) -> Basis
     }
 }
 
-// 1 to 7, 15 and 10, and the index of the card's numbers, so that no search decodes the entries again.
-fn examine(card: &[u8], disk: &[u8], map: Map, b: u64, index: &mut [u8; 640]) -> Basis
+// 1 to 7, 15, 17 and 10, and the index of the card's numbers, so that no search decodes the entries again.
+fn examine(
+    card: &[u8],
+    disk: &[u8],
+    map: Map,
+    b: u64,
+    choice: &[u8],
+    index: &mut [u8; 640],
+) -> Basis
     requires { ⌜ Blank (now index) ⌝ }
-    ensures { λ r. ⌜ Examined (now (card .entry)) (now (disk .entry)) map b (now (index .exit)) r ⌝ }
+    ensures { λ r. ⌜ Examined (now (card .entry)) (now (disk .entry)) map b (now (choice .entry)) (now (index .exit)) r ⌝ }
 {
     let f = ring::fit_of(card);
     let g = f.geometry;
@@ -57,6 +65,10 @@ fn examine(card: &[u8], disk: &[u8], map: Map, b: u64, index: &mut [u8; 640]) ->
     }
     if !freemap::same(map, v.map) {
         return stopped(g, 15);
+    }
+    let room = plan::choice_room(choice);
+    if (room as u64) < codec::block_size(g) / 8 {
+        return stopped(g, 17);
     }
     if g.disk <= b {
         return stopped(g, 10);
@@ -116,18 +128,37 @@ fn choose(x: Basis, card: &[u8], map: Map, index: &[u8; 640], b: u64) -> Room
     }
 }
 
-fn find_room(card: &[u8], disk: &[u8], map: Map, b: u64) -> Room
-    ensures { λ r. ⌜ Roomed (now (card .entry)) (now (disk .entry)) map b r ⌝ }
+fn find_room(card: &[u8], disk: &[u8], map: Map, b: u64, choice: &[u8]) -> Room
+    ensures { λ r. ⌜ Roomed (now (card .entry)) (now (disk .entry)) map b (now (choice .entry)) r ⌝ }
 {
     let mut index = [0u8; 640];
-    let x = examine(card, disk, map, b, &mut index);
+    let x = examine(card, disk, map, b, choice, &mut index);
     if x.refusal != 0 {
         return no_room(x.geometry, x.refusal);
     }
     choose(x, card, map, &index, b)
 }
 
-// The words of the block, then its entry: a cut between them leaves the data block free.
+// What a load's list has at its two places: the words of disk block b into data block `block`, then the entry for it at place `entry`, clean. A cut
+// between them leaves the data block free.
+pub fn load_run(g: Geometry, b: u64, block: u8, entry: u8, at: usize) -> Run
+    requires { ⌜ (goodGeometry g ≡ true) × (b < g .disk) × (block < g .blocks) × (entry < g .blocks) ⌝ }
+    ensures { λ r. ⌜ r ≡ loadRun g b block entry at ⌝ }
+{
+    if at == 0 {
+        let to = stores::block_place(g, block as u64);
+        return Run::Words(to, stores::disk_place(g, b));
+    }
+    let e = Entry {
+        flags: 0x80,
+        number: b,
+        previous: FRESH,
+        current: block as u32,
+    };
+    Run::Entry(stores::entry_place(g, entry as usize), e)
+}
+
+// Makes a load's list. No run of it goes to the disk.
 fn make_load(
     g: Geometry,
     card: &mut [u8],
@@ -135,28 +166,34 @@ fn make_load(
     b: u64,
     block: u8,
     entry: u8,
+    choice: &[u8],
     allowance: u64,
 ) -> Answer
-    requires { ⌜ Fitted g (now card) × (length (now disk) ≡ diskLength g) × (b < g .disk) × (block < g .blocks) × (entry < g .blocks) ⌝ }
-    ensures { λ r. ⌜ Moved (flat (loadedRuns g (now (disk .entry)) b block entry)) allowance (now (card .entry)) (now (card .exit)) (now (disk .entry)) (now (disk .entry)) r ⌝ }
+    requires { ⌜ Fitted g (now card) × (length (now disk) ≡ diskLength g) × (b < g .disk) × (block < g .blocks) × (entry < g .blocks) × (blockSize g / 8 ≤ length (now choice)) ⌝ }
+    ensures { λ r. ⌜ Moved (loadedRuns g (now (disk .entry)) b block entry) (now (choice .entry)) allowance (now (card .entry)) (now (card .exit)) (now (disk .entry)) (now (disk .entry)) r ⌝ }
 {
-    let from = stores::disk_place(g, b);
-    let left = stores::make_words(g, card, block as u64, disk, from, allowance);
-    let e = Entry {
-        flags: 0x80,
-        number: b,
-        previous: FRESH,
-        current: block as u32,
-    };
-    stores::make_entry_at(g, card, entry as usize, e, left);
-    stores::answer(codec::block_size(g) / 8 + 1, allowance)
+    let mut no_disk = [0u8; 1];
+    let count = codec::block_size(g) / 8 + 1;
+    let words = load_run(g, b, block, entry, 0);
+    let credit = stores::credit(count, allowance);
+    let left = stores::make_run(g, card, &mut no_disk, disk, words, choice, credit);
+    let last = load_run(g, b, block, entry, 1);
+    stores::make_run(g, card, &mut no_disk, disk, last, choice, left);
+    stores::answer(count, allowance)
 }
 
 // Copies an uncached disk block into the first free data block, then stores the first unused entry for it, clean.
-pub fn load(card: &mut [u8], disk: &[u8], map: Map, b: u64, allowance: u64) -> Stored
-    ensures { λ r. ⌜ Finished (loadWork (now (card .entry)) (now (disk .entry)) map b) allowance map (now (card .entry)) (now (card .exit)) (now (disk .entry)) (now (disk .exit)) r ⌝ }
+pub fn load(
+    card: &mut [u8],
+    disk: &[u8],
+    map: Map,
+    b: u64,
+    choice: &[u8],
+    allowance: u64,
+) -> Stored
+    ensures { λ r. ⌜ Finished (loadWork (now (card .entry)) (now (disk .entry)) map b (now (choice .entry))) allowance map (now (card .entry)) (now (card .exit)) (now (disk .entry)) (now (disk .exit)) r ⌝ }
 {
-    let room = find_room(card, disk, map, b);
+    let room = find_room(card, disk, map, b, choice);
     if room.refusal != 0 {
         return Stored {
             answer: Answer::Refused(room.refusal),
@@ -164,7 +201,16 @@ pub fn load(card: &mut [u8], disk: &[u8], map: Map, b: u64, allowance: u64) -> S
         };
     }
     let g = room.geometry;
-    let answer = make_load(g, card, disk, b, room.block, room.entry, allowance);
+    let answer = make_load(
+        g,
+        card,
+        disk,
+        b,
+        room.block,
+        room.entry,
+        choice,
+        allowance,
+    );
     stores::hand_on(answer, map, room.map)
 }
 
@@ -176,11 +222,11 @@ pub struct Place {
 }
 
 // All of evict's refusals, 13 the last of them, and where none is given the place of the entry for b.
-fn find_cached(card: &[u8], disk: &[u8], map: Map, b: u64) -> Place
-    ensures { λ r. ⌜ Located (now (card .entry)) (now (disk .entry)) map b r ⌝ }
+fn find_cached(card: &[u8], disk: &[u8], map: Map, b: u64, choice: &[u8]) -> Place
+    ensures { λ r. ⌜ Located (now (card .entry)) (now (disk .entry)) map b (now (choice .entry)) r ⌝ }
 {
     let mut index = [0u8; 640];
-    let x = examine(card, disk, map, b, &mut index);
+    let x = examine(card, disk, map, b, choice, &mut index);
     let g = x.geometry;
     if x.refusal != 0 {
         return Place {
@@ -205,7 +251,41 @@ fn find_cached(card: &[u8], disk: &[u8], map: Map, b: u64) -> Place
     }
 }
 
-// A modified block's sectors, then zeros over its entry e: a cut between them leaves the block cached. A clean block is on the disk already.
+// What an evict's list has at its two places: a modified block's sectors, of a clean block nothing, then zeros over its entry e at place `entry`. A
+// cut between them leaves the block cached.
+pub fn evict_run(g: Geometry, b: u64, entry: usize, e: Entry, at: usize) -> Run
+    requires { ⌜ (goodGeometry g ≡ true) × (b < g .disk) × (entry < g .blocks) × (e .current < g .blocks) ⌝ }
+    ensures { λ r. ⌜ r ≡ evictRun g b entry e at ⌝ }
+{
+    if at != 0 {
+        let unused = Entry {
+            flags: 0,
+            number: 0,
+            previous: 0,
+            current: 0,
+        };
+        return Run::Entry(stores::entry_place(g, entry), unused);
+    }
+    if !codec::is_modified(e) {
+        return Run::Nothing;
+    }
+    let from = stores::block_place(g, e.current as u64);
+    Run::Sectors(stores::disk_place(g, b), from)
+}
+
+// The count of the stores of an evict of the block whose entry is e.
+fn evict_count(g: Geometry, e: Entry) -> u64
+    requires { ⌜ goodGeometry g ≡ true ⌝ }
+    ensures { λ r. ⌜ r ≡ evictCount g e ⌝ }
+{
+    if codec::is_modified(e) {
+        codec::block_size(g) / 512 + 1
+    } else {
+        1
+    }
+}
+
+// Makes an evict's list. No run of it takes its bytes from elsewhere than the card.
 fn make_evict(
     g: Geometry,
     card: &mut [u8],
@@ -213,32 +293,34 @@ fn make_evict(
     b: u64,
     at: usize,
     e: Entry,
+    choice: &[u8],
     allowance: u64,
 ) -> Answer
-    requires { ⌜ Fitted g (now card) × (length (now disk) ≡ diskLength g) × (b < g .disk) × (at ≡ findEntry g (now card) b) × (at < g .blocks) × (e ≡ entryAt g (now card) at) × (e .current < g .blocks) ⌝ }
-    ensures { λ r. ⌜ Moved (flat (evictRuns g (now (card .entry)) b)) allowance (now (card .entry)) (now (card .exit)) (now (disk .entry)) (now (disk .exit)) r ⌝ }
+    requires { ⌜ Fitted g (now card) × (length (now disk) ≡ diskLength g) × (b < g .disk) × (at ≡ findEntry g (now card) b) × (at < g .blocks) × (e ≡ entryAt g (now card) at) × (e .current < g .blocks) × (blockSize g / 8 ≤ length (now choice)) ⌝ }
+    ensures { λ r. ⌜ Moved (evictRuns g (now (card .entry)) b) (now (choice .entry)) allowance (now (card .entry)) (now (card .exit)) (now (disk .entry)) (now (disk .exit)) r ⌝ }
 {
-    let unused = Entry {
-        flags: 0,
-        number: 0,
-        previous: 0,
-        current: 0,
-    };
-    if !codec::is_modified(e) {
-        stores::make_entry_at(g, card, at, unused, allowance);
-        return stores::answer(1, allowance);
-    }
-    let from = stores::block_place(g, e.current as u64);
-    let left = stores::make_sectors(g, disk, b, card, from, allowance);
-    stores::make_entry_at(g, card, at, unused, left);
-    stores::answer(codec::block_size(g) / 512 + 1, allowance)
+    let no_data = [0u8; 1];
+    let count = evict_count(g, e);
+    let sectors = evict_run(g, b, at, e, 0);
+    let credit = stores::credit(count, allowance);
+    let left = stores::make_run(g, card, disk, &no_data, sectors, choice, credit);
+    let last = evict_run(g, b, at, e, 1);
+    stores::make_run(g, card, disk, &no_data, last, choice, left);
+    stores::answer(count, allowance)
 }
 
 // Takes a cached block off the card, its bytes saved on the disk.
-pub fn evict(card: &mut [u8], disk: &mut [u8], map: Map, b: u64, allowance: u64) -> Stored
-    ensures { λ r. ⌜ Finished (evictWork (now (card .entry)) (now (disk .entry)) map b) allowance map (now (card .entry)) (now (card .exit)) (now (disk .entry)) (now (disk .exit)) r ⌝ }
+pub fn evict(
+    card: &mut [u8],
+    disk: &mut [u8],
+    map: Map,
+    b: u64,
+    choice: &[u8],
+    allowance: u64,
+) -> Stored
+    ensures { λ r. ⌜ Finished (evictWork (now (card .entry)) (now (disk .entry)) map b (now (choice .entry))) allowance map (now (card .entry)) (now (card .exit)) (now (disk .entry)) (now (disk .exit)) r ⌝ }
 {
-    let place = find_cached(card, disk, map, b);
+    let place = find_cached(card, disk, map, b, choice);
     if place.refusal != 0 {
         return Stored {
             answer: Answer::Refused(place.refusal),
@@ -248,6 +330,6 @@ pub fn evict(card: &mut [u8], disk: &mut [u8], map: Map, b: u64, allowance: u64)
     let g = place.geometry;
     let e = checks::entry_of(g, card, place.at);
     let freed = freemap::without(map, e.current as usize);
-    let answer = make_evict(g, card, disk, b, place.at, e, allowance);
+    let answer = make_evict(g, card, disk, b, place.at, e, choice, allowance);
     stores::hand_on(answer, map, freed)
 }

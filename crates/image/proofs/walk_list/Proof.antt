@@ -3,7 +3,6 @@
 use Prim.Native.Nat.{_+_, _≤_, _-_}
 use borrow.Author.Needs.{needs}
 use Rattle.protocol.specs.Below.{eachBelow}
-use Rattle.protocol.specs.Store.{flat}
 use Rattle.recovery.specs.Step.{runsAt}
 use Rattle.recovery.proofs.Turns.{place-fits}
 use Rattle.image.specs.Walked.{Walked}
@@ -12,7 +11,7 @@ use Rattle.image.proofs.walk_list.Statement.{statement}
 use Rattle.image.proofs.walk_list.Tie as tie
 
 abbrev Inv-loop : tie.InvT-loop
-Inv-loop fd g card₀ w allowance n so₀ i₀ card so i = (i ≤ n + 1) × Walked (flat (eachBelow (runsAt g card₀) i)) allowance card₀ card so × (so .count ≤ i)
+Inv-loop fd g card₀ w allowance n so₀ i₀ card so i = (i ≤ n + 1) × Walked (eachBelow (runsAt g card₀) i) allowance card₀ card so × (so .count ≤ i)
 
 abbrev μ-loop : tie.MeasureT-loop
 μ-loop fd g card₀ w allowance n so₀ i₀ card so i = n + 1 - i

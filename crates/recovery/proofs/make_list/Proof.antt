@@ -3,7 +3,6 @@
 use Prim.Native.Nat.{_+_, _≤_, _-_, min}
 use borrow.Author.Needs.{needs}
 use Rattle.protocol.specs.Below.{eachBelow}
-use Rattle.protocol.specs.Store.{flat}
 use Rattle.stores.proofs.Laws.{did-length}
 use Rattle.recovery.specs.Step.{runsAt}
 use Rattle.recovery.specs.Went.{Went}
@@ -14,14 +13,14 @@ use Rattle.recovery.proofs.make_list.Statement.{statement}
 use Rattle.recovery.proofs.make_list.Tie as tie
 
 abbrev Inv-loop : tie.InvT-loop
-Inv-loop g card₀ w allowance n count₀ left₀ moved₀ i₀ card count left moved i =
+Inv-loop g card₀ w credit n count₀ left₀ moved₀ i₀ card count left moved i =
     (i ≤ n + 1)
-    × Went (flat (eachBelow (runsAt g card₀) i)) allowance card₀ card (record { count = count; left = left })
+    × Went (eachBelow (runsAt g card₀) i) credit card₀ card (record { count = count; left = left })
     × (count ≤ i)
     × BlocksNoted g card₀ (min i (g .blocks)) moved
 
 abbrev μ-loop : tie.MeasureT-loop
-μ-loop g card₀ w allowance n count₀ left₀ moved₀ i₀ card count left moved i = n + 1 - i
+μ-loop g card₀ w credit n count₀ left₀ moved₀ i₀ card count left moved i = n + 1 - i
 
 loop-holds : tie.Need-loop-holds Inv-loop μ-loop
 loop-holds c = search (turn-first, noted-none, needs)

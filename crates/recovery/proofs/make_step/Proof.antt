@@ -1,50 +1,47 @@
--- `make_step` makes what the step stands for: one law for each of its three forms.
+-- `make_step` makes the run that the step stands for, and counts it.
+use Rattle.recovery.proofs.Turns.{step-placed, step-went}
+use denote.Ref.{now}
 use borrow.Author.Needs.{needs}
-use Rattle.recovery.proofs.Turns.{nothing-went, undo-went, tail-went, undo-fits, tail-place-fits}
 use Rattle.recovery.proofs.make_step.Statement.{statement}
 use Rattle.recovery.proofs.make_step.Tie as tie
 
-enum-told : tie.Need-enum-told
-enum-told c = search needs
+run-of-requires : tie.Need-run-of-requires
+run-of-requires c κs = search needs
 
-enum-known-u : tie.Need-enum-known-u
-enum-known-u c = search needs
+slice-aggregate-make-run : tie.Need-slice-aggregate-make-run
+slice-aggregate-make-run c = search needs
 
-make-entry-at-requires : tie.Need-make-entry-at-requires
-make-entry-at-requires c κs = search (undo-fits, needs)
+slice-aggregate-make-run-2 : tie.Need-slice-aggregate-make-run-2
+slice-aggregate-make-run-2 c = search needs
 
-enum-known-u-2 : tie.Need-enum-known-u-2
-enum-known-u-2 c = search needs
+slice-aggregate-make-run-3 : tie.Need-slice-aggregate-make-run-3
+slice-aggregate-make-run-3 c = search needs
 
-make-word-requires : tie.Need-make-word-requires
-make-word-requires c κs = search (tail-place-fits, needs)
+make-run-requires : tie.Need-make-run-requires
+make-run-requires c κs =
+    let s = c .before .before .before .before .before .before in
+    (s .pre .0 .good, step-placed _ _ _ _ (now (s .args .card)) _ _ _ (s .pre .0) (s .pre .1) (c .before .before .before .before .run-of .ensures))
 
-returns : tie.Need-returns
-returns c = nothing-went _ _ _ _ _ (c .enum-told .given .1)
+count-of-requires : tie.Need-count-of-requires
+count-of-requires c κs = search needs
 
 same-length : tie.Need-same-length
 same-length c = search needs
 
-returns-2 : tie.Need-returns-2
-returns-2 c = let m = c .before .before in undo-went _ _ _ _ _ _ _ _ (m .before .before .before .u .given .1) (m .make-entry-at .ensures)
-
-same-length-2 : tie.Need-same-length-2
-same-length-2 c = search needs
-
-returns-3 : tie.Need-returns-3
-returns-3 c = let m = c .before .before in tail-went _ _ _ _ _ _ _ _ (m .before .before .before .u2 .given .1) (m .make-word .ensures)
+returns : tie.Need-returns
+returns c =
+    let m = c .before .before .before .before in
+    step-went _ _ _ _ _ _ _ _ _ _ _ (m .before .before .before .before .before .run-of .ensures) (m .make-run .ensures .0) (c .count-of .ensures)
 
 pub make-step-spec : {M : Type 1} → statement M
 make-step-spec =
     tie.close
     (tie.spec
-    enum-told
-    enum-known-u
-    make-entry-at-requires
-    enum-known-u-2
-    make-word-requires
-    returns
+    run-of-requires
+    slice-aggregate-make-run
+    slice-aggregate-make-run-2
+    slice-aggregate-make-run-3
+    make-run-requires
+    count-of-requires
     same-length
-    returns-2
-    same-length-2
-    returns-3)
+    returns)

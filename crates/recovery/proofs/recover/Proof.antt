@@ -22,6 +22,9 @@ same-length-2 c = search needs
 returns-2 : tie.Need-returns-2
 returns-2 c = search (refused-map, needs)
 
+credit-requires : tie.Need-credit-requires
+credit-requires c κs = search needs
+
 make-list-requires : tie.Need-make-list-requires
 make-list-requires c κs = search (examined-fitted, examined-window, examined-entries, needs)
 
@@ -31,8 +34,10 @@ same-length-3 c = search needs
 returns-3 : tie.Need-returns-3
 returns-3 c =
     let m = c .before .before .before .before in
-    let e = m .before .before .before .before in
-    cut-recovery _ _ _ _ (e .before .before .examine .ensures) (e .if1 .left) _ (m .before .before .before .same .ensures) (m .before .before .if2 .left)
+    let f = m .before .before in
+    let t = f .before in
+    let e = t .before .before in
+    cut-recovery _ _ _ _ (e .before .before .examine .ensures) (e .if1 .left) _ (t .before .same .ensures) (t .if2 .left) _ (f .credit .ensures)
     _ _ (m .make-list .ensures .0) (c .if3 .taken)
 
 moved-requires : tie.Need-moved-requires
@@ -44,8 +49,10 @@ same-length-4 c = search needs
 returns-4 : tie.Need-returns-4
 returns-4 c =
     let m = c .before .before .before .before .before .before in
-    let e = m .before .before .before .before in
-    done-recovery _ _ _ _ (e .before .before .examine .ensures) (e .if1 .left) _ (m .before .before .before .same .ensures) (m .before .before .if2 .left)
+    let f = m .before .before in
+    let t = f .before in
+    let e = t .before .before in
+    done-recovery _ _ _ _ (e .before .before .examine .ensures) (e .if1 .left) _ (t .before .same .ensures) (t .if2 .left) _ (f .credit .ensures)
     _ _ (m .make-list .ensures .0) (c .before .before .if3 .left) _ (m .make-list .ensures .1) _ (c .moved .ensures)
 
 pub recover-spec : {M : Type 1} → statement M
@@ -58,6 +65,7 @@ recover-spec =
     same-requires
     same-length-2
     returns-2
+    credit-requires
     make-list-requires
     same-length-3
     returns-3

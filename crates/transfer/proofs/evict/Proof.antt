@@ -20,7 +20,7 @@ returns c = search (evict-refused, needs)
 entry-of-requires : tie.Need-entry-of-requires
 entry-of-requires c κs =
     let e = c .before .before in
-    evict-place _ _ _ _ _ (e .before .before .find-cached .ensures) (e .if1 .left)
+    evict-place _ _ _ _ _ _ (e .before .before .find-cached .ensures) (e .if1 .left)
 
 cast-without : tie.Need-cast-without
 cast-without c = search needs
@@ -32,7 +32,7 @@ make-evict-requires : tie.Need-make-evict-requires
 make-evict-requires c κs =
     let i = c .before .before .before .before in
     let e = i .before .before .before in
-    evict-goes _ _ _ _ _ (e .before .before .find-cached .ensures) (e .if1 .left) _ (i .entry-of .ensures)
+    evict-goes _ _ _ _ _ _ (e .before .before .find-cached .ensures) (e .if1 .left) _ (i .entry-of .ensures)
 
 hand-on-requires : tie.Need-hand-on-requires
 hand-on-requires c κs = search needs
@@ -49,7 +49,7 @@ returns-2 c =
     let w = m .before .before .before in
     let i = w .before .before in
     let e = i .before .before .before in
-    evict-finished _ _ _ _ _ _ (e .before .before .find-cached .ensures) (e .if1 .left) _ (i .entry-of .ensures) _
+    evict-finished _ _ _ _ _ _ _ (e .before .before .find-cached .ensures) (e .if1 .left) _ (i .entry-of .ensures) _
     (w .without .ensures) _ _ _ _ (m .make-evict .ensures) (c .hand-on .ensures)
 
 pub evict-spec : {M : Type 1} → statement M

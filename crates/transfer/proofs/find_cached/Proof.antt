@@ -9,25 +9,25 @@ examine-requires c κs = search needs
 
 returns : tie.Need-returns
 returns c =
-    located-refused _ _ _ _ _ _ (c .before .before .before .examine .ensures) (c .if1 .taken)
+    located-refused _ _ _ _ _ _ _ (c .before .before .before .examine .ensures) (c .if1 .taken)
 
 find-requires : tie.Need-find-requires
 find-requires c κs =
     let e = c .before in
     let x = e .before .before .before .examine .ensures in
-    (x .searchable (e .if1 .left) .indexed, examined-key _ _ _ _ _ _ x (e .if1 .left))
+    (x .searchable (e .if1 .left) .indexed, examined-key _ _ _ _ _ _ _ x (e .if1 .left))
 
 returns-2 : tie.Need-returns-2
 returns-2 c =
     let f = c .before in
     let e = f .before .before in
-    located-found _ _ _ _ _ _ (e .before .before .before .examine .ensures) (e .if1 .left) _ (f .find .ensures) (c .if2 .taken)
+    located-found _ _ _ _ _ _ _ (e .before .before .before .examine .ensures) (e .if1 .left) _ (f .find .ensures) (c .if2 .taken)
 
 returns-3 : tie.Need-returns-3
 returns-3 c =
     let f = c .before in
     let e = f .before .before in
-    located-missing _ _ _ _ _ _ (e .before .before .before .examine .ensures) (e .if1 .left) _ (f .find .ensures) (c .if2 .left)
+    located-missing _ _ _ _ _ _ _ (e .before .before .before .examine .ensures) (e .if1 .left) _ (f .find .ensures) (c .if2 .left)
 
 pub find-cached-spec : {M : Type 1} → statement M
 find-cached-spec = tie.close (tie.spec examine-requires returns find-requires returns-2 returns-3)

@@ -17,7 +17,7 @@ returns c = search (load-refused, needs)
 make-load-requires : tie.Need-make-load-requires
 make-load-requires c κs =
     let e = c .before .before in
-    load-goes _ _ _ _ _ (e .before .before .find-room .ensures) (e .if1 .left)
+    load-goes _ _ _ _ _ _ (e .before .before .find-room .ensures) (e .if1 .left)
 
 hand-on-requires : tie.Need-hand-on-requires
 hand-on-requires c κs = search needs

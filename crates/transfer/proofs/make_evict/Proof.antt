@@ -1,15 +1,42 @@
--- `make_evict` makes evict's list of stores, of a clean block the one, of a modified block its sectors on the disk before it.
+-- `make_evict` makes both runs of the list under one credit, on the disk and on the card.
+use Rattle.transfer.proofs.Moving.{evict-short, evict-first, evict-last, evicted}
+use denote.Ref.{now}
 use borrow.Author.Needs.{needs}
-use Rattle.transfer.proofs.Found.{card-holds}
-use Rattle.transfer.proofs.Moving.{evicted-clean, evicted-modified}
 use Rattle.transfer.proofs.make_evict.Statement.{statement}
 use Rattle.transfer.proofs.make_evict.Tie as tie
 
-is-modified-requires : tie.Need-is-modified-requires
-is-modified-requires c κs = search needs
+evict-count-requires : tie.Need-evict-count-requires
+evict-count-requires c κs = search needs
 
-make-entry-at-requires : tie.Need-make-entry-at-requires
-make-entry-at-requires c κs = search needs
+evict-run-requires : tie.Need-evict-run-requires
+evict-run-requires c κs = search needs
+
+credit-requires : tie.Need-credit-requires
+credit-requires c κs = search (evict-short, needs)
+
+slice-aggregate-make-run : tie.Need-slice-aggregate-make-run
+slice-aggregate-make-run c = search needs
+
+make-run-requires : tie.Need-make-run-requires
+make-run-requires c κs =
+    let s = c .before .before .before .before .before .before .before .before .before in
+    let q = s .pre in
+    (q .0 .good, evict-first _ (now (s .args .card)) (now (s .args .disk)) _ _ _ _ (q .0) (q .1) (q .2) (q .4) (q .6) (q .7) _ _ (c .before .before .before .before .evict-run .ensures))
+
+evict-run-requires-2 : tie.Need-evict-run-requires-2
+evict-run-requires-2 c κs = search needs
+
+slice-aggregate-make-run-2 : tie.Need-slice-aggregate-make-run-2
+slice-aggregate-make-run-2 c = search needs
+
+make-run-requires-2 : tie.Need-make-run-requires-2
+make-run-requires-2 c κs =
+    let s = c .before .before .before .before .before .before .before .before .before .before .before .before .before .before .before .before .before .before in
+    let q = s .pre in (
+      q .0 .good,
+      evict-last _ (now (s .args .card)) (now (s .args .disk)) _ _ _ _ (q .0) (q .1) (q .2) (q .4) (q .6) (q .7) _ _ _ _ (c .before .before .before .evict-run2 .ensures)
+          (search needs),
+    )
 
 answer-requires : tie.Need-answer-requires
 answer-requires c κs = search needs
@@ -17,40 +44,31 @@ answer-requires c κs = search needs
 same-length : tie.Need-same-length
 same-length c = search needs
 
-returns : tie.Need-returns
-returns c = search (evicted-clean, needs)
-
-cast-block-place : tie.Need-cast-block-place
-cast-block-place c = search needs
-
-block-place-requires : tie.Need-block-place-requires
-block-place-requires c κs = search needs
-
-make-sectors-requires : tie.Need-make-sectors-requires
-make-sectors-requires c κs = search (card-holds, needs)
-
-make-entry-at-requires-2 : tie.Need-make-entry-at-requires-2
-make-entry-at-requires-2 c κs = search needs
-
-block-size-requires : tie.Need-block-size-requires
-block-size-requires c κs = search needs
-
-add-answer : tie.Need-add-answer
-add-answer c = search needs
-
-answer-requires-2 : tie.Need-answer-requires-2
-answer-requires-2 c κs = search needs
-
 same-length-2 : tie.Need-same-length-2
 same-length-2 c = search needs
 
-same-length-3 : tie.Need-same-length-3
-same-length-3 c = search needs
-
-returns-2 : tie.Need-returns-2
-returns-2 c = search (evicted-modified, needs)
+returns : tie.Need-returns
+returns c =
+    let m = c .before .before .before .before .before in
+    let n = m .before .before .before .before .before .before .before .before .before in
+    let f = n .before in
+    let q = f .before .before .before .before .before .before .before .before .before .pre in
+    evicted _ _ _ _ _ _ (q .3) (q .5) _ _ _ _ _ _ _ _ _ _ _ _ _ _ (f .before .before .before .before .before .evict-count .ensures) (f .before .before .before .credit .ensures)
+    (f .before .before .before .before .evict-run .ensures) (m .before .before .before .before .evict-run2 .ensures) (n .make-run .ensures) (m .make-run2 .ensures) (c .answer .ensures)
 
 pub make-evict-spec : {M : Type 1} → statement M
 make-evict-spec =
-    tie.close (tie.spec is-modified-requires make-entry-at-requires answer-requires same-length returns cast-block-place block-place-requires
-    make-sectors-requires make-entry-at-requires-2 block-size-requires add-answer answer-requires-2 same-length-2 same-length-3 returns-2)
+    tie.close
+    (tie.spec
+    evict-count-requires
+    evict-run-requires
+    credit-requires
+    slice-aggregate-make-run
+    make-run-requires
+    evict-run-requires-2
+    slice-aggregate-make-run-2
+    make-run-requires-2
+    answer-requires
+    same-length
+    same-length-2
+    returns)
