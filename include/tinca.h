@@ -2,16 +2,18 @@
  * tinca: a write-back cache card in front of a disk, proved against power cuts at every store.
  *
  * Promised. Commit, load, evict and recover each have a list of stores (docs/CARD.md): of an 8-byte word, a 16-byte entry or
- * a 512-byte disk sector each. Wherever that list stops between two stores, a recovery that answers "done" leaves the card
- * settled, and a settled card reads, byte for byte, as the last commit that answered "done" left it. This holds over every
- * list of calls from a formatted card, recoveries cut again and again among them. It is proved of the code: the bytes that a
- * call leaves are those after so many stores of its list. Each call takes every input, always returns, and refuses by number
- * before any store, so that a refusal changes nothing.
+ * a 512-byte disk sector each. The words of a data block are one run, and so are the sectors of a disk block; every other
+ * store is a run by itself. Wherever that list stops between two runs, or inside one with any of its stores made and the
+ * others not, a recovery that answers "done" leaves the card settled, and a settled card reads, byte for byte, as the last
+ * commit that answered "done" left it. This holds over every list of calls from a formatted card, recoveries cut again and
+ * again among them. It is proved of the code: the bytes that a call leaves are those after its list so stopped. Each call
+ * takes every input, always returns, and refuses by number before any store, so that a refusal changes nothing.
  *
- * Not promised. That units become durable as they are stored: compiled for x86-64 no instruction leaves one of the card's in
+ * Not promised. That runs become durable as they are stored: compiled for x86-64 no instruction leaves a unit of the card in
  * part, and they come in this order, but a processor's cache hands them to the card in an order of its own. A unit that
- * reaches the card in part or before its turn can leave a save torn, or a card that is refused. docs/ORDER.md says what a
- * station must do. The card has no checksum: some damage by other hands reads as another lawful card.
+ * reaches the card in part, or one of a later run that reaches it before its turn, can leave a save torn, or a card that is
+ * refused. docs/ORDER.md says what a station must do. The card has no checksum: some damage by other hands reads as another
+ * lawful card.
  *
  * The names. k, S, N, D are given to tinca_format and stand in the card's header from then on; tinca_state_of tells them.
  *
@@ -23,8 +25,15 @@
  *     place        the place of an entry on the card, below N
  *
  * The allowance of a call is how many of its stores still happen. A station in service passes UINT64_MAX, which makes them
- * all. A smaller one says where the power fails, in tests and drills, and gives the stores one by one to a station that
- * hands them to its card itself (docs/ORDER.md).
+ * all. A smaller one says where the power fails, in tests and drills, and gives the runs one by one to a station that hands
+ * them to its card itself (docs/ORDER.md).
+ *
+ * The choice of a commit, a load or an evict says what a power failure inside a run leaves: one byte for each of the run's
+ * stores, in order, 1 where the store is made and 0 where it is not. It has B/8 bytes or more, all of them 0 or 1, or the
+ * call is refused with 17. A run that the allowance covers is made whole, whatever is chosen; of the first one that it does
+ * not cover the chosen stores are made, however many, if it is the words of a data block or the sectors of a disk block, and
+ * none if it is a single store; and nothing is made after it. A station in service passes zeros, which are never looked up.
+ * Ones up to where the allowance ends in its run, then zeros, make just the first stores, as many as the allowance.
  *
  * The map. Two 64-bit words in the station's own memory that tell the free data blocks: bit d mod 64, from the lowest, of word
  * d / 64 is set unless d is below N and data block d is free (no entry in use has it as its current block). The bits from N on
@@ -59,7 +68,7 @@
 #include <stdint.h>
 
 /* Of this header and the library beside it. The middle number grows where a call changes. */
-#define TINCA_VERSION "0.3.0"
+#define TINCA_VERSION "0.4.0"
 
 /* Lengths in bytes, as constants where their arguments are: of a block, of a card, of a disk. */
 #define TINCA_BLOCK_LENGTH(k) ((size_t)1 << (k))
@@ -86,7 +95,7 @@ enum {
 };
 
 /* The field `refusal` of a refused answer. The lowest number whose condition holds is given, with 15 in the place between 7
- * and 8. */
+ * and 8, and 17 in that between 9 and 10. */
 enum {
     TINCA_BAD_HEADER = 1,
     TINCA_BAD_CARD_LENGTH = 2,
@@ -102,7 +111,8 @@ enum {
     TINCA_ALREADY_CACHED = 12,
     TINCA_NOT_CACHED = 13,
     TINCA_NO_ROOM = 14,
-    TINCA_WRONG_MAP = 15
+    TINCA_WRONG_MAP = 15,
+    TINCA_BAD_CHOICE = 17
 };
 
 /* What a refusal's number means, in words. */
@@ -141,13 +151,15 @@ static inline const char *tinca_refusal_text(uint32_t number)
         return "there are too few free data blocks";
     case TINCA_WRONG_MAP:
         return "the map is not the one that the card gives, or not of two words";
+    case TINCA_BAD_CHOICE:
+        return "the choice has fewer than B/8 bytes, or a byte above 1";
     default:
         return "no such refusal";
     }
 }
 
 /* TINCA_DONE: stores is m, the count of the call's stores (format: 0; preview: the commit's). TINCA_CUT: the allowance was
- * below m; as many stores were made as it said, and `stores` is 0. TINCA_REFUSED: refusal is the number. */
+ * below m; the runs that it covered were made, and of the next the chosen stores; `stores` is 0. TINCA_REFUSED: refusal is the number. */
 typedef struct {
     uint32_t kind;
     uint32_t refusal;
@@ -207,25 +219,25 @@ uint64_t tinca_free_count(uint64_t low, uint64_t high);
 
 /* Saves `count` blocks of `data`, in turn, under their numbers as one transaction: all of them or, after a cut and a recovery,
  * none. It needs as many free data blocks as it has blocks, those that are cached already too. m = count * (B/8 + 4) + 1.
- * Done, cut, or refused with 1, 2, 4 to 7, 15, 8 to 11 or 14. */
+ * Done, cut, or refused with 1, 2, 4 to 7, 15, 8, 9, 17, 10, 11 or 14. */
 tinca_answer tinca_commit(uint8_t *card, size_t card_len, uint64_t *map, size_t map_words, const uint64_t *numbers, size_t count,
-                          const uint8_t *data, size_t data_len, uint64_t allowance);
+                          const uint8_t *data, size_t data_len, const uint8_t *choice, size_t choice_len, uint64_t allowance);
 
-/* Tells what a commit of the same map, numbers and data would answer if all its stores happened, and makes none of them: a
- * warning before a save. Done, with the commit's m: `blocks`, `count` numbers, then has the data block that each number would
+/* Tells what a commit of the same map, numbers and data, with any choice that fits, would answer if all its stores happened,
+ * and makes none of them: a warning before a save. Done, with the commit's m: `blocks`, `count` numbers, then has the data block that each number would
  * go to, in turn (data block p begins at byte 128 + 8 * S + 16 * N + p * B of the card). Refused with 1, 2, 4 to 7, 15, 8 to 11
  * or 14, as the commit would be, and with 9 also where `blocks_len` is not `count`; `blocks` is then untouched. Never cut. */
 tinca_answer tinca_preview(const uint8_t *card, size_t card_len, const uint64_t *map, size_t map_words, const uint64_t *numbers, size_t count,
                            const uint8_t *data, size_t data_len, uint32_t *blocks, size_t blocks_len);
 
-/* Caches a disk block. m = B/8 + 1. Done, cut, or refused with 1 to 7, 15, 10, 12 or 14. */
+/* Caches a disk block. m = B/8 + 1. Done, cut, or refused with 1 to 7, 15, 17, 10, 12 or 14. */
 tinca_answer tinca_load(uint8_t *card, size_t card_len, const uint8_t *disk, size_t disk_len, uint64_t *map, size_t map_words, uint64_t block,
-                        uint64_t allowance);
+                        const uint8_t *choice, size_t choice_len, uint64_t allowance);
 
 /* Writes a cached block to the disk if it is modified, and then drops it from the card. m = B/512 + 1 if modified, else 1.
- * Done, cut, or refused with 1 to 7, 15, 10 or 13. */
+ * Done, cut, or refused with 1 to 7, 15, 17, 10 or 13. */
 tinca_answer tinca_evict(uint8_t *card, size_t card_len, uint8_t *disk, size_t disk_len, uint64_t *map, size_t map_words, uint64_t block,
-                         uint64_t allowance);
+                         const uint8_t *choice, size_t choice_len, uint64_t allowance);
 
 /* Undoes what a cut commit left; on a settled card it makes no store. To be called at start-up, with the map just made, before
  * all else: a station cannot know whether its power failed in a commit. After a cut one the next, with the map made again, goes

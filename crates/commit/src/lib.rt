@@ -183,7 +183,7 @@ fn make_list(
     ensures { λ r. ⌜ Did Medium.card (plannedRuns g (planBy (now (entries .entry)) (now (previous .entry)) (now (blocks .entry))) head (now (numbers .entry)) (now («data» .entry))) (now (choice .entry)) credit (now (card .entry)) (now (card .exit)) r ⌝ }
 {
     let mut no_disk = [0u8; 1];
-    let places = 5 * numbers.len() + 1;
+    let places = 4 * numbers.len() + numbers.len() + 1;
     let mut left = credit;
     let mut i: usize = 0;
     while i < places {

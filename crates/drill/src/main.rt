@@ -45,10 +45,11 @@ fn run(allowance: u64) {
     let disk = [0u8; 8192];
     let numbers = [3u64; 1];
     let bytes = [7u8; 512];
+    let choice = [0u8; 64];
     let mut out = [0u8; 512];
     format::format(9, 8, 4, 16, &mut card);
     let map = made(&card);
-    let saved = commit::commit(&mut card, map, &numbers, &bytes, allowance);
+    let saved = commit::commit(&mut card, map, &numbers, &bytes, &choice, allowance);
     let committed = saved.answer;
     let again = made(&card);
     let undone = recovery::recover(&mut card, again, 0xFFFF_FFFF_FFFF_FFFF);

@@ -1,6 +1,6 @@
 -- A save foreseen. A card that gives no map refuses every commit with the same number; one that gives a map gives its own; and what a save that is
 -- not refused has passed. Assumes nothing.
-use Prim.Native.Nat.{ℕ, zero, suc, _*_, _≤_, _<_}
+use Prim.Native.Nat.{ℕ, zero, suc, _*_, _/_, _≤_, _<_}
 use mathlib.Core.List.{List}
 use mathlib.Core.Bool.{Bool, true, false, cond}
 use mathlib.Core.Path.{_≡_, refl, sym, ap, subst, _∙_}
@@ -20,6 +20,7 @@ use Rattle.ring.proofs.Laws.{fit-long, fit-fitted, fitted-long}
 use Rattle.plan.specs.declared.Saving.{Saving}
 use Rattle.plan.specs.Planned.{Prepared}
 use Rattle.plan.proofs.Bounds.{Passed, passed, few-numbers}
+use Rattle.plan.proofs.Request.{zeros-fit}
 use Rattle.outlook.specs.Foreseen.{Foreseen}
 
 -- what stands first of two refusals stands first of more
@@ -82,7 +83,7 @@ foreseen-refused c ns n r e q =
     record {
       comes-to =
           record {
-            refusal-is = λ bs l. q ∙ first-stands n (fitRefusal c) (damageRefusal (geometryOf c) c) _ _ (t .is) (t .refuses);
+            refusal-is = λ bs ch l k. q ∙ first-stands n (fitRefusal c) (damageRefusal (geometryOf c) c) _ _ (t .is) (t .refuses);
             entries = λ z. absurd (t .refuses (sym q ∙ z));
             previous = λ z. absurd (t .refuses (sym q ∙ z));
             blocks = λ z. absurd (t .refuses (sym q ∙ z));
@@ -95,7 +96,8 @@ module _ (c ns : List ℕ) (r : Saving) (f : Foreseen c ns r) (z : r .refusal �
   foreseen-passed : Passed (geometryOf c) c ns (replicate (length ns * blockSize (geometryOf c)) 0)
   foreseen-passed =
       let bs : List ℕ = replicate (length ns * blockSize (geometryOf c)) 0 in
-      passed c (mapOf c) ns bs (sym (f .comes-to .refusal-is bs (length-replicate _ 0)) ∙ z)
+      let ch : List ℕ = replicate (blockSize (geometryOf c) / 8) 0 in
+      passed c (mapOf c) ns bs ch (sym (f .comes-to .refusal-is bs ch (length-replicate _ 0) (zeros-fit (geometryOf c))) ∙ z)
 
   pub foreseen-long : 128 ≤ length c
   foreseen-long = fitted-long (geometryOf c) c (foreseen-passed .fitted)

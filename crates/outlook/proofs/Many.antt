@@ -29,25 +29,25 @@ module _ (g : Geometry) (small : g .slots ≤ 256) (ns : List ℕ) (many : 256 �
           absurd (omega arith)
       go false e = refl
 
-  save-eight : (c bs : List ℕ) → saveRefusal g c ns bs ≡ 8
+  save-eight : (c bs ch : List ℕ) → saveRefusal g c ns bs ch ≡ 8
   unfolding saveRefusal
-  save-eight c bs = sym (orElse-first 8 (refuse 8 (countFits g ns)) _ (refuse-failed 8 (countFits g ns) too-many) (λ z. omega arith))
+  save-eight c bs ch = sym (orElse-first 8 (refuse 8 (countFits g ns)) _ (refuse-failed 8 (countFits g ns) too-many) (λ z. omega arith))
 
 module _ (c : List ℕ) (m : Map) where
-  many-refused : (ns bs : List ℕ) → 256 ≤ length ns
-      → commitRefusal c m ns bs ≡ fitRefusal c orElse (cardRefusal (geometryOf c) c orElse (mapRefusal c m orElse 8))
+  many-refused : (ns bs ch : List ℕ) → 256 ≤ length ns
+      → commitRefusal c m ns bs ch ≡ fitRefusal c orElse (cardRefusal (geometryOf c) c orElse (mapRefusal c m orElse 8))
   unfolding commitRefusal _orElse_
-  many-refused ns bs h = go (fitRefusal c) refl
+  many-refused ns bs ch h = go (fitRefusal c) refl
     where
       go : (f : ℕ) → f ≡ fitRefusal c
-          → f orElse (cardRefusal (geometryOf c) c orElse (mapRefusal c m orElse saveRefusal (geometryOf c) c ns bs))
+          → f orElse (cardRefusal (geometryOf c) c orElse (mapRefusal c m orElse saveRefusal (geometryOf c) c ns bs ch))
           ≡ f orElse (cardRefusal (geometryOf c) c orElse (mapRefusal c m orElse 8))
       go zero e =
           let fit : Fitted (geometryOf c) c = fit-fitted c (geometryOf c) 0 e refl refl in
           let l : Limits (geometryOf c) = limits (geometryOf c) (fit .good) in
-          ap (λ (r : ℕ). cardRefusal (geometryOf c) c orElse (mapRefusal c m orElse r)) (save-eight (geometryOf c) (l .slots .1) ns h c bs)
+          ap (λ (r : ℕ). cardRefusal (geometryOf c) c orElse (mapRefusal c m orElse r)) (save-eight (geometryOf c) (l .slots .1) ns h c bs ch)
       go (suc f) e = refl
 
   -- two saves of 256 blocks or more are refused with the same number
-  pub many-alike : (ns bs ms ds : List ℕ) → 256 ≤ length ns → 256 ≤ length ms → commitRefusal c m ns bs ≡ commitRefusal c m ms ds
-  many-alike ns bs ms ds h k = many-refused ns bs h ∙ sym (many-refused ms ds k)
+  pub many-alike : (ns bs ch ms ds dh : List ℕ) → 256 ≤ length ns → 256 ≤ length ms → commitRefusal c m ns bs ch ≡ commitRefusal c m ms ds dh
+  many-alike ns bs ch ms ds dh h k = many-refused ns bs ch h ∙ sym (many-refused ms ds dh k)

@@ -13,7 +13,7 @@ ghost use Prim.Native.Nat.{_≤_};
 ghost use lib.ListN.{length};
 ghost use Rattle.outlook.specs.Foreseen.{Foreseen};
 
-// What a commit of the numbers comes to on this card, with the map that the card gives and data of the right length.
+// What a commit of the numbers comes to on this card, with the map that the card gives, data of the right length and a choice that fits.
 pub fn foresee(card: &[u8], numbers: &[u64]) -> Saving
     requires { ⌜ length (now numbers) ≤ 256 ⌝ }
     ensures { λ r. ⌜ Foreseen (now (card .entry)) (now (numbers .entry)) r ⌝ }

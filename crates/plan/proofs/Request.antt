@@ -112,6 +112,14 @@ module _ (n : ℕ) where
   unfolding choiceRoom
   quiet-room = rw all-quiet (length-replicate {A = ℕ} n 0)
 
+-- B/8 of them fit
+pub zeros-fit : (g : Geometry) → choiceFits g (replicate (blockSize g / 8) 0) ≡ true
+unfolding choiceFits
+zeros-fit g =
+    let n = blockSize g / 8 in
+    let k : n ≤ length {A = ℕ} (replicate n 0) = omega (arith, length-replicate {A = ℕ} n 0) in
+    and-both (le-leb n (length {A = ℕ} (replicate n 0)) k) (all-quiet n)
+
 -- 512 of them are enough on every card that fits
 pub quiet-fits : (c : List ℕ) → fitRefusal c ≡ 0 → choiceFits (geometryOf c) (replicate 512 0) ≡ true
 quiet-fits c z =

@@ -1,10 +1,10 @@
 -- Each slip loses a saved block: computed. Assumes nothing.
 use mathlib.Core.Path.{refl}
 use Rattle.protocol.proofs.Computing.{computing}
-use Rattle.slips.specs.Slips.{Lost, stepped, saving, recovering, then, recoveryBy, inWindowOnly, undoneRight, undoneFresh, undoneClean, emptied, switchingFresh, reusing, zeroingFirst, evicting}
+use Rattle.slips.specs.Slips.{Lost, stepped, saving, recovering, then, thenAll, recoveryBy, inWindowOnly, undoneRight, undoneFresh, undoneClean, emptied, switchingFresh, reusing, zeroingFirst, evicting, unfencedLoad, fencedLoad, lastAlone}
 
 pub lost : Lost
-unfolding computing stepped saving recovering then recoveryBy inWindowOnly undoneRight undoneFresh undoneClean emptied switchingFresh reusing zeroingFirst evicting
+unfolding computing stepped saving recovering then thenAll recoveryBy inWindowOnly undoneRight undoneFresh undoneClean emptied switchingFresh reusing zeroingFirst evicting unfencedLoad fencedLoad lastAlone
 lost =
     record {
       windowOnly = refl;
@@ -14,5 +14,7 @@ lost =
       reused = refl;
       zeroedFirst = refl;
       emptiedAll = refl;
+      unfenced = refl;
+      fenced = refl;
       right = refl;
     }

@@ -1,8 +1,9 @@
 -- Document 01, "Slips this design invites": each slip as a definition of its own, a short history with it, and the block that is lost.
--- In each the card holds 7 in blocks 2 and 3 before the slip, and nothing but 7 may be read after it: the save of 8 is never finished.
+-- In each the card holds 7 in blocks 2 and 3 before the slip, and nothing but 7 may be read after it: the save of 8 is never finished. The disk holds
+-- ones in the others. One slip more is of document 02, ask 5: a fence left out.
 use Prim.Native.Nat.{ℕ, _+_}
 use mathlib.Core.List.{List, [], _∷_, _++_}
-use mathlib.Core.Bool.{Bool, cond, _&&_}
+use mathlib.Core.Bool.{Bool, true, cond, _&&_}
 use mathlib.Core.Path.{_≡_}
 use lib.ListN.{replicate}
 use lib.Dec.{eqb}
@@ -11,17 +12,17 @@ use Rattle.protocol.specs.declared.Geometry.{Geometry}
 use Rattle.protocol.specs.Below.{eachBelow}
 use Rattle.protocol.specs.Entry.{FRESH, entryOf, unused, entryAt}
 use Rattle.protocol.specs.Ring.{headOf, inWindow, usedAt, undoableAt, findEntry}
-use Rattle.protocol.specs.Store.{card, disk, Run, madeOn, made, words, entryStore, tailStore, single}
+use Rattle.protocol.specs.Store.{card, disk, Run, madeOn, flat, made, words, entryStore, tailStore, single}
 use Rattle.protocol.specs.Commit.{newBlock, entryFound, oldBlock, blockRuns, commitRuns}
-use Rattle.protocol.specs.Load.{writeBack}
+use Rattle.protocol.specs.Load.{loadRuns, writeBack}
 use Rattle.protocol.specs.Recover.{ifChanging, recoverRuns}
 use Rattle.protocol.specs.History.{Media, run}
 use Rattle.protocol.specs.Example.{tiny, start, saved, ample, firstByte}
 
--- the media after the first `allowance` stores of the runs
-unfoldable pub stepped : ℕ → List Run → Media → Media
-stepped allowance rs m =
-    record { onCard = madeOn card (made allowance rs) (m .onCard); onDisk = madeOn disk (made allowance rs) (m .onDisk) }
+-- the media after the runs, cut by the allowance and the choice
+unfoldable pub stepped : ℕ → List ℕ → List Run → Media → Media
+stepped allowance choice rs m =
+    record { onCard = madeOn card (made allowance choice rs) (m .onCard); onDisk = madeOn disk (made allowance choice rs) (m .onDisk) }
 
 -- a save of 8 over blocks 2 and 3, cut; and the recovery of document 01
 abbrev pub before : Media
@@ -33,8 +34,13 @@ saving m = commitRuns tiny (m .onCard) (2 ∷ 3 ∷ []) (replicate 1024 8)
 unfoldable pub recovering : Media → List Run
 recovering m = recoverRuns tiny (m .onCard)
 
+-- where the allowance ends in a run, none of its stores is made
 unfoldable pub then : ℕ → (Media → List Run) → Media → Media
-then allowance f m = stepped allowance (f m) m
+then allowance f m = stepped allowance (replicate 64 0) (f m) m
+
+-- or all of them are
+unfoldable pub thenAll : ℕ → (Media → List Run) → Media → Media
+thenAll allowance f m = stepped allowance (replicate 64 1) (f m) m
 
 -- recovery of the entries that a test picks, each undone in a given way
 unfoldable pub recoveryBy : (Geometry → List ℕ → ℕ → Bool) → (Entry → Entry) → Media → List Run
@@ -84,6 +90,17 @@ zeroingFirst m = single (entryStore tiny (findEntry tiny (m .onCard) 2) unused) 
 unfoldable pub evicting : Media → List Run
 evicting m = writeBack tiny (m .onCard) 2 ++ single (entryStore tiny (findEntry tiny (m .onCard) 2) unused)
 
+-- an entry stored before the fence of its block's words: a load's words and its entry in one run
+unfoldable pub unfencedLoad : Media → List Run
+unfencedLoad m = record { unordered = true; stores = flat (loadRuns tiny (m .onCard) (m .onDisk) 0) } ∷ []
+
+unfoldable pub fencedLoad : Media → List Run
+fencedLoad m = loadRuns tiny (m .onCard) (m .onDisk) 0
+
+-- no word, and the store behind them
+unfoldable pub lastAlone : (Media → List Run) → Media → Media
+lastAlone f m = stepped 0 (replicate 64 0 ++ (1 ∷ [])) (f m) m
+
 -- what is read of a block afterwards is not the 7 that was saved
 pub record Lost : Type 0 where
   -- cut after the second block's entry: the window has only the first number, and 8 is read of block 3
@@ -96,11 +113,14 @@ pub record Lost : Type 0 where
   -- the older version was modified, and an evict does not write it
   pub undoClean : firstByte (then ample evicting (then ample (recoveryBy undoableAt undoneClean) (then 136 saving before))) 2 ≡ 1
   -- cut in the second block's words: block 2 is undone to a block that was written over
-  pub reused : firstByte (then ample recovering (then 100 reusing before)) 2 ≡ 8
+  pub reused : firstByte (then ample recovering (thenAll 100 reusing before)) 2 ≡ 8
   -- cut after the entry is zeroed
   pub zeroedFirst : firstByte (then 1 zeroingFirst before) 2 ≡ 1
   -- no trace of the cut save, and none of the saved one
   pub emptiedAll : firstByte (then ample (recoveryBy undoableAt emptied) (then 136 saving before)) 2 ≡ 1
+  -- cut in the run of words and entry: the block is cached, and what the data block held before is read instead of the disk's 1
+  pub unfenced : firstByte (lastAlone unfencedLoad before) 0 ≡ 0
+  pub fenced : firstByte (lastAlone fencedLoad before) 0 ≡ 1
   -- and what document 01 asks for: 7 in each case
   pub right : firstByte (then ample recovering (then 133 saving before)) 3
       ∷ firstByte (then ample recovering (then 1 recovering (then 136 saving before))) 2

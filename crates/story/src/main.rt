@@ -1,6 +1,6 @@
-// A longer story: saves over each other, cuts at chosen places, recoveries, loads, evicts and refusals, with what each call answers and
-// the first byte of the blocks that are read. Blocks of 512 bytes, four on the card, sixteen on the disk, which holds ones. The map is made at
-// start, handed on by each call, and made again after a cut.
+// A longer story: saves over each other, cuts at chosen places, also inside a run with some of its stores made, recoveries, loads, evicts and
+// refusals, with what each call answers and the first and last byte of the blocks that are read. Blocks of 512 bytes, four on the card, sixteen on the
+// disk, which holds ones. The map is made at start, handed on by each call, and made again after a cut.
 use protocol::Answer;
 use protocol::Map;
 use protocol::Mapped;
@@ -38,6 +38,18 @@ fn free(map: Map) {
 
 // Saves blocks a and b filled with one byte.
 fn save_two(card: &mut [u8], map: Map, a: u64, b: u64, fill: u8, allowance: u64) -> Map {
+    save_choosing(card, map, a, b, fill, &[0u8; 64], allowance)
+}
+
+fn save_choosing(
+    card: &mut [u8],
+    map: Map,
+    a: u64,
+    b: u64,
+    fill: u8,
+    choice: &[u8],
+    allowance: u64,
+) -> Map {
     let mut numbers = [0u64; 2];
     numbers[0] = a;
     numbers[1] = b;
@@ -46,7 +58,7 @@ fn save_two(card: &mut [u8], map: Map, a: u64, b: u64, fill: u8, allowance: u64)
     print::number(a);
     print::number(b);
     print::number(byte(fill));
-    let s = commit::commit(card, map, &numbers, &bytes, allowance);
+    let s = commit::commit(card, map, &numbers, &bytes, choice, allowance);
     told(card, s)
 }
 
@@ -56,7 +68,7 @@ fn save_one(card: &mut [u8], map: Map, a: u64, fill: u8, allowance: u64) -> Map 
     print::text(b"commit");
     print::number(a);
     print::number(byte(fill));
-    let s = commit::commit(card, map, &numbers, &bytes, allowance);
+    let s = commit::commit(card, map, &numbers, &bytes, &[0u8; 64], allowance);
     told(card, s)
 }
 
@@ -67,16 +79,38 @@ fn recover(card: &mut [u8], map: Map, allowance: u64) -> Map {
 }
 
 fn evict(card: &mut [u8], disk: &mut [u8], map: Map, b: u64, allowance: u64) -> Map {
+    evict_choosing(card, disk, map, b, &[0u8; 64], allowance)
+}
+
+fn evict_choosing(
+    card: &mut [u8],
+    disk: &mut [u8],
+    map: Map,
+    b: u64,
+    choice: &[u8],
+    allowance: u64,
+) -> Map {
     print::text(b"evict");
     print::number(b);
-    let s = transfer::evict(card, disk, map, b, allowance);
+    let s = transfer::evict(card, disk, map, b, choice, allowance);
     told(card, s)
 }
 
 fn load(card: &mut [u8], disk: &[u8], map: Map, b: u64, allowance: u64) -> Map {
+    load_choosing(card, disk, map, b, &[0u8; 64], allowance)
+}
+
+fn load_choosing(
+    card: &mut [u8],
+    disk: &[u8],
+    map: Map,
+    b: u64,
+    choice: &[u8],
+    allowance: u64,
+) -> Map {
     print::text(b"load");
     print::number(b);
-    let s = transfer::load(card, disk, map, b, allowance);
+    let s = transfer::load(card, disk, map, b, choice, allowance);
     told(card, s)
 }
 
@@ -167,7 +201,31 @@ fn refusals(card: &mut [u8], map: Map) -> Map {
     save_two(card, m2, 5, 14, 13, 0)
 }
 
-fn last_part(card: &mut [u8], disk: &[u8], map: Map) {
+// A save cut in its second block's words, of which only the last is made, and taken back; and choices that do not fit.
+fn fifth_part(card: &mut [u8], disk: &[u8], map: Map) -> Map {
+    let mut last = [0u8; 64];
+    last[63] = 1;
+    let m1 = save_choosing(card, map, 5, 14, 15, &last, 68);
+    print::state(lookup::state(card));
+    let m2 = recover(card, m1, AMPLE);
+    read(card, disk, 5);
+    let m3 = save_choosing(card, m2, 5, 14, 15, &last[..63], AMPLE);
+    save_choosing(card, m3, 5, 14, 15, &[2u8; 64], AMPLE)
+}
+
+// A load of which all words are made and no entry, and an evict whose one sector is made though no store is allowed: both blocks are read as before.
+fn chosen_moves(card: &mut [u8], disk: &mut [u8], map: Map) -> Map {
+    let all = [1u8; 64];
+    let m1 = load_choosing(card, disk, map, 9, &all, 0);
+    read(card, disk, 9);
+    let m2 = evict_choosing(card, disk, m1, 5, &all, 0);
+    read(card, disk, 5);
+    let m3 = evict(card, disk, m2, 5, AMPLE);
+    read(card, disk, 5);
+    m3
+}
+
+fn last_part(card: &mut [u8], disk: &[u8], map: Map) -> Map {
     read(card, disk, 5);
     let m1 = recover(card, map, AMPLE);
     let m2 = save_two(card, m1, 5, 14, 13, AMPLE);
@@ -177,6 +235,7 @@ fn last_part(card: &mut [u8], disk: &[u8], map: Map) {
     read(card, disk, 15);
     read(card, disk, 16);
     print::state(lookup::state(card));
+    m2
 }
 
 fn first_half(card: &mut [u8], disk: &[u8]) -> Map {
@@ -193,9 +252,13 @@ fn second_half(card: &mut [u8], disk: &mut [u8], map: Map) -> Map {
     drained(card, disk, m3)
 }
 
-fn ending(card: &mut [u8], disk: &[u8], map: Map) {
-    let m = refusals(card, map);
-    last_part(card, disk, m);
+fn ending(card: &mut [u8], disk: &mut [u8], map: Map) {
+    let m1 = refusals(card, map);
+    let m2 = last_part(card, disk, m1);
+    let m3 = fifth_part(card, disk, m2);
+    let m4 = chosen_moves(card, disk, m3);
+    free(m4);
+    print::state(lookup::state(card));
 }
 
 fn main() {
@@ -205,5 +268,5 @@ fn main() {
     print::outcome(format::format(9, 8, 4, 16, &mut card));
     let m1 = first_half(&mut card, &disk);
     let m2 = second_half(&mut card, &mut disk, m1);
-    ending(&mut card, &disk, m2);
+    ending(&mut card, &mut disk, m2);
 }

@@ -332,14 +332,15 @@ pub extern "C" fn tinca_commit(
     map: &mut [u64],
     numbers: &[u64],
     bytes: &[u8],
+    choice: &[u8],
     allowance: u64,
 ) -> TincaAnswer
-    ensures answer { λ r. ⌜ r ≡ plainAnswer (answerOf allowance (commitWork (now (card .entry)) (lentMap (now (card .entry)) (now (map .entry))) (now (numbers .entry)) (now (bytes .entry)))) ⌝ }
-    ensures card { λ r. ⌜ now (card .exit) ≡ afterOn onCard allowance (commitWork (now (card .entry)) (lentMap (now (card .entry)) (now (map .entry))) (now (numbers .entry)) (now (bytes .entry))) (now (card .entry)) ⌝ }
-    ensures map { λ r. ⌜ now (map .exit) ≡ wordsAfter (answerOf allowance (commitWork (now (card .entry)) (lentMap (now (card .entry)) (now (map .entry))) (now (numbers .entry)) (now (bytes .entry)))) (mapAfter allowance (commitWork (now (card .entry)) (lentMap (now (card .entry)) (now (map .entry))) (now (numbers .entry)) (now (bytes .entry))) (now (card .entry)) (lentMap (now (card .entry)) (now (map .entry)))) (now (map .entry)) ⌝ }
+    ensures answer { λ r. ⌜ r ≡ plainAnswer (answerOf allowance (commitWork (now (card .entry)) (lentMap (now (card .entry)) (now (map .entry))) (now (numbers .entry)) (now (bytes .entry)) (now (choice .entry)))) ⌝ }
+    ensures card { λ r. ⌜ now (card .exit) ≡ afterOn onCard allowance (commitWork (now (card .entry)) (lentMap (now (card .entry)) (now (map .entry))) (now (numbers .entry)) (now (bytes .entry)) (now (choice .entry))) (now (card .entry)) ⌝ }
+    ensures map { λ r. ⌜ now (map .exit) ≡ wordsAfter (answerOf allowance (commitWork (now (card .entry)) (lentMap (now (card .entry)) (now (map .entry))) (now (numbers .entry)) (now (bytes .entry)) (now (choice .entry)))) (mapAfter allowance (commitWork (now (card .entry)) (lentMap (now (card .entry)) (now (map .entry))) (now (numbers .entry)) (now (bytes .entry)) (now (choice .entry))) (now (card .entry)) (lentMap (now (card .entry)) (now (map .entry)))) (now (map .entry)) ⌝ }
 {
     let m = lent(card, map);
-    handed(map, commit::commit(card, m, numbers, bytes, allowance))
+    handed(map, commit::commit(card, m, numbers, bytes, choice, allowance))
 }
 
 #[no_mangle]
@@ -363,14 +364,15 @@ pub extern "C" fn tinca_load(
     disk: &[u8],
     map: &mut [u64],
     block: u64,
+    choice: &[u8],
     allowance: u64,
 ) -> TincaAnswer
-    ensures answer { λ r. ⌜ r ≡ plainAnswer (answerOf allowance (loadWork (now (card .entry)) (now (disk .entry)) (lentMap (now (card .entry)) (now (map .entry))) block)) ⌝ }
-    ensures card { λ r. ⌜ now (card .exit) ≡ afterOn onCard allowance (loadWork (now (card .entry)) (now (disk .entry)) (lentMap (now (card .entry)) (now (map .entry))) block) (now (card .entry)) ⌝ }
-    ensures map { λ r. ⌜ now (map .exit) ≡ wordsAfter (answerOf allowance (loadWork (now (card .entry)) (now (disk .entry)) (lentMap (now (card .entry)) (now (map .entry))) block)) (mapAfter allowance (loadWork (now (card .entry)) (now (disk .entry)) (lentMap (now (card .entry)) (now (map .entry))) block) (now (card .entry)) (lentMap (now (card .entry)) (now (map .entry)))) (now (map .entry)) ⌝ }
+    ensures answer { λ r. ⌜ r ≡ plainAnswer (answerOf allowance (loadWork (now (card .entry)) (now (disk .entry)) (lentMap (now (card .entry)) (now (map .entry))) block (now (choice .entry)))) ⌝ }
+    ensures card { λ r. ⌜ now (card .exit) ≡ afterOn onCard allowance (loadWork (now (card .entry)) (now (disk .entry)) (lentMap (now (card .entry)) (now (map .entry))) block (now (choice .entry))) (now (card .entry)) ⌝ }
+    ensures map { λ r. ⌜ now (map .exit) ≡ wordsAfter (answerOf allowance (loadWork (now (card .entry)) (now (disk .entry)) (lentMap (now (card .entry)) (now (map .entry))) block (now (choice .entry)))) (mapAfter allowance (loadWork (now (card .entry)) (now (disk .entry)) (lentMap (now (card .entry)) (now (map .entry))) block (now (choice .entry))) (now (card .entry)) (lentMap (now (card .entry)) (now (map .entry)))) (now (map .entry)) ⌝ }
 {
     let m = lent(card, map);
-    handed(map, transfer::load(card, disk, m, block, allowance))
+    handed(map, transfer::load(card, disk, m, block, choice, allowance))
 }
 
 #[no_mangle]
@@ -379,15 +381,16 @@ pub extern "C" fn tinca_evict(
     disk: &mut [u8],
     map: &mut [u64],
     block: u64,
+    choice: &[u8],
     allowance: u64,
 ) -> TincaAnswer
-    ensures answer { λ r. ⌜ r ≡ plainAnswer (answerOf allowance (evictWork (now (card .entry)) (now (disk .entry)) (lentMap (now (card .entry)) (now (map .entry))) block)) ⌝ }
-    ensures card { λ r. ⌜ now (card .exit) ≡ afterOn onCard allowance (evictWork (now (card .entry)) (now (disk .entry)) (lentMap (now (card .entry)) (now (map .entry))) block) (now (card .entry)) ⌝ }
-    ensures disk { λ r. ⌜ now (disk .exit) ≡ afterOn onDisk allowance (evictWork (now (card .entry)) (now (disk .entry)) (lentMap (now (card .entry)) (now (map .entry))) block) (now (disk .entry)) ⌝ }
-    ensures map { λ r. ⌜ now (map .exit) ≡ wordsAfter (answerOf allowance (evictWork (now (card .entry)) (now (disk .entry)) (lentMap (now (card .entry)) (now (map .entry))) block)) (mapAfter allowance (evictWork (now (card .entry)) (now (disk .entry)) (lentMap (now (card .entry)) (now (map .entry))) block) (now (card .entry)) (lentMap (now (card .entry)) (now (map .entry)))) (now (map .entry)) ⌝ }
+    ensures answer { λ r. ⌜ r ≡ plainAnswer (answerOf allowance (evictWork (now (card .entry)) (now (disk .entry)) (lentMap (now (card .entry)) (now (map .entry))) block (now (choice .entry)))) ⌝ }
+    ensures card { λ r. ⌜ now (card .exit) ≡ afterOn onCard allowance (evictWork (now (card .entry)) (now (disk .entry)) (lentMap (now (card .entry)) (now (map .entry))) block (now (choice .entry))) (now (card .entry)) ⌝ }
+    ensures disk { λ r. ⌜ now (disk .exit) ≡ afterOn onDisk allowance (evictWork (now (card .entry)) (now (disk .entry)) (lentMap (now (card .entry)) (now (map .entry))) block (now (choice .entry))) (now (disk .entry)) ⌝ }
+    ensures map { λ r. ⌜ now (map .exit) ≡ wordsAfter (answerOf allowance (evictWork (now (card .entry)) (now (disk .entry)) (lentMap (now (card .entry)) (now (map .entry))) block (now (choice .entry)))) (mapAfter allowance (evictWork (now (card .entry)) (now (disk .entry)) (lentMap (now (card .entry)) (now (map .entry))) block (now (choice .entry))) (now (card .entry)) (lentMap (now (card .entry)) (now (map .entry)))) (now (map .entry)) ⌝ }
 {
     let m = lent(card, map);
-    handed(map, transfer::evict(card, disk, m, block, allowance))
+    handed(map, transfer::evict(card, disk, m, block, choice, allowance))
 }
 
 #[no_mangle]

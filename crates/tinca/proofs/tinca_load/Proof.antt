@@ -26,9 +26,9 @@ returns c =
     let h = c .before .before in
     let k = h .before .before .before in
     let l = k .before .before .before in
-    let x = l .before .before .before .before .before .before .args in
+    let x = l .before .before .before .before .before .before .before .args in
     let e = k .load .ensures in
-    lent-call (λ (m : Map). loadWork (x .card .now) (x .disk .now) m (x .block)) _ _ _ _ _ _ _ (l .lent .ensures) (e .answer) (e .map)
+    lent-call (λ (m : Map). loadWork (x .card .now) (x .disk .now) m (x .block) (x .choice .now)) _ _ _ _ _ _ _ (l .lent .ensures) (e .answer) (e .map)
     (h .handed .ensures) _ (e .card)
 
 pub tinca-load-spec : {M : Type 1} → statement M
