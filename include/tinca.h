@@ -159,7 +159,8 @@ static inline const char *tinca_refusal_text(uint32_t number)
 }
 
 /* TINCA_DONE: stores is m, the count of the call's stores (format: 0; preview: the commit's). TINCA_CUT: the allowance was
- * below m; the runs that it covered were made, and of the next the chosen stores; `stores` is 0. TINCA_REFUSED: refusal is the number. */
+ * below m; the runs that it covered were made, and of the next the chosen stores; `stores` is 0. TINCA_REFUSED: refusal is the
+ * number. */
 typedef struct {
     uint32_t kind;
     uint32_t refusal;
@@ -224,9 +225,10 @@ tinca_answer tinca_commit(uint8_t *card, size_t card_len, uint64_t *map, size_t 
                           const uint8_t *data, size_t data_len, const uint8_t *choice, size_t choice_len, uint64_t allowance);
 
 /* Tells what a commit of the same map, numbers and data, with any choice that fits, would answer if all its stores happened,
- * and makes none of them: a warning before a save. Done, with the commit's m: `blocks`, `count` numbers, then has the data block that each number would
- * go to, in turn (data block p begins at byte 128 + 8 * S + 16 * N + p * B of the card). Refused with 1, 2, 4 to 7, 15, 8 to 11
- * or 14, as the commit would be, and with 9 also where `blocks_len` is not `count`; `blocks` is then untouched. Never cut. */
+ * and makes none of them: a warning before a save. Done, with the commit's m: `blocks`, `count` numbers, then has the data
+ * block that each number would go to, in turn (data block p begins at byte 128 + 8 * S + 16 * N + p * B of the card). Refused
+ * with 1, 2, 4 to 7, 15, 8 to 11 or 14, as the commit would be, and with 9 also where `blocks_len` is not `count`; `blocks` is
+ * then untouched. Never cut. */
 tinca_answer tinca_preview(const uint8_t *card, size_t card_len, const uint64_t *map, size_t map_words, const uint64_t *numbers, size_t count,
                            const uint8_t *data, size_t data_len, uint32_t *blocks, size_t blocks_len);
 

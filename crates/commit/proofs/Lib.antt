@@ -1,4 +1,5 @@
 -- Laws behind the functions' proofs.
 pub mod Steps
 pub mod Places
+pub mod Loops
 pub mod Whole

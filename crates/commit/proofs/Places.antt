@@ -3,9 +3,8 @@
 use Prim.Native.Nat.{ℕ, zero, suc, _+_, _*_, _-_, _/_, _%_, _≤_, _<_}
 use mathlib.Core.List.{List, [], _∷_, _++_, append-assoc, append-nil}
 use mathlib.Core.Bool.{Bool, true, false, cond}
-use mathlib.Core.Path.{_≡_, refl, sym, ap, subst, _∙_}
+use mathlib.Core.Path.{_≡_, refl, sym, ap, _∙_}
 use mathlib.Core.Logic.{⊎-elim}
-use native.Mathlib.Numerals.{add-one}
 use native.Mathlib.Omega.{arith}
 use lib.ListN.{length, getD}
 use lib.Dec.{eqb, ltb}
@@ -14,21 +13,18 @@ use Rattle.protocol.specs.declared.Entry.{Entry as Fields}
 use Rattle.protocol.specs.declared.Geometry.{Geometry}
 use Rattle.protocol.specs.Below.{eachBelow, around}
 use Rattle.protocol.specs.Layout.{goodGeometry, blockSize, slotPlace, entryPlace, blockPlace, cardLength}
-use Rattle.protocol.specs.Entry.{entryOf, entryBytes, switched}
-use Rattle.protocol.specs.Store.{card, Run as Fenced, words, single, entryStore, wordStore, slotStore, headStore, tailStore}
+use Rattle.protocol.specs.Entry.{entryOf, switched}
+use Rattle.protocol.specs.Store.{Run as Fenced, words, single, entryStore, slotStore, headStore, tailStore}
 use Rattle.protocol.specs.Commit.{numberOf, dataOf}
 use Rattle.protocol.proofs.Below.{below-or-above, around-below}
-use Rattle.protocol.proofs.Checks.{Limits, limits}
 use Rattle.protocol.proofs.Region.{block-ends, in-card, entry, slot, block, place-entry, place-slot, place-block}
 use Rattle.plan.specs.declared.Plan.{Plan}
 use Rattle.plan.specs.Planned.{previousOf}
 use Rattle.stores.specs.declared.Run.{Run}
 use Rattle.stores.specs.declared.Run.the-variants.{Words, Entry, Word}
 use Rattle.stores.specs.Told.{told, Placed}
-use Rattle.ring.specs.Fitted.{Fitted}
-use Rattle.stores.specs.Did.{Did}
-use Rattle.stores.proofs.Laws.{did-same, did-each, entry-aligned}
-use Rattle.commit.specs.Making.{planBy, plannedEntry, plannedBlock, plannedSwitch, plannedRuns, blockRun, switchRun, runAt, Named, Ready}
+use Rattle.stores.proofs.Laws.{entry-aligned}
+use Rattle.commit.specs.Making.{planBy, stepRuns, plannedEntry, plannedBlock, plannedSwitch, plannedRuns, blockRun, switchRun, runAt, Named, Ready}
 
 -- ---- what the plan names
 
@@ -121,7 +117,7 @@ module _ (g : Geometry) (good : goodGeometry g ≡ true) (p : Plan) (h : ℕ) (n
           omega (arith, in-card g (slot (around (g .slots) h i)) (omega arith) s, place-slot g (around (g .slots) h i))
       go false false false = ring-placed 64 (around (g .slots) h (i + 1)) (omega arith)
 
-  pub run-placed : (at : ℕ) → at < 5 * length ns + 1 → Placed g (runAt g p h ns at) (cardLength g) d (length bs) k
+  pub run-placed : (at : ℕ) → at < 4 * length ns + length ns + 1 → Placed g (runAt g p h ns at) (cardLength g) d (length bs) k
   unfolding runAt switchRun
   run-placed at l =
       ⊎-elim
@@ -210,7 +206,7 @@ module _ (g : Geometry) (p : Plan) (h : ℕ) (ns bs : List ℕ) where
       rw (lt-ltb (4 * i + j) (4 * length ns) a) (λ t. told g (blockRun g p h ns (q t) (r t)) bs [])
 
   block-told : (i : ℕ) → i < length ns → fours toldAt i ≡ plannedBlock g p h ns bs i
-  unfolding fours plannedBlock told blockRun words dataOf entryStore slotStore headStore
+  unfolding fours plannedBlock stepRuns plannedEntry told blockRun words dataOf entryStore slotStore headStore
   block-told i l =
       let z : 4 * i ≡ 4 * i + 0 = omega arith in
       ap (λ (k : ℕ). toldAt k ++ (toldAt (4 * i + 1) ++ (toldAt (4 * i + 2) ++ toldAt (4 * i + 3)))) z
@@ -233,32 +229,13 @@ module _ (g : Geometry) (p : Plan) (h : ℕ) (ns bs : List ℕ) where
       let n : length ns ≤ length ns = omega arith in
       rw (le-ltb (4 * length ns + length ns) (4 * length ns) a, e, le-ltb (length ns) (length ns) n)
 
-  pub runs-told : eachBelow toldAt (5 * length ns + 1) ≡ plannedRuns g p h ns bs
+  pub runs-told : eachBelow toldAt (4 * length ns + length ns + 1) ≡ plannedRuns g p h ns bs
   unfolding plannedRuns eachBelow
   runs-told =
       let n = length ns in
-      let e : 5 * n + 1 ≡ 4 * n + suc n = omega arith in
+      let e : 4 * n + n + 1 ≡ 4 * n + suc n = omega arith in
       ap (eachBelow toldAt) e
       ∙ each-plus toldAt (4 * n) (suc n)
       ∙ (λ t.
       (each-fours toldAt n ∙ each-same (fours toldAt) (plannedBlock g p h ns bs) n block-told) t
       ++ (each-same (λ i. toldAt (4 * n + i)) (plannedSwitch g p ns) n role-told t ++ tail-told t))
-
--- ---- one turn more of the loop over them
-
-pub list-placed : (g : Geometry) (p : Plan) (h : ℕ) (ns bs xs : List ℕ) (i n d k : ℕ) (run : Run) → Fitted g xs → n ≡ length xs → Ready g p h ns bs
-    → blockSize g / 8 ≤ k → i < 5 * length ns + 1 → run ≡ runAt g p h ns i → Placed g run n d (length bs) k
-list-placed g p h ns bs xs i n d k run f e ready wide l q =
-    subst (λ (z : ℕ). Placed g run z d (length bs) k) (sym (e ∙ f .long))
-    (subst (λ (z : Run). Placed g z (cardLength g) d (length bs) k) (sym q) (run-placed g (f .good) p h ns bs ready d k wide i l))
-
-module _ (g : Geometry) (p : Plan) (h : ℕ) (ns bs ch : List ℕ) (i credit left r : ℕ) (xs ys zs : List ℕ) (run : Run) where
-  pub list-turn : Did card (eachBelow (toldAt g p h ns bs) i) ch credit xs ys left → run ≡ runAt g p h ns i → Did card (told g run bs ys) ch left ys zs r
-      → Did card (eachBelow (toldAt g p h ns bs) (i + 1)) ch credit xs zs r
-  list-turn x e y = did-each (toldAt g p h ns bs) i x (did-same (ap (λ (q : Run). told g q bs ys) e ∙ told-at g p h ns bs i ys) y)
-
-  pub list-end : i < 5 * length ns + 1 + 1 → 5 * length ns + 1 ≤ i → Did card (eachBelow (toldAt g p h ns bs) i) ch credit xs ys left
-      → Did card (plannedRuns g p h ns bs) ch credit xs ys left
-  list-end a b x =
-      let e : i ≡ 5 * length ns + 1 = omega arith in
-      did-same (ap (eachBelow (toldAt g p h ns bs)) e ∙ runs-told g p h ns bs) x

@@ -1,7 +1,7 @@
 -- A whole commit: the plan's runs are those of the definition, and what the checks have passed is all that making them
 -- needs. Assumes nothing.
 use Prim.Native.Nat.{ℕ, _+_, _*_, _/_, _≤_, _<_, min}
-use mathlib.Core.List.{List, _∷_, _++_}
+use mathlib.Core.List.{List, _++_}
 use mathlib.Core.Bool.{cond}
 use mathlib.Core.Path.{_≡_, refl, sym, ap, subst, _∙_}
 use native.Mathlib.Nat.{mul-le-mul}
@@ -19,9 +19,9 @@ use Rattle.protocol.specs.Layout.{geometryOf, blockSize}
 use Rattle.protocol.specs.Entry.{entryOf, switched}
 use Rattle.protocol.specs.Ring.{headOf}
 use Rattle.protocol.specs.Check.{choiceFits}
-use Rattle.protocol.specs.Store.{card, words, single, entryStore, slotStore, headStore, tailStore, storesOf}
+use Rattle.protocol.specs.Store.{card, single, entryStore, tailStore, storesOf}
 use Rattle.protocol.specs.Map.{handedOn}
-use Rattle.protocol.specs.Commit.{numberOf, entryFound, logEntry, dataOf, headAfter, blockRuns, switchRuns, commitRuns, commitRefusal, commitWork, numberFits, numbersFit}
+use Rattle.protocol.specs.Commit.{numberOf, entryFound, logEntry, headAfter, blockRuns, switchRuns, commitRuns, commitRefusal, commitWork, numberFits, numbersFit}
 use Rattle.protocol.proofs.Below.{all-at, and-left}
 use Rattle.protocol.proofs.Checks.{Limits, limits}
 use Rattle.protocol.proofs.Left.{commit-map}
@@ -34,7 +34,7 @@ use Rattle.plan.proofs.Count.{runs-count}
 use Rattle.plan.proofs.Bounds.{Passed, passed, choice-passed, few-numbers, new-below, entry-below}
 use Rattle.stores.specs.Did.{Did}
 use Rattle.stores.proofs.Laws.{did-same, refused-answer, refused-after, refused-map, made-answer, made-after, made-map}
-use Rattle.commit.specs.Making.{plannedEntry, planBy, plannedBlock, plannedSwitch, plannedRuns, Named, Ready}
+use Rattle.commit.specs.Making.{stepRuns, plannedEntry, planBy, plannedBlock, plannedSwitch, plannedRuns, Named, Ready}
 use Rattle.commit.specs.Committed.{Committed}
 use Rattle.commit.proofs.Places.{each-same}
 
@@ -50,11 +50,8 @@ module _ (g : Geometry) (c ns bs es ps qs : List ℕ) (m : Map) (x : Planned g c
   place-same i l = x .entries i l
 
   block-same : (i : ℕ) → i < length ns → plannedBlock g (planBy es ps qs) (headOf c) ns bs i ≡ blockRuns g c ns bs i
-  unfolding plannedBlock blockRuns headAfter keyAt
-  block-same i l = λ t.
-      words g (x .blocks i l t) (dataOf g bs i)
-      ∷ (single (entryStore g (place-same i l t) (entry-same i l t))
-      ++ (single (slotStore (around (g .slots) (headOf c) i) (numberOf ns i)) ++ single (headStore (around (g .slots) (headOf c) (i + 1)))))
+  unfolding plannedBlock stepRuns blockRuns headAfter logEntry
+  block-same i l = λ t. stepRuns g (place-same i l t) (entry-same i l t) bs (headOf c) i
 
   switch-same : (i : ℕ) → i < length ns → plannedSwitch g (planBy es ps qs) ns i ≡ switchRuns g c ns i
   unfolding plannedSwitch switchRuns

@@ -26,12 +26,15 @@ planBy es ps qs = record { entries = es; previous = ps; blocks = qs }
 unfoldable pub plannedEntry : Plan → List ℕ → ℕ → Fields
 plannedEntry p ns i = entryOf 0x83 (numberOf ns i) (previousOf (getD (p .previous) i 0)) (getD (p .blocks) i 0)
 
--- block i: its words, its entry, its number into the slot at Head, Head forward; h is Head at entry
+-- block i with the entry e at the place `at`: its words, its entry, its number into the slot at Head, Head forward; h is Head at entry
+unfoldable pub stepRuns : Geometry → ℕ → Fields → List ℕ → ℕ → ℕ → List Fenced
+stepRuns g at e bs h i =
+    words g (e .current) (dataOf g bs i)
+    ∷ (single (entryStore g at e)
+    ++ (single (slotStore (around (g .slots) h i) (e .number)) ++ single (headStore (around (g .slots) h (i + 1)))))
+
 unfoldable pub plannedBlock : Geometry → Plan → ℕ → List ℕ → List ℕ → ℕ → List Fenced
-plannedBlock g p h ns bs i =
-    words g (getD (p .blocks) i 0) (dataOf g bs i)
-    ∷ (single (entryStore g (getD (p .entries) i 0) (plannedEntry p ns i))
-    ++ (single (slotStore (around (g .slots) h i) (numberOf ns i)) ++ single (headStore (around (g .slots) h (i + 1)))))
+plannedBlock g p h ns bs i = stepRuns g (getD (p .entries) i 0) (plannedEntry p ns i) bs h i
 
 unfoldable pub plannedSwitch : Geometry → Plan → List ℕ → ℕ → List Fenced
 plannedSwitch g p ns i = single (entryStore g (getD (p .entries) i 0) (switched (plannedEntry p ns i)))

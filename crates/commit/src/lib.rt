@@ -8,17 +8,24 @@ use protocol::Stored;
 use stores::Run;
 ghost use mathlib.Core.Path.{_≡_};
 ghost use mathlib.Core.Bool.{true};
-ghost use Prim.Native.Nat.{_*_, _/_, _≤_, _<_};
-ghost use lib.ListN.{length};
-ghost use Rattle.protocol.specs.Below.{around};
+ghost use mathlib.Core.List.{List, _++_};
+ghost use Prim.Native.Nat.{ℕ, _+_, _*_, _/_, _≤_, _<_};
+ghost use lib.ListN.{length, getD};
+ghost use Rattle.protocol.specs.Below.{eachBelow, around};
 ghost use Rattle.protocol.specs.Layout.{goodGeometry, blockSize, slotPlace, entryPlace, blockPlace};
 ghost use Rattle.protocol.specs.Entry.{entryOf, switched};
-ghost use Rattle.protocol.specs.Store.{Medium};
+ghost use Rattle.protocol.specs.Store.{Medium, single, slotStore, headStore};
 ghost use Rattle.ring.specs.Fitted.{Fitted};
 ghost use Rattle.stores.specs.Did.{Did};
 ghost use Rattle.plan.specs.Planned.{previousOf};
-ghost use Rattle.commit.specs.Making.{planBy, plannedRuns, blockRun, switchRun, runAt, Named, Ready};
+ghost use Rattle.commit.specs.Making.{stepRuns, planBy, plannedBlock, plannedSwitch, plannedRuns, blockRun, switchRun, runAt, Named, Ready};
 ghost use Rattle.commit.specs.Committed.{Committed};
+
+fn wide(x: u8) -> usize
+    ensures { λ r. ⌜ r ≡ x ⌝ }
+{
+    x as usize
+}
 
 // The previous block that a plan's byte stands for.
 fn previous_of(x: u8) -> u32
@@ -148,16 +155,7 @@ pub fn run_at(
 {
     let n = numbers.len();
     if at < 4 * n {
-        return block_run(
-            g,
-            entries,
-            previous,
-            blocks,
-            numbers,
-            head,
-            at / 4,
-            at % 4,
-        );
+        return block_run(g, entries, previous, blocks, numbers, head, at / 4, at % 4);
     }
     let i = at - 4 * n;
     if i < n {
@@ -166,7 +164,93 @@ pub fn run_at(
     ring_run(g, 72, head, n)
 }
 
-// Makes the whole list. No run of it goes to the disk.
+// The number into the slot at Head, and Head forward by one: Head is i places past where it stood at entry.
+fn log_number(g: Geometry, card: &mut [u8], head: u64, i: usize, number: u64, left: u64) -> u64
+    requires { ⌜ Fitted g (now card) × (head < g .slots) × (i < g .slots) ⌝ }
+    ensures { λ r. ⌜ ((ch : List ℕ) → Did Medium.card (single (slotStore (around (g .slots) head i) number) ++ single (headStore (around (g .slots) head (i + 1)))) ch left (now (card .entry)) (now (card .exit)) r) ⌝ }
+{
+    let slot = ring::forward(g.slots, head, i as u64);
+    let next = ring::forward(g.slots, head, i as u64 + 1);
+    let a = stores::make_word(card, 128 + 8 * slot as usize, number, left);
+    stores::make_word(card, 64, next, a)
+}
+
+// Block i: its words, its entry at place `at`, its number into the ring. The number is read again, which lets the compiler store it whole.
+fn make_block(
+    g: Geometry,
+    card: &mut [u8],
+    at: usize,
+    e: Entry,
+    numbers: &[u64],
+    data: &[u8],
+    head: u64,
+    i: usize,
+    choice: &[u8],
+    left: u64,
+) -> u64
+    requires { ⌜ Fitted g (now card) × (at < g .blocks) × (e .current < g .blocks) × (i * blockSize g + blockSize g ≤ length (now «data»)) × (head < g .slots) × (i < g .slots) × (i < length (now numbers)) × (e .number ≡ getD (now numbers) i 0) × (blockSize g / 8 ≤ length (now choice)) ⌝ }
+    ensures { λ r. ⌜ Did Medium.card (stepRuns g at e (now («data» .entry)) head i) (now (choice .entry)) left (now (card .entry)) (now (card .exit)) r ⌝ }
+{
+    let from = codec::block_offset(g, i as u64) as usize;
+    let to = stores::block_place(g, e.current as u64);
+    let a = stores::make_words(g, card, to, data, from, choice, left);
+    let b = stores::make_entry(card, stores::entry_place(g, at), e, a);
+    log_number(g, card, head, i, numbers[i], b)
+}
+
+// Each block in turn.
+fn make_blocks(
+    g: Geometry,
+    card: &mut [u8],
+    entries: &[u8; 128],
+    previous: &[u8; 128],
+    blocks: &[u8; 128],
+    numbers: &[u64],
+    data: &[u8],
+    head: u64,
+    choice: &[u8],
+    credit: u64,
+) -> u64
+    requires { ⌜ Fitted g (now card) × Ready g (planBy (now entries) (now previous) (now blocks)) head (now numbers) (now «data») × (blockSize g / 8 ≤ length (now choice)) ⌝ }
+    ensures { λ r. ⌜ Did Medium.card (eachBelow (plannedBlock g (planBy (now (entries .entry)) (now (previous .entry)) (now (blocks .entry))) head (now (numbers .entry)) (now («data» .entry))) (length (now (numbers .entry)))) (now (choice .entry)) credit (now (card .entry)) (now (card .exit)) r ⌝ }
+{
+    let mut a = credit;
+    let mut i: usize = 0;
+    while i < numbers.len() {
+        let e = log_entry(numbers[i], previous[i], blocks[i]);
+        let at = wide(entries[i]);
+        a = make_block(g, card, at, e, numbers, data, head, i, choice, a);
+        i += 1;
+    }
+    a
+}
+
+// The role switches: each entry again, with flag 82.
+fn make_switches(
+    g: Geometry,
+    card: &mut [u8],
+    entries: &[u8; 128],
+    previous: &[u8; 128],
+    blocks: &[u8; 128],
+    numbers: &[u64],
+    left: u64,
+) -> u64
+    requires { ⌜ Fitted g (now card) × Named g (planBy (now entries) (now previous) (now blocks)) (now numbers) ⌝ }
+    ensures { λ r. ⌜ ((ch : List ℕ) → Did Medium.card (eachBelow (plannedSwitch g (planBy (now (entries .entry)) (now (previous .entry)) (now (blocks .entry))) (now (numbers .entry))) (length (now (numbers .entry)))) ch left (now (card .entry)) (now (card .exit)) r) ⌝ }
+{
+    let mut a = left;
+    let mut i: usize = 0;
+    while i < numbers.len() {
+        let e = switch_role(log_entry(numbers[i], previous[i], blocks[i]));
+        let place = stores::entry_place(g, wide(entries[i]));
+        a = stores::make_entry(card, place, e, a);
+        i += 1;
+    }
+    a
+}
+
+// The runs of all places, in order: the blocks, the role switches, then Tail set to Head. They are made by loops of their own, which cost a commit
+// less than one over the places does.
 fn make_list(
     g: Geometry,
     card: &mut [u8],
@@ -182,17 +266,21 @@ fn make_list(
     requires { ⌜ Fitted g (now card) × Ready g (planBy (now entries) (now previous) (now blocks)) head (now numbers) (now «data») × (blockSize g / 8 ≤ length (now choice)) ⌝ }
     ensures { λ r. ⌜ Did Medium.card (plannedRuns g (planBy (now (entries .entry)) (now (previous .entry)) (now (blocks .entry))) head (now (numbers .entry)) (now («data» .entry))) (now (choice .entry)) credit (now (card .entry)) (now (card .exit)) r ⌝ }
 {
-    let mut no_disk = [0u8; 1];
-    let places = 4 * numbers.len() + numbers.len() + 1;
-    let mut left = credit;
-    let mut i: usize = 0;
-    while i < places {
-        let at = i;
-        i += 1;
-        let run = run_at(g, entries, previous, blocks, numbers, head, at);
-        left = stores::make_run(g, card, &mut no_disk, data, run, choice, left);
-    }
-    left
+    let a = make_blocks(
+        g,
+        card,
+        entries,
+        previous,
+        blocks,
+        numbers,
+        data,
+        head,
+        choice,
+        credit,
+    );
+    let b = make_switches(g, card, entries, previous, blocks, numbers, a);
+    let end = ring::forward(g.slots, head, numbers.len() as u64);
+    stores::make_word(card, 72, end, b)
 }
 
 // Saves the blocks `numbers`, with their bytes side by side in `data`, as one commit. `allowance` stores still happen. Refused before any

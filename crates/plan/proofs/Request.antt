@@ -14,7 +14,7 @@ use Rattle.protocol.specs.Below.{allBelow}
 use Rattle.protocol.specs.Layout.{goodGeometry, geometryOf, blockSize}
 use Rattle.protocol.specs.Check.{refuse, _orElse_, fitRefusal, choiceByteFits, choiceFits}
 use Rattle.protocol.specs.Commit.{numberOf, countFits, numbersFit, numbersDiffer, newNumber, numbersApart}
-use Rattle.protocol.proofs.Below.{either, and-fails, and-both, all-of, below-or-above}
+use Rattle.protocol.proofs.Below.{and-fails, and-both, all-of, below-or-above}
 use Rattle.protocol.proofs.Checks.{Limits, limits, refuse-passed, refuse-failed, orElse-first, orElse-next}
 use Rattle.ring.proofs.Laws.{fit-fitted}
 use Rattle.plan.specs.Request.{sizeFits, choiceRoom, roomFits, requestRefusal}

@@ -3,10 +3,10 @@
 use Prim.Native.Nat.{ℕ, zero, suc}
 use mathlib.Core.List.{List, [], _∷_}
 use mathlib.Core.Bool.{Bool, true, false, cond}
-use mathlib.Core.Path.{_≡_, refl, sym, ap, subst, _∙_}
+use mathlib.Core.Path.{_≡_, refl, sym, ap, _∙_}
 use native.Mathlib.Omega.{arith}
 use lib.Dec.{eqb}
-use borrow.Author.Tests.{eq-eqb, eqb-true}
+use borrow.Author.Tests.{eq-eqb}
 use Rattle.protocol.specs.declared.Answer.{Answer}
 use Rattle.protocol.specs.declared.Answer.the-variants.{Done, Cut, Refused}
 use Rattle.protocol.specs.declared.Geometry.{Geometry}
@@ -22,7 +22,6 @@ use Rattle.protocol.specs.Load.{pairRefusal, blockRefusal, loadRefusal, 
 use Rattle.protocol.specs.Recover.{recoverRefusal, recoverWork}
 use Rattle.protocol.specs.History.{Call, commit, load, evict, recover, Media, workOf, answerTo, after, Asked, lent, mapTo, served}
 use Rattle.protocol.specs.CutRule.{Kept, MapKept}
-use Rattle.protocol.proofs.Below.{and-both}
 use Rattle.protocol.proofs.CutRule.{Answered, refused, cut, done, answered}
 
 -- ---- no check but 15 refuses with 15

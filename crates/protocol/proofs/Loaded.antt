@@ -1,6 +1,6 @@
 -- Load and evict, cut anywhere, keep the invariant and the row; once all their stores are made the card is settled as before. Assumes nothing.
 use Prim.Native.Nat.{ℕ, _<_}
-use mathlib.Core.List.{List, [], _∷_, _++_, append-nil}
+use mathlib.Core.List.{List, [], _∷_, _++_}
 use mathlib.Core.Bool.{Bool, true, false, cond, _&&_, _||_}
 use mathlib.Core.Option.{Option, none, some}
 use mathlib.Core.Path.{_≡_, refl, sym, ap, subst, _∙_}
@@ -15,7 +15,7 @@ use Rattle.protocol.specs.declared.Geometry.{Geometry}
 use Rattle.protocol.specs.Layout.{blockSize, blockAt, diskBlock, diskLength, blockPlace, diskPlace}
 use Rattle.protocol.specs.Entry.{FRESH, entryOf, unused, entryAt, inUse, isModified, hasLogRole, goodEntry}
 use Rattle.protocol.specs.Ring.{headOf, tailOf, inWindow, usedAt, roleFreeAt, isSettled, entryFor, findEntry, cached, currentOf}
-use Rattle.protocol.specs.Store.{card, disk, Store, storedOn, madeOn, flat, single, words, sectors, entryStore}
+use Rattle.protocol.specs.Store.{card, disk, Store, storedOn, madeOn, single, words, sectors, entryStore}
 use Rattle.protocol.specs.Search.{freeBlocks, unusedEntries}
 use Rattle.protocol.specs.Commit.{newBlock, roomFor}
 use Rattle.protocol.specs.Load.{cleanEntry, loadRuns, writeBack, evictRuns}

@@ -1,7 +1,7 @@
 -- Document 02, ask 5, against document 01: where a cut by the memory maker's rule leaves what document 01's leaves, and the choice that does so.
 use Prim.Native.Nat.{ℕ, _+_, _-_, _/_, _≤_}
 use mathlib.Core.List.{List, [], _∷_, _++_}
-use mathlib.Core.Bool.{Bool, true, cond}
+use mathlib.Core.Bool.{true, cond}
 use mathlib.Core.Path.{_≡_}
 use mathlib.Core.Logic.{_⊎_}
 use lib.ListN.{length, take, replicate}

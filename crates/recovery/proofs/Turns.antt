@@ -1,7 +1,7 @@
 -- Recovery's list, place by place: what each way through a step answers and does, that the steps before it have left the window and the later
 -- entries as they stood, and how the steps come together. By the stores of the first i places being confined to the first i entries.
 -- Assumes nothing.
-use Prim.Native.Nat.{ℕ, zero, suc, _+_, _*_, _≤_, _<_}
+use Prim.Native.Nat.{ℕ, zero, suc, _+_, _*_, _%_, _≤_, _<_}
 use mathlib.Core.List.{List, [], _∷_, _++_}
 use mathlib.Core.Bool.{Bool, true, false, cond, not, _&&_, _||_}
 use mathlib.Core.Path.{_≡_, refl, sym, ap, subst, _∙_}
@@ -19,7 +19,7 @@ use Rattle.protocol.specs.declared.Entry.{Entry}
 use Rattle.protocol.specs.declared.Geometry.{Geometry}
 use Rattle.protocol.specs.Below.{eachBelow}
 use Rattle.protocol.specs.Layout.{slotPlace, entryPlace}
-use Rattle.protocol.specs.Entry.{FRESH, unused, entryOf, entryIn, entryAt, inUse, hasLogRole, undone}
+use Rattle.protocol.specs.Entry.{FRESH, unused, entryOf, entryBytes, entryIn, entryAt, inUse, hasLogRole, undone}
 use Rattle.protocol.specs.Ring.{headOf, tailOf, slotAt, inWindow, usedAt, undoableAt}
 use Rattle.protocol.specs.Store.{card, Store, Run, single, flat, made, entryStore, wordStore, tailStore}
 use Rattle.protocol.specs.Recover.{sameBytes, ifChanging, undoRuns, recoverRuns}
@@ -34,13 +34,13 @@ use Rattle.ring.specs.Fitted.{Fitted, WindowOf}
 use Rattle.ring.proofs.Laws.{fitted-long, fitted-blocks}
 use Rattle.stores.specs.declared.Run.{Run as Told}
 use Rattle.stores.specs.declared.Run.the-variants.{Nothing as NoRun, Entry as EntryRun, Word as WordRun}
-use Rattle.stores.specs.Did.{underCredit, Did}
-use Rattle.stores.specs.Told.{told, Placed}
-use Rattle.stores.proofs.Laws.{Ordered, did-none, did-same, did-any, did-each, did-length, length-each, entry-aligned}
+use Rattle.stores.specs.Did.{cardStore, underCredit, Did}
+use Rattle.stores.specs.Told.{told}
+use Rattle.stores.proofs.Laws.{did-none, did-same, did-each, did-length, length-each, entry-aligned}
 use Rattle.recovery.specs.declared.Progress.{Progress}
 use Rattle.recovery.specs.declared.Step.{Step}
 use Rattle.recovery.specs.declared.Step.the-variants.{Nothing, Undo, Tail}
-use Rattle.recovery.specs.Step.{changedAt, runsAt, stepRuns, stepRun, stepCount, undoes, UndoneBy, Listed}
+use Rattle.recovery.specs.Step.{changedAt, runsAt, stepRuns, stepRun, undoes, UndoneBy, Listed}
 use Rattle.recovery.specs.Went.{Went, sameEntry}
 use Rattle.recovery.proofs.Skipped.{entry-left-out, entry-changing, tail-left-out, tail-changing}
 
@@ -129,35 +129,12 @@ module _ (g : Geometry) (c : List ℕ) (i : ℕ) (u : Step) where
         changes = λ q. absurd (omega arith);
       }
 
--- a step is the run that it is told as, and lies on the card
+-- a step is the run that it is told as
 pub step-told : (g : Geometry) (i : ℕ) (u : Step) (s c : List ℕ) → told g (stepRun g i u) s c ≡ stepRuns g i u
 unfolding told stepRun stepRuns entryStore tailStore
 step-told g i Nothing s c = refl
 step-told g i (Undo e) s c = refl
 step-told g i (Tail v) s c = refl
-
-pub step-placed : (g : Geometry) (i : ℕ) (u : Step) (r : Told) (c : List ℕ) (d s h : ℕ) → Fitted g c → (undoes u ≡ true → i < g .blocks)
-    → r ≡ stepRun g i u → Placed g r (length c) d s h
-unfolding stepRun undoes
-step-placed g i Nothing r c d s h f l e = subst (λ (x : Told). Placed g x (length c) d s h) (sym e) tt
-step-placed g i (Undo x) r c d s h f l e =
-    subst (λ (y : Told). Placed g y (length c) d s h) (sym e) (
-      omega (arith, f .long, in-card g (entry i) (omega arith) (l refl), place-entry g i),
-      entry-aligned g i _ (f .good) refl,
-    )
-step-placed g i (Tail v) r c d s h f l e = subst (λ (y : Told). Placed g y (length c) d s h) (sym e) (omega (arith, fitted-long g c f))
-
-counted-step : (g : Geometry) (i : ℕ) (u : Step) → stepCount u ≡ length (flat (stepRuns g i u))
-unfolding stepCount stepRuns flat single
-counted-step g i Nothing = refl
-counted-step g i (Undo e) = refl
-counted-step g i (Tail v) = refl
-
-few-step : (u : Step) → stepCount u ≤ 1
-unfolding stepCount
-few-step Nothing = omega arith
-few-step (Undo e) = omega arith
-few-step (Tail v) = omega arith
 
 -- without an allowance nothing is made of it
 pub step-none : (g : Geometry) (i : ℕ) (u : Step) (ch : List ℕ) → made 0 ch (stepRuns g i u) ≡ []
@@ -166,21 +143,38 @@ step-none g i Nothing ch = unfold made in refl
 step-none g i (Undo e) ch = single-cut ch (entryStore g i e)
 step-none g i (Tail v) ch = single-cut ch (tailStore v)
 
--- what making a step does
-pub step-went : (g : Geometry) (i a : ℕ) (c d s ch : List ℕ) (u : Step) (r : Told) (k n : ℕ) → r ≡ stepRun g i u → Did card (told g r s c) ch a c d k
-    → n ≡ stepCount u → Went (stepRuns g i u) a c d (record { count = n; left = k }) × (n ≤ 1)
-step-went g i a c d s ch u r k n e x q = (
-  record {
-    did = did-any (fenced u) (did-same (ap (λ (y : Told). told g y s c) e ∙ step-told g i u s c) x);
-    counted = q ∙ counted-step g i u;
-  },
-  omega (arith, few-step u),
-)
-  where
-    fenced : (u : Step) → Ordered (stepRuns g i u)
-    fenced Nothing = unfold stepRuns in tt
-    fenced (Undo e) = unfold stepRuns in unfold single in (refl, tt)
-    fenced (Tail v) = unfold stepRuns in unfold single in (refl, tt)
+-- what making a step does, in each of its three forms
+module _ (g : Geometry) (i a : ℕ) (c : List ℕ) (u : Step) where
+  one-went : (s : Store) → stepRuns g i u ≡ single s → (d : List ℕ) (r : ℕ) → Did card (single s) [] a c d r
+      → Went (stepRuns g i u) a c d (record { count = 1; left = r }) × (1 ≤ 1)
+  unfolding single flat
+  one-went s e d r x = (record { did = did-same (sym e) x; counted = sym (ap (λ (rs : List Run). length (flat rs)) e) }, omega arith)
+
+  pub nothing-went : u ≡ Nothing → Went (stepRuns g i u) a c c (record { count = 0; left = a }) × (0 ≤ 1)
+  unfolding stepRuns flat
+  nothing-went q = (
+    record { did = did-same (sym (ap (stepRuns g i) q)) did-none; counted = sym (ap (λ (v : Step). length (flat (stepRuns g i v))) q) },
+    omega arith,
+  )
+
+  module _ (d : List ℕ) (r : ℕ) where
+    pub undo-went : (e : Entry) (at : ℕ) → u ≡ Undo e → at ≡ entryPlace g i
+        → ((ch : List ℕ) → Did card (single (cardStore at (entryBytes e))) ch a c d r)
+        → Went (stepRuns g i u) a c d (record { count = 1; left = r }) × (1 ≤ 1)
+    unfolding stepRuns entryStore
+    undo-went e at q p x = one-went _ (ap (stepRuns g i) q) d r (did-same (ap (λ (k : ℕ). single (cardStore k (entryBytes e))) p) (x []))
+
+    pub tail-went : (v : ℕ) → u ≡ Tail v → ((ch : List ℕ) → Did card (single (wordStore 72 v)) ch a c d r)
+        → Went (stepRuns g i u) a c d (record { count = 1; left = r }) × (1 ≤ 1)
+    unfolding stepRuns tailStore
+    tail-went v q x = one-went _ (ap (stepRuns g i) q) d r (x [])
+
+-- an undone entry lies on the card, and so does Tail
+pub undo-placed : (g : Geometry) (i : ℕ) (c : List ℕ) (at : ℕ) → Fitted g c → i < g .blocks → at ≡ entryPlace g i → (at + 16 ≤ length c) × (at % 16 ≡ 0)
+undo-placed g i c at f l e = (omega (arith, f .long, in-card g (entry i) (omega arith) l, place-entry g i), entry-aligned g i at (f .good) e)
+
+pub tail-place-fits : (g : Geometry) (c : List ℕ) → Fitted g c → 72 + 8 ≤ length c
+tail-place-fits g c f = omega (arith, fitted-long g c f)
 
 pub undo-fits : (g : Geometry) (i : ℕ) (u : Step) (e : Entry) → u ≡ Undo e → (undoes u ≡ true → i < g .blocks) → i < g .blocks
 unfolding undoes
@@ -399,7 +393,7 @@ step-fits g c at n f h k = omega (arith, fitted-blocks g c f)
 pub count-fits : (g : Geometry) (c : List ℕ) (i n m k : ℕ) → Fitted g c → n ≡ g .blocks → i ≤ n → m ≤ i → k ≤ 1 → Fits w64 (m + k)
 count-fits g c i n m k f e l h z = omega (arith, fitted-blocks g c f)
 
--- ---- a step as a run, and its count: one law for each of its three forms
+-- ---- a step as a run: one law for each of its three forms
 
 pub run-nothing : (g : Geometry) (i : ℕ) (u : Step) → u ≡ Nothing → NoRun ≡ stepRun g i u
 unfolding stepRun
@@ -412,15 +406,3 @@ run-undo g i u e at q p = ap (λ (x : ℕ). EntryRun x e) p ∙ sym (ap (stepRun
 pub run-tail : (g : Geometry) (i : ℕ) (u : Step) (v : ℕ) → u ≡ Tail v → WordRun 72 v ≡ stepRun g i u
 unfolding stepRun
 run-tail g i u v e = sym (ap (stepRun g i) e)
-
-pub count-nothing : (u : Step) → u ≡ Nothing → 0 ≡ stepCount u
-unfolding stepCount
-count-nothing u e = sym (ap stepCount e)
-
-pub count-undo : (u : Step) (e : Entry) → u ≡ Undo e → 1 ≡ stepCount u
-unfolding stepCount
-count-undo u e q = sym (ap stepCount q)
-
-pub count-tail : (u : Step) (v : ℕ) → u ≡ Tail v → 1 ≡ stepCount u
-unfolding stepCount
-count-tail u v q = sym (ap stepCount q)

@@ -47,12 +47,6 @@ stepRun g i (Tail v) = WordRun 72 v
 unfoldable pub stepStores : Geometry → ℕ → Step → List Store
 stepStores g i u = flat (stepRuns g i u)
 
--- how many they are
-unfoldable pub stepCount : Step → ℕ
-stepCount Nothing = 0
-stepCount (Undo e) = 1
-stepCount (Tail v) = 1
-
 -- the step undoes an entry
 unfoldable pub undoes : Step → Bool
 undoes Nothing = false

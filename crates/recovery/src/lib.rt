@@ -22,7 +22,7 @@ ghost use Rattle.protocol.specs.Store.{tailStore};
 ghost use Rattle.protocol.specs.Map.{madeMap};
 ghost use Rattle.protocol.specs.Recover.{ifChanging, recoverRuns};
 ghost use Rattle.ring.specs.Fitted.{Fitted, WindowOf};
-ghost use Rattle.recovery.specs.Step.{stepRuns, stepRun, stepStores, stepCount, undoes, spelledStores, UndoneBy, Listed, Examined};
+ghost use Rattle.recovery.specs.Step.{stepRuns, stepRun, stepStores, undoes, spelledStores, UndoneBy, Listed, Examined};
 ghost use Rattle.recovery.specs.Went.{Went, Recovered, sameEntry};
 ghost use Rattle.recovery.specs.Blocks.{noted, BlocksNoted};
 
@@ -119,28 +119,24 @@ pub fn run_of(g: Geometry, i: usize, u: Step) -> Run
     }
 }
 
-fn count_of(u: Step) -> u64
-    ensures { λ r. ⌜ r ≡ stepCount u ⌝ }
-{
-    match u {
-        Step::Nothing => 0,
-        Step::Undo(_) => 1,
-        Step::Tail(_) => 1,
-    }
-}
-
-// Makes the step u of place i, where it is one and the credit lets it happen. It goes to no disk, and has no data and no choice.
+// Makes the step u of place i, where it is one and the credit lets it happen: the run that `run_of` tells, without a call where there is none.
 pub fn make_step(g: Geometry, card: &mut [u8], i: usize, u: Step, left: u64) -> Progress
     requires { ⌜ Fitted g (now card) × (undoes u ≡ true → i < g .blocks) ⌝ }
     ensures { λ r. ⌜ Went (stepRuns g i u) left (now (card .entry)) (now (card .exit)) r × (r .count ≤ 1) ⌝ }
 {
-    let mut no_disk = [0u8; 1];
-    let no_bytes = [0u8; 1];
-    let run = run_of(g, i, u);
-    let after = stores::make_run(g, card, &mut no_disk, &no_bytes, run, &no_bytes, left);
-    Progress {
-        count: count_of(u),
-        left: after,
+    match u {
+        Step::Nothing => Progress {
+            count: 0,
+            left: left,
+        },
+        Step::Undo(e) => Progress {
+            count: 1,
+            left: stores::make_entry(card, stores::entry_place(g, i), e, left),
+        },
+        Step::Tail(v) => Progress {
+            count: 1,
+            left: stores::make_word(card, 72, v, left),
+        },
     }
 }
 

@@ -23,12 +23,12 @@ use Rattle.protocol.specs.declared.Geometry.{Geometry}
 use Rattle.protocol.specs.declared.Map.{Map}
 use Rattle.protocol.specs.Entry.{entryBytes}
 use Rattle.protocol.specs.Below.{eachBelow}
-use Rattle.protocol.specs.Layout.{between, goodK, goodSlots, goodGeometry, blockSize, entryPlace, blockPlace, diskPlace, cardLength, diskLength}
-use Rattle.protocol.specs.Store.{Medium, card, disk, Store, Run, Work, isOn, storedOn, madeOn, flat, chosen, landed, made, units, single, storesOf, answerOf, afterOn}
+use Rattle.protocol.specs.Layout.{between, goodK, goodSlots, goodGeometry, blockSize, entryPlace, blockPlace}
+use Rattle.protocol.specs.Store.{Medium, card, Store, Run, Work, isOn, storedOn, madeOn, flat, chosen, landed, made, units, single, storesOf, answerOf, afterOn}
 use Rattle.protocol.specs.Map.{mapOf, handedOn, mapAfter}
 use Rattle.protocol.proofs.Codec.{length-entry}
 use Rattle.protocol.proofs.Stores.{length-made, made-append, flat-append, units-made, length-units, is-on, runs-past, runs-within, runs-covered, single-made, single-cut}
-use Rattle.protocol.proofs.Below.{either, and-left, and-right, below-or-above}
+use Rattle.protocol.proofs.Below.{and-left, and-right, below-or-above}
 use Rattle.protocol.proofs.Checks.{limits}
 use Rattle.protocol.proofs.Region.{block-ends}
 use Rattle.codec.proofs.Laws.{shifted}
@@ -80,27 +80,6 @@ did-none {m} {ch} {a} {xs} = record { made = go a; left = omega arith }
 -- the same runs by another name
 pub did-same : {m : Medium} {rs qs : List Run} {ch : List ℕ} {a : ℕ} {xs ys : List ℕ} {r : ℕ} → rs ≡ qs → Did m rs ch a xs ys r → Did m qs ch a xs ys r
 did-same {m} {rs} {qs} {ch} {a} {xs} {ys} {r} e x = subst (λ (l : List Run). Did m l ch a xs ys r) e x
-
--- each run is ordered by itself, so that no choice is asked
-abbrev pub Ordered : List Run → Type 0
-Ordered [] = Unit
-Ordered (r ∷ rs) = (r .unordered ≡ false) × Ordered rs
-
-made-ordered : (a : ℕ) (ch dh : List ℕ) (rs : List Run) → Ordered rs → made a ch rs ≡ made a dh rs
-unfolding made landed
-made-ordered a ch dh [] o = refl
-made-ordered a ch dh (r ∷ rs) o =
-    rw (o .0)
-    (ap (λ (ss : List Store). cond (leb (length (r .stores)) a) (r .stores ++ ss) []) (made-ordered (a - length (r .stores)) ch dh rs (o .1)))
-
-pub did-any : {m : Medium} {rs : List Run} {ch dh : List ℕ} {a : ℕ} {xs ys : List ℕ} {r : ℕ} → Ordered rs → Did m rs ch a xs ys r → Did m rs dh a xs ys r
-unfolding underCredit
-did-any {m} {rs} {ch} {dh} {a} {xs} {ys} {r} o x =
-    record { made = x .made ∙ ap (λ (ss : List Store). madeOn m ss xs) (go a); left = x .left }
-  where
-    go : (a : ℕ) → underCredit a ch rs ≡ underCredit a dh rs
-    go zero = refl
-    go (suc a) = made-ordered a ch dh rs o
 
 -- a loop over runs: before its first turn, one turn more, and at its end
 pub did-start : (f : ℕ → List Run) {m : Medium} {ch : List ℕ} {a : ℕ} {xs : List ℕ} → Did m (eachBelow f 0) ch a xs xs a

@@ -17,7 +17,7 @@ use Rattle.protocol.proofs.Region.{whole}
 use Rattle.stores.specs.declared.Run.{Run}
 use Rattle.stores.specs.declared.Run.the-variants.{Nothing, Words, Sectors, Entry, Word}
 use Rattle.stores.specs.Did.{cardStore, unfenced, underCredit, Did}
-use Rattle.stores.specs.Told.{told, Placed}
+use Rattle.stores.specs.Told.{told, OnCard, Placed}
 use Rattle.stores.proofs.Laws.{did-none, did-same}
 
 -- ---- the other medium
@@ -33,15 +33,7 @@ did-other : (m o : Medium) (at n : ℕ) (r : Fenced) {ch : List ℕ} {a : ℕ} {
     → Did m (r ∷ []) ch a xs ys q → Did o (r ∷ []) ch a zs zs q
 did-other m o at n r {ch} {a} {xs} {ys} {zs} {q} h d x = record { made = other-stays m o at n r ch a zs h d; left = x .left }
 
--- the run has nothing for the disk
-abbrev pub OnCard : Run → Type 0
-OnCard Nothing = Unit
-OnCard (Words to from) = Unit
-OnCard (Sectors to from) = ⊥
-OnCard (Entry at e) = Unit
-OnCard (Word at v) = Unit
-
--- and so it leaves any disk
+-- a run that has nothing for the disk leaves any
 pub told-beside : (g : Geometry) (run : Run) (s c ch : List ℕ) (a : ℕ) (xs ys zs : List ℕ) (q : ℕ) → OnCard run → Did card (told g run s c) ch a xs ys q
     → Did disk (told g run s c) ch a zs zs q
 unfolding told isOn single wordStore
@@ -84,19 +76,18 @@ module _ (g : Geometry) (run : Run) (s ch : List ℕ) (a : ℕ) (c d : List ℕ)
   unfolding told wordStore
   word-made at v c′ r q x = one-both (wordStore at v) c′ r refl (ap (λ (y : Run). told g y s c) q) (x ch)
 
-  -- the words and the sectors of a block
-  module _ (good : goodGeometry g ≡ true) (size : ℕ) (e : size ≡ blockSize g) (to from r : ℕ) where
-    pub words-made : (c′ : List ℕ) → run ≡ Words to from
-        → ((m : Medium) → Did m (unfenced (units m 8 (size / 8) to (part s from (size / 8 * 8))) ∷ []) ch a c c′ r) → Both g run s ch a c c′ d d r
-    unfolding told isOn
-    words-made c′ q x =
-        let w = whole g (limits g good) .in-words in
-        let us : unfenced (units card 8 (size / 8) to (part s from (size / 8 * 8))) ∷ [] ≡ told g run s c =
-        ap (λ (n : ℕ). unfenced (units card 8 (n / 8) to (part s from (n / 8 * 8))) ∷ []) e
-        ∙ ap (λ (n : ℕ). unfenced (units card 8 (blockSize g / 8) to (part s from n)) ∷ []) w
-        ∙ sym (ap (λ (y : Run). told g y s c) q) in
-        (did-same us (x card), did-same us (did-other card disk to (size / 8 * 8) _ (units-confined card 8 (size / 8) to (part s from (size / 8 * 8))) refl (x card)))
+  -- the words of a block
+  pub words-made : (to from : ℕ) (c′ : List ℕ) (r : ℕ) → run ≡ Words to from
+      → Did card (unfenced (units card 8 (blockSize g / 8) to (part s from (blockSize g))) ∷ []) ch a c c′ r → Both g run s ch a c c′ d d r
+  unfolding told isOn
+  words-made to from c′ r q x =
+      let us = sym (ap (λ (y : Run). told g y s c) q) in (
+        did-same us x,
+        did-same us (did-other card disk to (blockSize g / 8 * 8) _ (units-confined card 8 (blockSize g / 8) to (part s from (blockSize g))) refl x),
+      )
 
+  -- the sectors
+  module _ (good : goodGeometry g ≡ true) (size : ℕ) (e : size ≡ blockSize g) (to from r : ℕ) where
     pub sectors-made : (d′ : List ℕ) → run ≡ Sectors to from
         → ((m : Medium) → Did m (unfenced (units m 512 (size / 512) to (part c from (size / 512 * 512))) ∷ []) ch a d d′ r) → Both g run s ch a c c d d′ r
     unfolding told isOn
@@ -105,11 +96,28 @@ module _ (g : Geometry) (run : Run) (s ch : List ℕ) (a : ℕ) (c d : List ℕ)
         let us : unfenced (units disk 512 (size / 512) to (part c from (size / 512 * 512))) ∷ [] ≡ told g run s c =
         ap (λ (n : ℕ). unfenced (units disk 512 (n / 512) to (part c from (n / 512 * 512))) ∷ []) e
         ∙ ap (λ (n : ℕ). unfenced (units disk 512 (blockSize g / 512) to (part c from n)) ∷ []) w
-        ∙ sym (ap (λ (y : Run). told g y s c) q) in
-        (
+        ∙ sym (ap (λ (y : Run). told g y s c) q) in (
           did-same us (did-other disk card to (size / 512 * 512) _ (units-confined disk 512 (size / 512) to (part c from (size / 512 * 512))) refl (x disk)),
           did-same us (x disk),
         )
+
+-- whole blocks are units of 8 bytes
+pub words-whole : (g : Geometry) → goodGeometry g ≡ true → (size : ℕ) → size ≡ blockSize g → (to from a : ℕ) (s ch xs ys : List ℕ) (r : ℕ)
+    → ((m : Medium) → Did m (unfenced (units m 8 (size / 8) to (part s from (size / 8 * 8))) ∷ []) ch a xs ys r)
+    → Did card (unfenced (units card 8 (blockSize g / 8) to (part s from (blockSize g))) ∷ []) ch a xs ys r
+words-whole g good size e to from a s ch xs ys r x =
+    let w = whole g (limits g good) .in-words in
+    did-same
+    (ap (λ (n : ℕ). unfenced (units card 8 (n / 8) to (part s from (n / 8 * 8))) ∷ []) e
+    ∙ ap (λ (n : ℕ). unfenced (units card 8 (blockSize g / 8) to (part s from n)) ∷ []) w)
+    (x card)
+
+pub words-fit : (g : Geometry) → goodGeometry g ≡ true → (size : ℕ) → size ≡ blockSize g → (to from n s h : ℕ) → to + blockSize g ≤ n → from + blockSize g ≤ s
+    → blockSize g / 8 ≤ h → (3 ≤ 9) × (size / 8 ≤ 512) × (to + size / 8 * 8 ≤ n) × (from + size / 8 * 8 ≤ s) × (size / 8 ≤ h)
+words-fit g good size e to from n s h x y z =
+    let l = limits g good in
+    let w = whole g l .in-words in
+    (omega arith, omega arith, omega arith, omega arith, omega arith)
 
 -- ---- what each kind asks
 
@@ -117,18 +125,13 @@ module _ (g : Geometry) (run : Run) (n d s h : ℕ) (p : Placed g run n d s h) w
   pub entry-asked : (at : ℕ) (e : Fields) → run ≡ Entry at e → (at + 16 ≤ n) × (at % 16 ≡ 0)
   entry-asked at e q = subst (λ (x : Run). Placed g x n d s h) q p
 
+  pub words-asked : (to from : ℕ) → run ≡ Words to from → (to + blockSize g ≤ n) × (from + blockSize g ≤ s) × (blockSize g / 8 ≤ h)
+  words-asked to from q = subst (λ (x : Run). Placed g x n d s h) q p
+
   pub word-asked : (at v : ℕ) → run ≡ Word at v → at + 8 ≤ n
   word-asked at v q = subst (λ (x : Run). Placed g x n d s h) q p
 
   module _ (good : goodGeometry g ≡ true) (size : ℕ) (e : size ≡ blockSize g) (to from : ℕ) where
-    pub words-asked : run ≡ Words to from
-        → (3 ≤ 9) × (size / 8 ≤ 512) × (to + size / 8 * 8 ≤ n) × (from + size / 8 * 8 ≤ s) × (size / 8 ≤ h)
-    words-asked q =
-        let (x, y, z) = subst (λ (r : Run). Placed g r n d s h) q p in
-        let l = limits g good in
-        let w = whole g l .in-words in
-        (omega arith, omega arith, omega arith, omega arith, omega arith)
-
     pub sectors-asked : run ≡ Sectors to from
         → (9 ≤ 9) × (size / 512 ≤ 512) × (to + size / 512 * 512 ≤ d) × (from + size / 512 * 512 ≤ n) × (size / 512 ≤ h)
     sectors-asked q =

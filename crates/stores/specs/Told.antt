@@ -19,6 +19,14 @@ told g (Sectors to from) s c = unfenced (units disk 512 (blockSize g / 512) to (
 told g (Entry at e) s c = single (cardStore at (entryBytes e))
 told g (Word at v) s c = single (wordStore at v)
 
+-- the run has nothing for the disk
+abbrev pub OnCard : Run → Type 0
+OnCard Nothing = Unit
+OnCard (Words to from) = Unit
+OnCard (Sectors to from) = ⊥
+OnCard (Entry at e) = Unit
+OnCard (Word at v) = Unit
+
 -- it lies on its medium, and so do its bytes: a card of n bytes, a disk of d, data of s; and the choice has a byte for each of its stores, h of them
 abbrev pub Placed : Geometry → Run → ℕ → ℕ → ℕ → ℕ → Type 0
 Placed g Nothing n d s h = Unit

@@ -8,11 +8,11 @@ use protocol::Stored;
 ghost use mathlib.Core.Path.{_≡_};
 ghost use mathlib.Core.List.{List, [], _∷_};
 ghost use mathlib.Core.Bool.{true, cond};
-ghost use Prim.Native.Nat.{ℕ, _+_, _*_, _%_, _^_, _≤_, _<_, min};
+ghost use Prim.Native.Nat.{ℕ, _+_, _*_, _/_, _%_, _^_, _≤_, _<_, min};
 ghost use lib.ListN.{length};
 ghost use lib.Dec.{ltb};
 ghost use Rattle.numbers.specs.Bytes.{part};
-ghost use Rattle.protocol.specs.Layout.{goodGeometry, entryPlace, blockPlace, diskPlace};
+ghost use Rattle.protocol.specs.Layout.{goodGeometry, blockSize, entryPlace, blockPlace, diskPlace};
 ghost use Rattle.protocol.specs.Entry.{entryBytes};
 ghost use Rattle.protocol.specs.Map.{handedOn};
 ghost use Rattle.protocol.specs.Store.{Medium, madeOn, chosen, units, single, wordStore};
@@ -33,7 +33,7 @@ pub fn credit(most: u64, allowance: u64) -> u64
 }
 
 // The word v at byte `at` of the card.
-fn make_word(s: &mut [u8], at: usize, v: u64, left: u64) -> u64
+pub fn make_word(s: &mut [u8], at: usize, v: u64, left: u64) -> u64
     requires { ⌜ at + 8 ≤ length (now s) ⌝ }
     ensures { λ r. ⌜ ((ch : List ℕ) → Did Medium.card (single (wordStore at v)) ch left (now (s .entry)) (now (s .exit)) r) ⌝ }
 {
@@ -46,7 +46,7 @@ fn make_word(s: &mut [u8], at: usize, v: u64, left: u64) -> u64
 
 // The entry e at byte `at` of the card, an entry's place. Its bytes are staged, so that one move of sixteen bytes stores them. They are put at
 // at % 16, which is 0, and the compiler does not know it: of bytes put at a place that it knows it would store each by itself.
-fn make_entry(s: &mut [u8], at: usize, e: Entry, left: u64) -> u64
+pub fn make_entry(s: &mut [u8], at: usize, e: Entry, left: u64) -> u64
     requires { ⌜ (at + 16 ≤ length (now s)) × (at % 16 ≡ 0) ⌝ }
     ensures { λ r. ⌜ ((ch : List ℕ) → Did Medium.card (single (cardStore at (entryBytes e))) ch left (now (s .entry)) (now (s .exit)) r) ⌝ }
 {
@@ -108,6 +108,23 @@ fn make_units(
     0
 }
 
+// The words of a data block, at byte `to` of the card, with the bytes of src from `from` on.
+pub fn make_words(
+    g: Geometry,
+    card: &mut [u8],
+    to: usize,
+    src: &[u8],
+    from: usize,
+    choice: &[u8],
+    left: u64,
+) -> u64
+    requires { ⌜ (goodGeometry g ≡ true) × (to + blockSize g ≤ length (now card)) × (from + blockSize g ≤ length (now src)) × (blockSize g / 8 ≤ length (now choice)) ⌝ }
+    ensures { λ r. ⌜ Did Medium.card (unfenced (units Medium.card 8 (blockSize g / 8) to (part (now (src .entry)) from (blockSize g))) ∷ []) (now (choice .entry)) left (now (card .entry)) (now (card .exit)) r ⌝ }
+{
+    let count = codec::block_size(g) / 8;
+    make_units(card, to, src, from, 3, count as usize, choice, left)
+}
+
 // A run of a call's list: the words of a data block, at a place of the card and from an offset of the data; the sectors of a disk block, at a place
 // of the disk and from a place of the card; an entry or a word at a place of the card; or nothing, where a list leaves a place out.
 pub enum Run {
@@ -134,10 +151,7 @@ pub fn make_run(
 {
     match run {
         Run::Nothing => left,
-        Run::Words(to, from) => {
-            let count = codec::block_size(g) / 8;
-            make_units(card, to, data, from, 3, count as usize, choice, left)
-        }
+        Run::Words(to, from) => make_words(g, card, to, data, from, choice, left),
         Run::Sectors(to, from) => {
             let count = codec::block_size(g) / 512;
             make_units(disk, to, card, from, 9, count as usize, choice, left)

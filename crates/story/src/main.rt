@@ -201,16 +201,22 @@ fn refusals(card: &mut [u8], map: Map) -> Map {
     save_two(card, m2, 5, 14, 13, 0)
 }
 
-// A save cut in its second block's words, of which only the last is made, and taken back; and choices that do not fit.
+// A save cut in its second block's words, of which only the last is made, and taken back.
 fn fifth_part(card: &mut [u8], disk: &[u8], map: Map) -> Map {
     let mut last = [0u8; 64];
     last[63] = 1;
-    let m1 = save_choosing(card, map, 5, 14, 15, &last, 68);
+    let m1 = save_choosing(card, map, 3, 14, 15, &last, 68);
     print::state(lookup::state(card));
     let m2 = recover(card, m1, AMPLE);
-    read(card, disk, 5);
-    let m3 = save_choosing(card, m2, 5, 14, 15, &last[..63], AMPLE);
-    save_choosing(card, m3, 5, 14, 15, &[2u8; 64], AMPLE)
+    read(card, disk, 3);
+    read(card, disk, 14);
+    m2
+}
+
+// Choices that do not fit.
+fn wrong_choices(card: &mut [u8], map: Map) -> Map {
+    let m = save_choosing(card, map, 3, 14, 15, &[1u8; 63], AMPLE);
+    save_choosing(card, m, 3, 14, 15, &[2u8; 64], AMPLE)
 }
 
 // A load of which all words are made and no entry, and an evict whose one sector is made though no store is allowed: both blocks are read as before.
@@ -255,10 +261,9 @@ fn second_half(card: &mut [u8], disk: &mut [u8], map: Map) -> Map {
 fn ending(card: &mut [u8], disk: &mut [u8], map: Map) {
     let m1 = refusals(card, map);
     let m2 = last_part(card, disk, m1);
-    let m3 = fifth_part(card, disk, m2);
-    let m4 = chosen_moves(card, disk, m3);
-    free(m4);
-    print::state(lookup::state(card));
+    let m3 = chosen_moves(card, disk, m2);
+    let m4 = fifth_part(card, disk, m3);
+    free(wrong_choices(card, m4));
 }
 
 fn main() {

@@ -340,7 +340,10 @@ pub extern "C" fn tinca_commit(
     ensures map { λ r. ⌜ now (map .exit) ≡ wordsAfter (answerOf allowance (commitWork (now (card .entry)) (lentMap (now (card .entry)) (now (map .entry))) (now (numbers .entry)) (now (bytes .entry)) (now (choice .entry)))) (mapAfter allowance (commitWork (now (card .entry)) (lentMap (now (card .entry)) (now (map .entry))) (now (numbers .entry)) (now (bytes .entry)) (now (choice .entry))) (now (card .entry)) (lentMap (now (card .entry)) (now (map .entry)))) (now (map .entry)) ⌝ }
 {
     let m = lent(card, map);
-    handed(map, commit::commit(card, m, numbers, bytes, choice, allowance))
+    handed(
+        map,
+        commit::commit(card, m, numbers, bytes, choice, allowance),
+    )
 }
 
 #[no_mangle]
@@ -390,7 +393,10 @@ pub extern "C" fn tinca_evict(
     ensures map { λ r. ⌜ now (map .exit) ≡ wordsAfter (answerOf allowance (evictWork (now (card .entry)) (now (disk .entry)) (lentMap (now (card .entry)) (now (map .entry))) block (now (choice .entry)))) (mapAfter allowance (evictWork (now (card .entry)) (now (disk .entry)) (lentMap (now (card .entry)) (now (map .entry))) block (now (choice .entry))) (now (card .entry)) (lentMap (now (card .entry)) (now (map .entry)))) (now (map .entry)) ⌝ }
 {
     let m = lent(card, map);
-    handed(map, transfer::evict(card, disk, m, block, choice, allowance))
+    handed(
+        map,
+        transfer::evict(card, disk, m, block, choice, allowance),
+    )
 }
 
 #[no_mangle]

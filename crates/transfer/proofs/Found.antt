@@ -12,7 +12,7 @@ use Rattle.protocol.specs.declared.Entry.{Entry}
 use Rattle.protocol.specs.declared.Geometry.{Geometry}
 use Rattle.protocol.specs.declared.Map.{Map}
 use Rattle.protocol.specs.Below.{anyBelow, countBelow, around}
-use Rattle.protocol.specs.Layout.{goodGeometry, geometryOf, blockSize, blockPlace, diskPlace, diskLength}
+use Rattle.protocol.specs.Layout.{goodGeometry, geometryOf, blockSize, diskLength}
 use Rattle.protocol.specs.Ring.{findEntry, cached, currentOf}
 use Rattle.protocol.specs.Check.{refuse, _orElse_, goodEntryAt, entriesFit}
 use Rattle.protocol.specs.Entry.{entryAt}
@@ -24,8 +24,7 @@ use Rattle.protocol.specs.Load.{loadRefusal, evictRuns, evictRefusal}
 use Rattle.protocol.proofs.Below.{all-at}
 use Rattle.protocol.proofs.Allowed.{bounded}
 use Rattle.protocol.proofs.Checks.{Limits, limits, refuse-passed, refuse-failed, refuse-none, orElse-first, orElse-next, orElse-none}
-use Rattle.protocol.proofs.Region.{block, in-card, place-block}
-use Rattle.protocol.proofs.Made.{in-disk}
+use Rattle.protocol.proofs.Region.{block}
 use Rattle.protocol.proofs.Left.{evict-map}
 use Rattle.ring.specs.Fitted.{Fitted}
 use Rattle.ring.proofs.Laws.{fitted-blocks, fitted-disk}

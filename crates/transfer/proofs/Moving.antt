@@ -8,7 +8,7 @@ use mathlib.Core.Logic.{⊎-elim}
 use native.Mathlib.Numerals.{add-one}
 use native.Mathlib.Omega.{arith}
 use lib.ListN.{length, length-append}
-use lib.Dec.{eqb, ltb}
+use lib.Dec.{ltb}
 use borrow.Author.Tests.{eq-eqb, ne-eqb, not-true, not-false}
 use Rattle.protocol.specs.declared.Answer.{Answer}
 use Rattle.protocol.specs.declared.Answer.the-variants.{Done, Cut, Refused}
@@ -16,7 +16,7 @@ use Rattle.protocol.specs.declared.Entry.{Entry as Fields}
 use Rattle.protocol.specs.declared.Geometry.{Geometry}
 use Rattle.protocol.specs.declared.Map.{Map}
 use Rattle.protocol.specs.declared.Stored.{Stored}
-use Rattle.protocol.specs.Layout.{goodGeometry, blockSize, entryPlace, blockPlace, diskPlace, blockAt, diskBlock, cardLength, diskLength}
+use Rattle.protocol.specs.Layout.{goodGeometry, blockSize, entryPlace, blockPlace, diskPlace, blockAt, diskBlock, diskLength}
 use Rattle.protocol.specs.Entry.{FRESH, unused, entryOf, entryAt, isModified}
 use Rattle.protocol.specs.Ring.{findEntry, currentOf}
 use Rattle.protocol.specs.Store.{Medium, card, disk, Store, Run as Fenced, Work, madeOn, flat, made, units, words, sectors, entryStore, single, storesOf, afterOn}
@@ -35,7 +35,7 @@ use Rattle.stores.specs.declared.Run.the-variants.{Nothing, Words, Sectors, Ent
 use Rattle.stores.specs.Did.{underCredit, Did}
 use Rattle.stores.specs.Told.{told, Placed}
 use Rattle.stores.proofs.Laws.{did-then, did-same, entry-aligned, refused-answer, refused-after, refused-map, made-answer, made-map}
-use Rattle.stores.proofs.Tells.{OnCard, told-beside}
+use Rattle.stores.proofs.Tells.{told-beside}
 use Rattle.transfer.specs.declared.Room.{Room}
 use Rattle.transfer.specs.declared.Place.{Place}
 use Rattle.transfer.specs.Examined.{Roomed, Located}
@@ -243,7 +243,6 @@ module _ (w : Work) (a : ℕ) (m : Map) (c d : List ℕ) (s : ℕ) (e : s ≡ w 
         card = x .card ∙ after card c;
         disk = x .disk ∙ after disk d;
       }
-
     where
       after : (k : Medium) (xs : List ℕ) → madeOn k (made a (w .choice) (w .runs)) xs ≡ afterOn k a w xs
       after k xs = rw (← e, eq-eqb s 0 z)

@@ -183,14 +183,7 @@ fn make_load(
 }
 
 // Copies an uncached disk block into the first free data block, then stores the first unused entry for it, clean.
-pub fn load(
-    card: &mut [u8],
-    disk: &[u8],
-    map: Map,
-    b: u64,
-    choice: &[u8],
-    allowance: u64,
-) -> Stored
+pub fn load(card: &mut [u8], disk: &[u8], map: Map, b: u64, choice: &[u8], allowance: u64) -> Stored
     ensures { λ r. ⌜ Finished (loadWork (now (card .entry)) (now (disk .entry)) map b (now (choice .entry))) allowance map (now (card .entry)) (now (card .exit)) (now (disk .entry)) (now (disk .exit)) r ⌝ }
 {
     let room = find_room(card, disk, map, b, choice);
@@ -201,16 +194,7 @@ pub fn load(
         };
     }
     let g = room.geometry;
-    let answer = make_load(
-        g,
-        card,
-        disk,
-        b,
-        room.block,
-        room.entry,
-        choice,
-        allowance,
-    );
+    let answer = make_load(g, card, disk, b, room.block, room.entry, choice, allowance);
     stores::hand_on(answer, map, room.map)
 }
 

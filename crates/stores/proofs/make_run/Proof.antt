@@ -12,26 +12,25 @@ enum-told c = search needs
 enum-known-run : tie.Need-enum-known-run
 enum-known-run c = search needs
 
+make-words-requires : tie.Need-make-words-requires
+make-words-requires c κs =
+    let s = c .before .before .before .before .before .before .before .before in
+    let w =
+    words-asked (s .args .g) (s .args .run) (length (now (s .args .card))) (length (now (s .args .disk))) (length (now (s .args .«data»)))
+    (length (now (s .args .choice))) (s .pre .1) _ _ (c .before .before .run .given .1) in
+    (s .pre .0, w .0, w .1, w .2)
+
+enum-known-run-2 : tie.Need-enum-known-run-2
+enum-known-run-2 c = search needs
+
 block-size-requires : tie.Need-block-size-requires
 block-size-requires c κs = search needs
 
 make-units-requires : tie.Need-make-units-requires
 make-units-requires c κs =
-    let s = c .before .before .before .before .before .before .before .before .before in
-    words-asked (s .args .g) (s .args .run) (length (now (s .args .card))) (length (now (s .args .disk))) (length (now (s .args .«data»)))
-    (length (now (s .args .choice))) (s .pre .1) (s .pre .0) _ (c .before .block-size .ensures) _ _ (c .before .before .before .run .given .1)
-
-enum-known-run-2 : tie.Need-enum-known-run-2
-enum-known-run-2 c = search needs
-
-block-size-requires-2 : tie.Need-block-size-requires-2
-block-size-requires-2 c κs = search needs
-
-make-units-requires-2 : tie.Need-make-units-requires-2
-make-units-requires-2 c κs =
     let s = c .before .before .before .before .before .before .before .before .before .before in
     sectors-asked (s .args .g) (s .args .run) (length (now (s .args .card))) (length (now (s .args .disk))) (length (now (s .args .«data»)))
-    (length (now (s .args .choice))) (s .pre .1) (s .pre .0) _ (c .before .before .block-size2 .ensures) _ _ (c .before .before .before .before .run2 .given .1)
+    (length (now (s .args .choice))) (s .pre .1) (s .pre .0) _ (c .before .before .block-size .ensures) _ _ (c .before .before .before .before .run2 .given .1)
 
 enum-known-run-3 : tie.Need-enum-known-run-3
 enum-known-run-3 c = search needs
@@ -58,10 +57,7 @@ same-length : tie.Need-same-length
 same-length c = search needs
 
 returns-2 : tie.Need-returns-2
-returns-2 c =
-    let u = c .before .before in
-    let k = u .before .before in
-    words-made _ _ _ _ _ _ _ (c .before .before .before .before .before .before .before .before .before .before .before .before .pre .0) _ (k .block-size .ensures) _ _ _ _ (k .before .before .run .given .1) (u .make-units .ensures)
+returns-2 c = let u = c .before .before in words-made _ _ _ _ _ _ _ _ _ _ _ (u .before .before .before .run .given .1) (u .make-words .ensures)
 
 same-length-2 : tie.Need-same-length-2
 same-length-2 c = search needs
@@ -73,7 +69,7 @@ returns-3 : tie.Need-returns-3
 returns-3 c =
     let u = c .before .before in
     let k = u .before .before .before in
-    sectors-made _ _ _ _ _ _ _ (c .before .before .before .before .before .before .before .before .before .before .before .before .before .pre .0) _ (k .block-size2 .ensures) _ _ _ _ (k .before .before .run2 .given .1) (u .make-units2 .ensures)
+    sectors-made _ _ _ _ _ _ _ (c .before .before .before .before .before .before .before .before .before .before .before .before .before .pre .0) _ (k .block-size .ensures) _ _ _ _ (k .before .before .run2 .given .1) (u .make-units .ensures)
 
 same-length-4 : tie.Need-same-length-4
 same-length-4 c = search needs
@@ -89,6 +85,6 @@ returns-5 c = let u = c .before .before in word-made _ _ _ _ _ _ _ _ _ _ _ (u .b
 
 pub make-run-spec : {M : Type 1} → statement M
 make-run-spec =
-    tie.close (tie.spec enum-told enum-known-run block-size-requires make-units-requires enum-known-run-2 block-size-requires-2 make-units-requires-2
+    tie.close (tie.spec enum-told enum-known-run make-words-requires enum-known-run-2 block-size-requires make-units-requires
     enum-known-run-3 make-entry-requires enum-known-run-4 make-word-requires returns same-length returns-2 same-length-2 same-length-3 returns-3
     same-length-4 returns-4 same-length-5 returns-5)
