@@ -138,7 +138,7 @@ unfolding eachBelow
 each-same f h zero e = refl
 each-same f h (suc n) e = λ t. each-same f h n (λ i l. e i (omega arith)) t ++ e n (omega arith) t
 
-each-plus : (f : ℕ → List Fenced) (a b : ℕ) → eachBelow f (a + b) ≡ eachBelow f a ++ eachBelow (λ i. f (a + i)) b
+pub each-plus : (f : ℕ → List Fenced) (a b : ℕ) → eachBelow f (a + b) ≡ eachBelow f a ++ eachBelow (λ i. f (a + i)) b
 unfolding eachBelow
 each-plus f a zero =
     let e : a + 0 ≡ a = omega arith in

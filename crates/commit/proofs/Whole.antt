@@ -2,13 +2,13 @@
 -- needs. Assumes nothing.
 use Prim.Native.Nat.{ℕ, _+_, _*_, _/_, _≤_, _<_, min}
 use mathlib.Core.List.{List, _++_}
-use mathlib.Core.Bool.{cond}
+use mathlib.Core.Bool.{true, cond}
 use mathlib.Core.Path.{_≡_, refl, sym, ap, subst, _∙_}
 use native.Mathlib.Nat.{mul-le-mul}
 use native.Mathlib.Omega.{arith}
 use lib.ListN.{length, getD}
 use lib.Dec.{ltb, leb}
-use borrow.Author.Tests.{ltb-true, leb-true}
+use borrow.Author.Tests.{ltb-true, leb-true, le-leb}
 use Rattle.protocol.specs.declared.Answer.{Answer}
 use Rattle.protocol.specs.declared.Answer.the-variants.{Done, Cut, Refused}
 use Rattle.protocol.specs.declared.Geometry.{Geometry}
@@ -18,24 +18,26 @@ use Rattle.protocol.specs.Below.{around}
 use Rattle.protocol.specs.Layout.{geometryOf, blockSize}
 use Rattle.protocol.specs.Entry.{entryOf, switched}
 use Rattle.protocol.specs.Ring.{headOf}
-use Rattle.protocol.specs.Check.{choiceFits}
+use Rattle.protocol.specs.Check.{refuse, fitRefusal, cardRefusal, choiceFits}
 use Rattle.protocol.specs.Store.{card, single, entryStore, tailStore, storesOf}
-use Rattle.protocol.specs.Map.{handedOn}
-use Rattle.protocol.specs.Commit.{numberOf, entryFound, logEntry, headAfter, blockRuns, switchRuns, commitRuns, commitRefusal, commitWork, numberFits, numbersFit}
+use Rattle.protocol.specs.Map.{mapBy, isMarked, mapOf, sameMap, mapRefusal, handedOn}
+use Rattle.protocol.specs.Commit.{numberOf, entryFound, logEntry, headAfter, blockRuns, switchRuns, commitRuns, commitRefusal, commitWork, numberFits, numbersFit, roomFor}
 use Rattle.protocol.proofs.Below.{all-at, and-left}
-use Rattle.protocol.proofs.Checks.{Limits, limits}
+use Rattle.protocol.proofs.Checks.{Limits, limits, orElse-none, refuse-none}
 use Rattle.protocol.proofs.Left.{commit-map}
 use Rattle.ring.specs.Fitted.{Fitted}
 use Rattle.checks.specs.Keys.{keyAt}
+use Rattle.checks.specs.Passed.{Indexed}
 use Rattle.plan.specs.declared.Admitted.{Admitted}
-use Rattle.plan.specs.Planned.{Planned, Plannable, Admission}
+use Rattle.plan.specs.Planned.{Homes, Planned, Plannable, Admission}
 use Rattle.plan.specs.Request.{choiceRoom}
 use Rattle.plan.proofs.Count.{runs-count}
-use Rattle.plan.proofs.Bounds.{Passed, passed, choice-passed, few-numbers, new-below, entry-below}
+use Rattle.plan.proofs.Bounds.{Passed, passed, late-passed, few-numbers, new-below, entry-below, unused-room}
+use Rattle.plan.proofs.Order.{map-eq}
 use Rattle.stores.specs.Did.{Did}
 use Rattle.stores.proofs.Laws.{did-same, refused-answer, refused-after, refused-map, made-answer, made-after, made-map}
 use Rattle.commit.specs.Making.{stepRuns, plannedEntry, planBy, plannedBlock, plannedSwitch, plannedRuns, Named, Ready}
-use Rattle.commit.specs.Committed.{Committed}
+use Rattle.commit.specs.Committed.{Committed, Savable, Saved}
 use Rattle.commit.proofs.Places.{each-same}
 
 -- ---- the plan's runs are the definition's
@@ -66,6 +68,13 @@ module _ (g : Geometry) (c ns bs es ps qs : List ℕ) (m : Map) (x : Planned g c
 
 -- ---- what the checks have passed
 
+-- the map that a commit gets is the card's
+own-map : (c : List ℕ) (m : Map) (ns bs ch : List ℕ) → commitRefusal c m ns bs ch ≡ 0 → m ≡ mapBy (isMarked (geometryOf c) c)
+unfolding commitRefusal mapRefusal mapOf
+own-map c m ns bs ch z =
+    let rest = orElse-none (cardRefusal (geometryOf c) c) _ (orElse-none (fitRefusal c) _ z .1) .1 in
+    map-eq _ _ (refuse-none 15 _ (omega arith) (orElse-none (refuse 15 (sameMap m (mapBy (isMarked (geometryOf c) c)))) _ rest .0))
+
 module _ (c : List ℕ) (m : Map) (ns bs ch xs : List ℕ) (s : Admitted) (room : ℕ) (k : room ≡ choiceRoom ch)
     (x : Admission c m ns (length bs) room xs s) where
   refusal-is : s .refusal ≡ commitRefusal c m ns bs ch
@@ -81,84 +90,114 @@ module _ (c : List ℕ) (m : Map) (ns bs ch xs : List ℕ) (s : Admitted) (room 
   }
 
   module _ (z : s .refusal ≡ 0) where
-    pub commit-plans : Plannable (s .geometry) c (s .head) xs m ns
-    commit-plans = x .plannable z
+    pub commit-finds : (length ns ≤ 128) × Indexed (s .geometry) c xs × (numbersFit (s .geometry) ns ≡ true)
+    commit-finds =
+        let f = x .findable z in
+        (few-numbers (passed c m ns bs ch (sym refusal-is ∙ z)), f .indexed, f .numbers)
 
-    commit-passed : Passed (geometryOf c) c ns bs
-    commit-passed = passed c m ns bs ch (sym refusal-is ∙ z)
+    pub commit-savable : (es ps : List ℕ) → Homes (s .geometry) c ns es ps → Savable (s .geometry) c (s .head) m ns bs ch es ps
+    commit-savable es ps h = record {
+      own = x .geometry-is z;
+      head = x .findable z .plannable .head;
+      passes = sym refusal-is ∙ z;
+      homes = h;
+    }
 
-    pub commit-fitted : Fitted (s .geometry) c
-    commit-fitted = commit-plans .indexed .fitted
+-- ---- what is made
 
-    pub commit-few : length ns < s .geometry .slots
-    commit-few =
-        let v = commit-passed in
-        let l : Limits (geometryOf c) = limits (geometryOf c) (v .fitted .good) in
-        rw (x .geometry-is z) (omega (arith, v .count))
+module _ (g : Geometry) (c : List ℕ) (h : ℕ) (m : Map) (ns bs ch zs ps : List ℕ) (v : Savable g c h m ns bs ch zs ps) where
+  has-passed : Passed (geometryOf c) c ns bs
+  has-passed = passed c m ns bs ch (v .passes)
 
-    pub commit-wide : blockSize (s .geometry) / 8 ≤ length ch
-    unfolding choiceFits
-    commit-wide =
-        let f = choice-passed c m ns bs ch (sym refusal-is ∙ z) in
-        rw (x .geometry-is z) (leb-true _ _ (and-left (leb (blockSize (geometryOf c) / 8) (length ch)) _ f))
+  pub save-fitted : Fitted g c
+  save-fitted = subst (λ (y : Geometry). Fitted y c) (sym (v .own)) (has-passed .fitted)
 
-    -- no number has high bytes
-    numbers-low : (i : ℕ) → i < length ns → getD ns i 0 < 4294967296
-    unfolding numbersFit numberFits numberOf
-    numbers-low i l =
-        let k : Limits (s .geometry) = limits (s .geometry) (commit-fitted .good) in
-        let b : getD ns i 0 < s .geometry .disk = ltb-true _ _ (all-at (numberFits (s .geometry) ns) (length ns) i (commit-plans .numbers) l) in
-        omega arith
+  pub save-plans : Plannable g c h m ns
+  unfolding roomFor
+  save-plans =
+      let p = has-passed in
+      record {
+        fitted = save-fitted;
+        head = v .head;
+        map-is = own-map c m ns bs ch (v .passes) ∙ ap (λ (y : Geometry). mapBy (isMarked y c)) (sym (v .own));
+        room = rw (v .own) (le-leb _ _ (p .room));
+        unused = rw (v .own) (unused-room p);
+      }
 
-    module _ (es ps qs : List ℕ) (u : Map) (y : Planned (s .geometry) c ns es ps qs u) where
-      own-plan : Planned (geometryOf c) c ns es ps qs u
-      own-plan = subst (λ (g : Geometry). Planned g c ns es ps qs u) (x .geometry-is z) y
+  pub save-few : length ns < g .slots
+  save-few =
+      let p = has-passed in
+      let l : Limits (geometryOf c) = limits (geometryOf c) (p .fitted .good) in
+      rw (v .own) (omega (arith, p .count))
 
-      pub commit-ready : Ready (s .geometry) (planBy es ps qs) (s .head) ns bs
-      unfolding keyAt
-      commit-ready =
-          let v = commit-passed in
-          let p = own-plan in
-          let e = x .geometry-is z in
-          let named : Named (geometryOf c) (planBy es ps qs) ns =
-          record {
-            few = few-numbers v;
-            entries = λ i l. subst (λ (k : ℕ). k < geometryOf c .blocks) (sym (p .entries i l)) (entry-below v i l);
-            blocks = λ i l. subst (λ (k : ℕ). k < geometryOf c .blocks) (sym (p .blocks i l)) (new-below v i l);
-            low = numbers-low;
-          } in
-          record {
-            named = subst (λ (g : Geometry). Named g (planBy es ps qs) ns) (sym e) named;
-            count = commit-few;
-            head = rw (e, commit-plans .head) (v .head);
-            sized = rw e (v .sized);
-          }
+  pub save-wide : blockSize g / 8 ≤ length ch
+  unfolding choiceFits
+  save-wide =
+      let f = late-passed c m ns bs ch (v .passes) .0 in
+      rw (v .own) (leb-true _ _ (and-left (leb (blockSize (geometryOf c) / 8) (length ch)) _ f))
 
-      pub commit-made : (a n k r : ℕ) (d : List ℕ) (w : Answer) (t : Stored) → n ≡ length ns * (blockSize (s .geometry) / 8 + 4) + 1 → k ≡ min n a + 1
-          → Did card (plannedRuns (s .geometry) (planBy es ps qs) (s .head) ns bs) ch k c d r → w ≡ cond (ltb a n) Cut (Done n)
-          → (t .answer ≡ w) × (t .map ≡ handedOn w m u) → Committed c m ns bs ch a t d
-      unfolding commitWork storesOf
-      commit-made a n k r d w t v f made h o =
-          let g₀ = geometryOf c in
-          let p = own-plan in
-          let e = x .geometry-is z in
-          let q = commit-plans .head in
-          let count = v ∙ ap (λ (y : Geometry). length ns * (blockSize y / 8 + 4) + 1) e ∙ sym (runs-count g₀ c ns bs) in
-          let answered = made-answer (commitWork c m ns bs ch) a (s .refusal) refusal-is z n w count h in
-          let left = p .map-is ∙ sym (commit-map c m ns bs ch (sym refusal-is ∙ z)) in
-          record {
+  -- no number has high bytes
+  numbers-low : (i : ℕ) → i < length ns → getD ns i 0 < 4294967296
+  unfolding numbersFit numberFits numberOf
+  numbers-low i l =
+      let p = has-passed in
+      let k : Limits (geometryOf c) = limits (geometryOf c) (p .fitted .good) in
+      let b : getD ns i 0 < geometryOf c .disk = ltb-true _ _ (all-at (numberFits (geometryOf c) ns) (length ns) i (late-passed c m ns bs ch (v .passes) .1) l) in
+      omega arith
+
+  module _ (es qs : List ℕ) (u : Map) (y : Planned g c ns es ps qs u) where
+    own-plan : Planned (geometryOf c) c ns es ps qs u
+    own-plan = subst (λ (k : Geometry). Planned k c ns es ps qs u) (v .own) y
+
+    pub save-ready : Ready g (planBy es ps qs) h ns bs
+    unfolding keyAt
+    save-ready =
+        let w = has-passed in
+        let p = own-plan in
+        let e = v .own in
+        let named : Named (geometryOf c) (planBy es ps qs) ns =
+        record {
+          few = few-numbers w;
+          entries = λ i l. subst (λ (k : ℕ). k < geometryOf c .blocks) (sym (p .entries i l)) (entry-below w i l);
+          blocks = λ i l. subst (λ (k : ℕ). k < geometryOf c .blocks) (sym (p .blocks i l)) (new-below w i l);
+          low = numbers-low;
+        } in
+        record {
+          named = subst (λ (k : Geometry). Named k (planBy es ps qs) ns) (sym e) named;
+          count = save-few;
+          head = rw (e, v .head) (w .head);
+          sized = rw e (w .sized);
+        }
+
+    pub save-made : (a n k r : ℕ) (d : List ℕ) (w : Answer) (t : Stored) → n ≡ length ns * (blockSize g / 8 + 4) + 1 → k ≡ min n a + 1
+        → Did card (plannedRuns g (planBy es ps qs) h ns bs) ch k c d r → w ≡ cond (ltb a n) Cut (Done n)
+        → (t .answer ≡ w) × (t .map ≡ handedOn w m u) → Saved c m ns bs ch a t d es
+    unfolding commitWork storesOf
+    save-made a n k r d w t b f made j o =
+        let g₀ = geometryOf c in
+        let p = own-plan in
+        let e = v .own in
+        let q = v .head in
+        let z = v .passes in
+        let count = b ∙ ap (λ (y : Geometry). length ns * (blockSize y / 8 + 4) + 1) e ∙ sym (runs-count g₀ c ns bs) in
+        let answered = made-answer (commitWork c m ns bs ch) a 0 (sym z) refl n w count j in
+        let left = p .map-is ∙ sym (commit-map c m ns bs ch z) in
+        record {
+          committed = record {
             answers = o .0 ∙ answered;
-            hands = o .1 ∙ made-map (commitWork c m ns bs ch) a (s .refusal) refusal-is z w c m u answered left;
+            hands = o .1 ∙ made-map (commitWork c m ns bs ch) a 0 (sym z) refl w c m u answered left;
             leaves =
-                made-after (commitWork c m ns bs ch) a (s .refusal) refusal-is z f (omega (arith, count))
+                made-after (commitWork c m ns bs ch) a 0 (sym z) refl f (omega (arith, count))
                 (did-same ((λ i. plannedRuns (e i) (planBy es ps qs) (q i) ns bs) ∙ runs-same g₀ c ns bs es ps qs u p) made);
-          }
+          };
+          entries = p .entries;
+        }
 
-      -- a commit has few stores
-      pub commit-short : (n : ℕ) → n ≡ length ns * (blockSize (s .geometry) / 8 + 4) + 1 → n < 18446744073709551615
-      commit-short n e =
-          let l : Limits (s .geometry) = limits (s .geometry) (commit-fitted .good) in
-          let b : blockSize (s .geometry) / 8 + 4 ≤ 516 = omega arith in
-          let few : length ns ≤ 256 = omega (arith, commit-few) in
-          let m : length ns * (blockSize (s .geometry) / 8 + 4) ≤ 256 * 516 = mul-le-mul few b in
-          omega arith
+  -- a commit has few stores
+  pub save-short : (n : ℕ) → n ≡ length ns * (blockSize g / 8 + 4) + 1 → n < 18446744073709551615
+  save-short n e =
+      let l : Limits g = limits g (save-fitted .good) in
+      let b : blockSize g / 8 + 4 ≤ 516 = omega arith in
+      let few : length ns ≤ 256 = omega (arith, save-few) in
+      let k : length ns * (blockSize g / 8 + 4) ≤ 256 * 516 = mul-le-mul few b in
+      omega arith

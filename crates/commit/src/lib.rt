@@ -19,7 +19,7 @@ ghost use Rattle.ring.specs.Fitted.{Fitted};
 ghost use Rattle.stores.specs.Did.{Did};
 ghost use Rattle.plan.specs.Planned.{previousOf};
 ghost use Rattle.commit.specs.Making.{stepRuns, planBy, plannedBlock, plannedSwitch, plannedRuns, blockRun, switchRun, runAt, Named, Ready};
-ghost use Rattle.commit.specs.Committed.{Committed};
+ghost use Rattle.commit.specs.Committed.{Committed, Savable, Saved};
 
 fn wide(x: u8) -> usize
     ensures { λ r. ⌜ r ≡ x ⌝ }
@@ -283,6 +283,40 @@ fn make_list(
     stores::make_word(card, 72, end, b)
 }
 
+// Plans and makes a commit that is not refused, from where its numbers are cached.
+pub fn save(
+    g: Geometry,
+    card: &mut [u8],
+    head: u64,
+    map: Map,
+    numbers: &[u64],
+    data: &[u8],
+    entries: &mut [u8; 128],
+    previous: &[u8; 128],
+    choice: &[u8],
+    allowance: u64,
+) -> Stored
+    requires { ⌜ Savable g (now card) head map (now numbers) (now «data») (now choice) (now entries) (now previous) ⌝ }
+    ensures { λ r. ⌜ Saved (now (card .entry)) map (now (numbers .entry)) (now («data» .entry)) (now (choice .entry)) allowance r (now (card .exit)) (now (entries .exit)) ⌝ }
+{
+    let mut blocks = [0u8; 128];
+    let after = plan::plan_of(g, card, head, map, numbers, entries, previous, &mut blocks);
+    let count = plan::count_of(g, numbers.len());
+    make_list(
+        g,
+        card,
+        entries,
+        previous,
+        &blocks,
+        numbers,
+        data,
+        head,
+        choice,
+        stores::credit(count, allowance),
+    );
+    stores::hand_on(stores::answer(count, allowance), map, after)
+}
+
 // Saves the blocks `numbers`, with their bytes side by side in `data`, as one commit. `allowance` stores still happen. Refused before any
 // store: 1, 2, 4 to 11, 14, 15 and 17. Where the power fails in a block's words, those are made whose byte of `choice` is 1. Done hands on the map
 // of the card that is left.
@@ -311,30 +345,17 @@ pub fn commit(
     let g = s.geometry;
     let mut entries = [0u8; 128];
     let mut previous = [0u8; 128];
-    let mut blocks = [0u8; 128];
-    let after = plan::plan_of(
+    plan::find_homes(g, card, &index, numbers, &mut entries, &mut previous);
+    save(
         g,
         card,
         s.head,
-        &index,
         map,
         numbers,
-        &mut entries,
-        &mut previous,
-        &mut blocks,
-    );
-    let count = plan::count_of(g, numbers.len());
-    make_list(
-        g,
-        card,
-        &entries,
-        &previous,
-        &blocks,
-        numbers,
         data,
-        s.head,
+        &mut entries,
+        &previous,
         choice,
-        stores::credit(count, allowance),
-    );
-    stores::hand_on(stores::answer(count, allowance), map, after)
+        allowance,
+    )
 }

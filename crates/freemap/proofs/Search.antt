@@ -20,7 +20,7 @@ use Rattle.protocol.specs.Below.{anyBelow, countBelow, firstBelow, eachBelow, k
 use Rattle.protocol.specs.Map.{word, mapBy, isMarked, freeCount}
 use Rattle.protocol.specs.Search.{isFree, searchStart, freeBlocks}
 use Rattle.protocol.specs.Commit.{newBlock}
-use Rattle.protocol.proofs.Below.{either, last-or-before, below-or-above, or-left, or-right, or-none, any-none, any-found, First, first-is, first-at, first-none, around-below}
+use Rattle.protocol.proofs.Below.{either, last-or-before, below-or-above, or-left, or-right, or-none, any-none, any-found, First, first-is, first-at, first-cong, first-none, around-below}
 use Rattle.protocol.proofs.Checks.{Limits, limits}
 use Rattle.protocol.proofs.Searches.{Found, walk-finds, walk-apart, length-walk, count-split, count-round, count-not}
 use Rattle.protocol.proofs.Words.{map-cong}
@@ -28,15 +28,6 @@ use Rattle.freemap.specs.Bits.{FULL, withBit, clearFrom, freeFrom, nextF
 use Rattle.freemap.proofs.Words.{word-or, word-not, word-ones, word-first}
 use Rattle.freemap.proofs.Count.{free-by}
 use Rattle.freemap.proofs.Maps.{with-by}
-
--- ---- the first one
-
-first-cong : (p q : ℕ → Bool) (n : ℕ) → ((i : ℕ) → i < n → p i ≡ q i) → firstBelow p n ≡ firstBelow q n
-first-cong p q n f = go (firstBelow q n) (first-is q n)
-  where
-    go : (x : ℕ) → First q n x → firstBelow p n ≡ x
-    go x (First.found l e b) = first-at p n x l (f x l ∙ e) (λ i h. f i (omega arith) ∙ b i h)
-    go x (First.missing r b) = first-none p n (λ i h. f i h ∙ b i h) ∙ sym r
 
 -- ---- a search in words is the first of all blocks
 

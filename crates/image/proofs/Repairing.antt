@@ -12,7 +12,7 @@ use Rattle.protocol.specs.Map.{mapOf, makeRefusal}
 use Rattle.protocol.specs.Recover.{recoverRuns, recoverRefusal, recoverWork}
 use Rattle.protocol.proofs.Below.{absurd-bool, same-or-other}
 use Rattle.protocol.proofs.Checks.{orElse-first, orElse-next}
-use Rattle.protocol.proofs.Handed.{own-map}
+use Rattle.protocol.proofs.Maps.{own-map}
 use Rattle.stores.proofs.Laws.{refused-after}
 use Rattle.recovery.specs.declared.Checked.{Checked}
 use Rattle.recovery.specs.Step.{Examined}

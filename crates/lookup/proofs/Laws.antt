@@ -49,17 +49,19 @@ module _ (g : Geometry) (c xs : List ℕ) (b i : ℕ) (h : Indexed g c xs) (is :
         subst (λ (z : ℕ). z < g .blocks) (sym is-current)
         (used-entry (g .blocks) (g .disk) (entryAt g c i) (all-at _ (g .blocks) i (h .fits) l) used .currentBelow)
 
-    pub located-card : (place n : ℕ) → place ≡ blockPlace g k → n ≡ blockSize g → Card place n ≡ placeIn g c b
+    pub located-card : (place n : ℕ) → place ≡ blockPlace g k → n ≡ blockSize g → Card place n i ≡ placeIn g c b
     unfolding placeIn cached currentOf
     located-card place n p q =
-        ap (Card place) q ∙ ap (λ (z : ℕ). Card z (blockSize g)) (p ∙ ap (blockPlace g) (is-current ∙ ap (λ (z : ℕ). entryAt g c z .current) is))
-        ∙ sym (ap (λ (t : Bool). cond t (Card (blockPlace g (currentOf g c b)) (blockSize g)) (Disk (diskPlace g b) (blockSize g))) (lt-ltb _ _ (subst (λ (z : ℕ). z < g .blocks) is l)))
+        ap (λ (z : ℕ). Card place z i) q
+        ∙ ap (λ (z : ℕ). Card z (blockSize g) i) (p ∙ ap (blockPlace g) (is-current ∙ ap (λ (z : ℕ). entryAt g c z .current) is))
+        ∙ ap (Card (blockPlace g (currentOf g c b)) (blockSize g)) is
+        ∙ sym (ap (λ (t : Bool). cond t (Card (blockPlace g (currentOf g c b)) (blockSize g) (findEntry g c b)) (Disk (diskPlace g b) (blockSize g))) (lt-ltb _ _ (subst (λ (z : ℕ). z < g .blocks) is l)))
 
   pub located-disk : (place n : ℕ) → g .blocks ≤ i → place ≡ diskPlace g b → n ≡ blockSize g → Disk place n ≡ placeIn g c b
   unfolding placeIn cached
   located-disk place n l p q =
       ap (Disk place) q ∙ ap (λ (z : ℕ). Disk z (blockSize g)) p
-      ∙ sym (ap (λ (t : Bool). cond t (Card (blockPlace g (currentOf g c b)) (blockSize g)) (Disk (diskPlace g b) (blockSize g))) (le-ltb _ _ (subst (λ (z : ℕ). g .blocks ≤ z) is l)))
+      ∙ sym (ap (λ (t : Bool). cond t (Card (blockPlace g (currentOf g c b)) (blockSize g) (findEntry g c b)) (Disk (diskPlace g b) (blockSize g))) (le-ltb _ _ (subst (λ (z : ℕ). g .blocks ≤ z) is l)))
 
 -- ---- the checks before it
 

@@ -18,7 +18,7 @@ use Rattle.protocol.specs.Entry.{entryAt}
 use Rattle.protocol.specs.Ring.{usedAt, findEntry, cached, currentOf, contents}
 use Rattle.protocol.specs.Check.{refuse, _orElse_, cardFits, diskFits, goodEntryAt, entriesFit, fitRefusal, diskRefusal, damageRefusal, cardRefusal}
 use Rattle.protocol.specs.Load.{pairRefusal, blockRefusal}
-use Rattle.protocol.specs.Read.{outputRefusal, readRefusal, heldBy, outputAfter, lookRefusal, lookedAt}
+use Rattle.protocol.specs.Read.{outputRefusal, readRefusal, heldAfter, outputAfter, lookRefusal, lookedAt}
 use Rattle.protocol.proofs.Allowed.{used-entry}
 use Rattle.protocol.proofs.Below.{either, all-at}
 use Rattle.protocol.proofs.Checks.{orElse-first, Limits, limits}
@@ -29,7 +29,7 @@ use Rattle.protocol.proofs.Region.{block, in-card, place-block}
 use Rattle.ring.proofs.Laws.{fit-fitted}
 use Rattle.lookup.specs.declared.Found.{Found}
 use Rattle.lookup.specs.declared.Found.the-variants.{Refused, Outside, Card, Disk}
-use Rattle.lookup.specs.Place.{placeIn, foundBy, foundIn, foundAt, fetchedAt, Copied}
+use Rattle.lookup.specs.Place.{placeIn, foundBy, foundIn, foundAt, fetchedBy, fetchedAt, Copied}
 use Rattle.lookup.proofs.Laws.{find-by-length}
 
 -- ---- where it is
@@ -41,7 +41,7 @@ G c = geometryOf c
 data Where (c d : List ℕ) (b : ℕ) (f : Found) : Type 0 where
   in-none : f ≡ Refused (pairRefusal c d) → (pairRefusal c d ≡ 0 → ⊥) → Where c d b f
   in-nothing : f ≡ Outside (blockSize (G c)) → pairRefusal c d ≡ 0 → G c .disk ≤ b → Where c d b f
-  in-cache : f ≡ Card (blockPlace (G c) (currentOf (G c) c b)) (blockSize (G c)) → pairRefusal c d ≡ 0 → b < G c .disk → cached (G c) c b ≡ true
+  in-cache : f ≡ Card (blockPlace (G c) (currentOf (G c) c b)) (blockSize (G c)) (findEntry (G c) c b) → pairRefusal c d ≡ 0 → b < G c .disk → cached (G c) c b ≡ true
       → Where c d b f
   in-home : f ≡ Disk (diskPlace (G c) b) (blockSize (G c)) → pairRefusal c d ≡ 0 → b < G c .disk → cached (G c) c b ≡ false → Where c d b f
 
@@ -99,10 +99,10 @@ module _ (c d : List ℕ) (z : pairRefusal c d ≡ 0) where
 -- ---- look
 
 module _ (c d : List ℕ) (b : ℕ) where
-  pub card-part : (at n : ℕ) → Card at n ≡ foundAt c d b → at + n ≤ length c
-  card-part at n e = go (where-is c d b (Card at n) e)
+  pub card-part : (at n i : ℕ) → Card at n i ≡ foundAt c d b → at + n ≤ length c
+  card-part at n i e = go (where-is c d b (Card at n i) e)
     where
-      go : Where c d b (Card at n) → at + n ≤ length c
+      go : Where c d b (Card at n i) → at + n ≤ length c
       go (in-none p z) = let w : _≡_ {A = ℕ} 0 1 = cc in absurd (omega arith)
       go (in-nothing p z l) = let w : _≡_ {A = ℕ} 0 1 = cc in absurd (omega arith)
       go (in-cache p z l k) =
@@ -129,11 +129,11 @@ module _ (c d : List ℕ) (b : ℕ) where
   pub disk-part : (at n : ℕ) → Disk at n ≡ foundAt c d b → at + n ≤ length d
   disk-part at n e = disk-within at n e .0
 
-  card-looked : (at n : ℕ) → Card at n ≡ foundAt c d b → part c at n ≡ lookedAt c d b
+  card-looked : (at n i : ℕ) → Card at n i ≡ foundAt c d b → part c at n ≡ lookedAt c d b
   unfolding lookedAt contents blockAt
-  card-looked at n e = go (where-is c d b (Card at n) e)
+  card-looked at n i e = go (where-is c d b (Card at n i) e)
     where
-      go : Where c d b (Card at n) → part c at n ≡ lookedAt c d b
+      go : Where c d b (Card at n i) → part c at n ≡ lookedAt c d b
       go (in-none p z) = let w : _≡_ {A = ℕ} 0 1 = cc in absurd (omega arith)
       go (in-nothing p z l) = let w : _≡_ {A = ℕ} 0 1 = cc in absurd (omega arith)
       go (in-cache p z l k) =
@@ -160,8 +160,8 @@ module _ (c d : List ℕ) (b : ℕ) where
   unfolding part
   span xs at n = let e : at + n - at ≡ n = omega arith in ap (λ (k : ℕ). take k (drop at xs)) e
 
-  pub look-card : (at n : ℕ) → Card at n ≡ foundAt c d b → take (at + n - at) (drop at c) ≡ lookedAt c d b
-  look-card at n e = span c at n ∙ card-looked at n e
+  pub look-card : (at n i : ℕ) → Card at n i ≡ foundAt c d b → take (at + n - at) (drop at c) ≡ lookedAt c d b
+  look-card at n i e = span c at n ∙ card-looked at n i e
 
   pub look-disk : (at n : ℕ) → Disk at n ≡ foundAt c d b → take (at + n - at) (drop at d) ≡ lookedAt c d b
   look-disk at n e = span d at n ∙ disk-looked at n e
@@ -209,7 +209,7 @@ Promised c d b out after r = (r ≡ fetchedAt c d out b) × (after ≡ outputAft
 
 -- refused, with the output as it was
 refused-so : (c d : List ℕ) (b : ℕ) (out : List ℕ) (r : ℕ) → r ≡ readRefusal c d out b → (r ≡ 0 → ⊥) → Promised c d b out out (Refused r)
-unfolding fetchedAt outputAfter
+unfolding fetchedBy outputAfter
 refused-so c d b out r e h =
     let f : eqb (readRefusal c d out b) 0 ≡ false = ne-eqb _ _ (λ z. h (e ∙ z)) in (
       ap Refused e ∙ sym (ap (λ (t : Bool). cond t (placeIn (G c) c b) (Refused (readRefusal c d out b))) f),
@@ -260,25 +260,26 @@ module _ (c d : List ℕ) (b : ℕ) (out : List ℕ) where
   -- found, with the output right or wrong
   taken : (held : Found) (after : List ℕ) (z : pairRefusal c d ≡ 0) → b < G c .disk → length out ≡ blockSize (G c)
       → placeIn (G c) c b ≡ held → after ≡ contents (G c) c d b → Promised c d b out after held
-  unfolding fetchedAt outputAfter refuse _orElse_
+  unfolding fetchedBy outputAfter refuse _orElse_
   taken held after z l len eh ea =
       let r : readRefusal c d out b ≡ 0 = read-by c d z out b ∙ rw (eq-eqb _ _ len, lt-ltb b (G c .disk) l) in (
         sym eh ∙ sym (ap (λ (t : Bool). cond t (placeIn (G c) c b) (Refused (readRefusal c d out b))) (eq-eqb _ _ r)),
         ea ∙ sym (ap (λ (t : Bool). cond t (contents (G c) c d b) out) (eq-eqb _ _ r)),
       )
 
-  pub read-card : (at n : ℕ) (after : List ℕ) (done : Bool) → Card at n ≡ foundAt c d b → Copied c at n out after done → done ≡ true
-      → Promised c d b out after (Card at n)
+  pub read-card : (at n i : ℕ) (after : List ℕ) (done : Bool) → Card at n i ≡ foundAt c d b → Copied c at n out after done → done ≡ true
+      → Promised c d b out after (Card at n i)
   unfolding contents blockAt placeIn
-  read-card at n after done e y t = go (where-is c d b (Card at n) e)
+  read-card at n i after done e y t = go (where-is c d b (Card at n i) e)
     where
-      go : Where c d b (Card at n) → Promised c d b out after (Card at n)
+      go : Where c d b (Card at n i) → Promised c d b out after (Card at n i)
       go (in-none p z) = let w : _≡_ {A = ℕ} 0 1 = cc in absurd (omega arith)
       go (in-nothing p z l) = let w : _≡_ {A = ℕ} 0 1 = cc in absurd (omega arith)
       go (in-cache p z l k) =
           let ea : at ≡ blockPlace (G c) (currentOf (G c) c b) = cc in
           let en : n ≡ blockSize (G c) = cc in
-          taken (Card at n) after z l (eqb-true _ _ (sym (y .fits) ∙ t) ∙ en) (rw k (λ s. Card (sym ea s) (sym en s)))
+          let ei : i ≡ findEntry (G c) c b = cc in
+          taken (Card at n i) after z l (eqb-true _ _ (sym (y .fits) ∙ t) ∙ en) (rw k (λ s. Card (sym ea s) (sym en s) (sym ei s)))
           (y .after-is ∙ ap (λ (q : Bool). cond q (part c at n) out) t ∙ (λ s. part c (ea s) (en s)) ∙ rw k)
       go (in-home p z l k) = let w : _≡_ {A = ℕ} 0 1 = cc in absurd (omega arith)
 
@@ -298,16 +299,16 @@ module _ (c d : List ℕ) (b : ℕ) (out : List ℕ) where
           (y .after-is ∙ ap (λ (q : Bool). cond q (part d at n) out) t ∙ (λ s. part d (ea s) (en s)) ∙ rw k)
 
   -- found, and the output is of another length: on the card or on the disk
-  pub read-short : (f : Found) (src : List ℕ) (at n : ℕ) (after : List ℕ) (done : Bool) → f ≡ foundAt c d b → (f ≡ Card at n) ⊎ (f ≡ Disk at n)
+  pub read-short : (f : Found) (src : List ℕ) (at n i : ℕ) (after : List ℕ) (done : Bool) → f ≡ foundAt c d b → (f ≡ Card at n i) ⊎ (f ≡ Disk at n)
       → Copied src at n out after done → done ≡ false → Promised c d b out after (Refused 9)
-  read-short f src at n after done e which y t =
+  read-short f src at n i after done e which y t =
       subst (λ (z : List ℕ). Promised c d b out z (Refused 9)) (sym (y .after-is ∙ ap (λ (q : Bool). cond q (part src at n) out) t))
       (go (where-is c d b f e) which)
     where
       wrong : length out ≡ n → ⊥
       wrong = eqb-false _ _ (sym (y .fits) ∙ t)
 
-      go : Where c d b f → (f ≡ Card at n) ⊎ (f ≡ Disk at n) → Promised c d b out out (Refused 9)
+      go : Where c d b f → (f ≡ Card at n i) ⊎ (f ≡ Disk at n) → Promised c d b out out (Refused 9)
       go (in-none p z) (inl q) = let w : _≡_ {A = ℕ} 0 1 = cc in absurd (omega arith)
       go (in-none p z) (inr q) = let w : _≡_ {A = ℕ} 0 1 = cc in absurd (omega arith)
       go (in-nothing p z l) (inl q) = let w : _≡_ {A = ℕ} 0 1 = cc in absurd (omega arith)
@@ -317,62 +318,70 @@ module _ (c d : List ℕ) (b : ℕ) (out : List ℕ) where
       go (in-home p z l k) (inl q) = let w : _≡_ {A = ℕ} 0 1 = cc in absurd (omega arith)
       go (in-home p z l k) (inr q) = wrong-output n z (cc) wrong
 
-  pub read-card-short : (at n : ℕ) (after : List ℕ) (done : Bool) → Card at n ≡ foundAt c d b → Copied c at n out after done → done ≡ false
+  pub read-card-short : (at n i : ℕ) (after : List ℕ) (done : Bool) → Card at n i ≡ foundAt c d b → Copied c at n out after done → done ≡ false
       → Promised c d b out after (Refused 9)
-  read-card-short at n after done e y t = read-short (Card at n) c at n after done e (inl refl) y t
+  read-card-short at n i after done e y t = read-short (Card at n i) c at n i after done e (inl refl) y t
 
   pub read-disk-short : (at n : ℕ) (after : List ℕ) (done : Bool) → Disk at n ≡ foundAt c d b → Copied d at n out after done → done ≡ false
       → Promised c d b out after (Refused 9)
-  read-disk-short at n after done e y t = read-short (Disk at n) d at n after done e (inr refl) y t
+  read-disk-short at n after done e y t = read-short (Disk at n) d at n 0 after done e (inr refl) y t
 
 -- ---- who held it
 
-module _ (c d : List ℕ) (b : ℕ) (out : List ℕ) where
+module _ (r : ℕ) (c : List ℕ) (b : ℕ) where
   -- fetched from a place, or refused
   heldIs : Found → Held → Type 0
-  heldIs f h = f ≡ fetchedAt c d out b → h ≡ heldBy c d out b
+  heldIs f h = f ≡ fetchedBy r c b → h ≡ heldAfter r c b
 
-  by-cases : (f : Found) (h : Held) → (readRefusal c d out b ≡ 0 → cached (G c) c b ≡ true → f ≡ placeIn (G c) c b → h ≡ HeldCard)
-      → (readRefusal c d out b ≡ 0 → cached (G c) c b ≡ false → f ≡ placeIn (G c) c b → h ≡ HeldDisk)
-      → (f ≡ Refused (readRefusal c d out b) → h ≡ HeldRefused (readRefusal c d out b)) → heldIs f h
-  unfolding heldIs fetchedAt heldBy
-  by-cases f h a k r e = go (either (eqb (readRefusal c d out b) 0)) (either (cached (G c) c b))
+  by-cases : (f : Found) (h : Held) → (r ≡ 0 → cached (G c) c b ≡ true → f ≡ placeIn (G c) c b → h ≡ HeldCard)
+      → (r ≡ 0 → cached (G c) c b ≡ false → f ≡ placeIn (G c) c b → h ≡ HeldDisk) → (f ≡ Refused r → h ≡ HeldRefused r) → heldIs f h
+  unfolding heldIs fetchedBy heldAfter
+  by-cases f h a k n e = go (either (eqb r 0)) (either (cached (G c) c b))
     where
-      go : (eqb (readRefusal c d out b) 0 ≡ true) ⊎ (eqb (readRefusal c d out b) 0 ≡ false) → (cached (G c) c b ≡ true) ⊎ (cached (G c) c b ≡ false)
-          → h ≡ cond (eqb (readRefusal c d out b) 0) (cond (cached (G c) c b) HeldCard HeldDisk) (HeldRefused (readRefusal c d out b))
+      go : (eqb r 0 ≡ true) ⊎ (eqb r 0 ≡ false) → (cached (G c) c b ≡ true) ⊎ (cached (G c) c b ≡ false)
+          → h ≡ cond (eqb r 0) (cond (cached (G c) c b) HeldCard HeldDisk) (HeldRefused r)
       go (inl z) (inl y) = a (eqb-true _ _ z) y (e ∙ rw z) ∙ sym (rw (z, y))
       go (inl z) (inr y) = k (eqb-true _ _ z) y (e ∙ rw z) ∙ sym (rw (z, y))
-      go (inr z) y = r (e ∙ rw z) ∙ sym (rw z)
+      go (inr z) y = n (e ∙ rw z) ∙ sym (rw z)
 
-  pub held-card : (at n : ℕ) → Card at n ≡ fetchedAt c d out b → HeldCard ≡ heldBy c d out b
-  unfolding placeIn heldIs
-  held-card at n e =
-      by-cases (Card at n) HeldCard (λ z y f. refl)
-      (λ z y f. let w : Card at n ≡ Disk (diskPlace (G c) b) (blockSize (G c)) = f ∙ rw y in let x : _≡_ {A = ℕ} 0 1 = cc in absurd (omega arith))
+  -- on the card, on the disk: what the place is where b is cached, and where not
+  place-card : cached (G c) c b ≡ true → placeIn (G c) c b ≡ Card (blockPlace (G c) (currentOf (G c) c b)) (blockSize (G c)) (findEntry (G c) c b)
+  unfolding placeIn
+  place-card y = rw y
+
+  place-disk : cached (G c) c b ≡ false → placeIn (G c) c b ≡ Disk (diskPlace (G c) b) (blockSize (G c))
+  unfolding placeIn
+  place-disk y = rw y
+
+  pub held-card : (at n i : ℕ) → Card at n i ≡ fetchedBy r c b → HeldCard ≡ heldAfter r c b
+  unfolding heldIs
+  held-card at n i e =
+      by-cases (Card at n i) HeldCard (λ z y f. refl)
+      (λ z y f. let w = f ∙ place-disk y in let x : _≡_ {A = ℕ} 0 1 = cc in absurd (omega arith))
       (λ f. let x : _≡_ {A = ℕ} 0 1 = cc in absurd (omega arith)) e
 
-  pub held-disk : (at n : ℕ) → Disk at n ≡ fetchedAt c d out b → HeldDisk ≡ heldBy c d out b
-  unfolding placeIn heldIs
+  pub held-disk : (at n : ℕ) → Disk at n ≡ fetchedBy r c b → HeldDisk ≡ heldAfter r c b
+  unfolding heldIs
   held-disk at n e =
       by-cases (Disk at n) HeldDisk
-      (λ z y f. let w : Disk at n ≡ Card (blockPlace (G c) (currentOf (G c) c b)) (blockSize (G c)) = f ∙ rw y in let x : _≡_ {A = ℕ} 0 1 = cc in absurd (omega arith))
+      (λ z y f. let w = f ∙ place-card y in let x : _≡_ {A = ℕ} 0 1 = cc in absurd (omega arith))
       (λ z y f. refl) (λ f. let x : _≡_ {A = ℕ} 0 1 = cc in absurd (omega arith)) e
 
-  pub held-refused : (r : ℕ) → Refused r ≡ fetchedAt c d out b → HeldRefused r ≡ heldBy c d out b
-  unfolding placeIn heldIs
-  held-refused r e =
-      by-cases (Refused r) (HeldRefused r)
-      (λ z y f. let w : Refused r ≡ Card (blockPlace (G c) (currentOf (G c) c b)) (blockSize (G c)) = f ∙ rw y in let x : _≡_ {A = ℕ} 0 1 = cc in absurd (omega arith))
-      (λ z y f. let w : Refused r ≡ Disk (diskPlace (G c) b) (blockSize (G c)) = f ∙ rw y in let x : _≡_ {A = ℕ} 0 1 = cc in absurd (omega arith))
-      (λ f. let x : r ≡ readRefusal c d out b = cc in ap HeldRefused x) e
+  pub held-refused : (n : ℕ) → Refused n ≡ fetchedBy r c b → HeldRefused n ≡ heldAfter r c b
+  unfolding heldIs
+  held-refused n e =
+      by-cases (Refused n) (HeldRefused n)
+      (λ z y f. let w = f ∙ place-card y in let x : _≡_ {A = ℕ} 0 1 = cc in absurd (omega arith))
+      (λ z y f. let w = f ∙ place-disk y in let x : _≡_ {A = ℕ} 0 1 = cc in absurd (omega arith))
+      (λ f. let x : n ≡ r = cc in ap HeldRefused x) e
 
   -- a fetch never ends outside the disk
-  pub held-outside : (n : ℕ) → Outside n ≡ fetchedAt c d out b → HeldRefused 10 ≡ heldBy c d out b
-  unfolding placeIn heldIs
+  pub held-outside : (n : ℕ) → Outside n ≡ fetchedBy r c b → HeldRefused 10 ≡ heldAfter r c b
+  unfolding heldIs
   held-outside n e =
       by-cases (Outside n) (HeldRefused 10)
-      (λ z y f. let w : Outside n ≡ Card (blockPlace (G c) (currentOf (G c) c b)) (blockSize (G c)) = f ∙ rw y in let x : _≡_ {A = ℕ} 0 1 = cc in absurd (omega arith))
-      (λ z y f. let w : Outside n ≡ Disk (diskPlace (G c) b) (blockSize (G c)) = f ∙ rw y in let x : _≡_ {A = ℕ} 0 1 = cc in absurd (omega arith))
+      (λ z y f. let w = f ∙ place-card y in let x : _≡_ {A = ℕ} 0 1 = cc in absurd (omega arith))
+      (λ z y f. let w = f ∙ place-disk y in let x : _≡_ {A = ℕ} 0 1 = cc in absurd (omega arith))
       (λ f. let x : _≡_ {A = ℕ} 0 1 = cc in absurd (omega arith)) e
 
 -- ---- of a disk that is known by its length
@@ -381,8 +390,8 @@ module _ (c : List ℕ) (n b at size : ℕ) where
   of-length : (f : Found) → f ≡ foundIn c n b → f ≡ foundAt c (replicate n 0) b
   of-length f e = e ∙ ap (λ (m : ℕ). foundIn c m b) (sym (length-replicate n 0)) ∙ find-by-length c (replicate n 0) b
 
-  pub card-part-in : Card at size ≡ foundIn c n b → at + size ≤ length c
-  card-part-in e = card-part c (replicate n 0) b at size (of-length _ e)
+  pub card-part-in : (i : ℕ) → Card at size i ≡ foundIn c n b → at + size ≤ length c
+  card-part-in i e = card-part c (replicate n 0) b at size i (of-length _ e)
 
   pub disk-part-in : Disk at size ≡ foundIn c n b → (size ≤ 4096) × (at < 268435456)
   disk-part-in e = let w = disk-within c (replicate n 0) b at size (of-length _ e) in (w .1, w .2)

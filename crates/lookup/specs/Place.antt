@@ -8,16 +8,20 @@ use mathlib.Core.Path.{_≡_}
 use lib.Dec.{eqb, ltb}
 use Rattle.protocol.specs.declared.Geometry.{Geometry}
 use Rattle.protocol.specs.Layout.{geometryOf, blockSize, blockPlace, diskPlace, diskLength}
-use Rattle.protocol.specs.Ring.{cached, currentOf}
+use Rattle.protocol.specs.Ring.{findEntry, cached, currentOf}
 use Rattle.protocol.specs.Check.{refuse, _orElse_, fitRefusal, cardRefusal}
 use Rattle.protocol.specs.Load.{pairRefusal}
-use Rattle.protocol.specs.Read.{readRefusal}
+use Rattle.protocol.specs.Read.{readRefusal, recentRefusal}
+use Rattle.protocol.specs.Recency.{toFront}
 use Rattle.lookup.specs.declared.Found.{Found}
 use Rattle.lookup.specs.declared.Found.the-variants.{Refused, Outside, Card, Disk}
 
--- where the contents of b begin, and their length B
+-- where the contents of b begin, and their length B; on the card the place of the entry for b too
 unfoldable pub placeIn : Geometry → List ℕ → ℕ → Found
-placeIn g c b = cond (cached g c b) (Card (blockPlace g (currentOf g c b)) (blockSize g)) (Disk (diskPlace g b) (blockSize g))
+placeIn g c b =
+    cond (cached g c b)
+    (Card (blockPlace g (currentOf g c b)) (blockSize g) (findEntry g c b))
+    (Disk (diskPlace g b) (blockSize g))
 
 -- after the refusal r: refused, outside the disk, or where it lies
 unfoldable pub foundBy : Geometry → List ℕ → ℕ → ℕ → Found
@@ -40,9 +44,30 @@ foundIn c n b =
 unfoldable pub foundAt : List ℕ → List ℕ → ℕ → Found
 foundAt c d b = foundBy (geometryOf c) c b (pairRefusal c d)
 
--- what a read comes to: refused by all its checks, or where it was copied from
-unfoldable pub fetchedAt : List ℕ → List ℕ → List ℕ → ℕ → Found
-fetchedAt c d out b = cond (eqb (readRefusal c d out b) 0) (placeIn (geometryOf c) c b) (Refused (readRefusal c d out b))
+-- what a read comes to, after the refusal r by all its checks: refused, or where it was copied from
+unfoldable pub fetchedBy : ℕ → List ℕ → ℕ → Found
+fetchedBy r c b = cond (eqb r 0) (placeIn (geometryOf c) c b) (Refused r)
+
+abbrev pub fetchedAt : List ℕ → List ℕ → List ℕ → ℕ → Found
+fetchedAt c d out b = fetchedBy (readRefusal c d out b) c b
+
+-- the same of a read with the table t
+abbrev pub recentAt : List ℕ → List ℕ → List ℕ → List ℕ → ℕ → Found
+recentAt c d t out b = fetchedBy (recentRefusal c d t out b) c b
+
+-- the table after what was fetched: "A read from the card .. move[s its] entry to the front"
+unfoldable pub touchedBy : Found → List ℕ → List ℕ
+touchedBy (Refused r) t = t
+touchedBy (Outside n) t = t
+touchedBy (Card at n i) t = toFront i t
+touchedBy (Disk at n) t = t
+
+-- what is found for a table that is no arrangement: 16, "after 7"
+unfoldable pub untabled : Found → Found
+untabled (Refused r) = Refused r
+untabled (Outside n) = Refused 16
+untabled (Card at n i) = Refused 16
+untabled (Disk at n) = Refused 16
 
 -- `size` bytes from `at` of src were copied to the whole of an output of that length; any other output is left as it was
 pub record Copied (src : List ℕ) (at size : ℕ) (before after : List ℕ) (done : Bool) : Type 0 where

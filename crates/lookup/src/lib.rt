@@ -8,11 +8,13 @@ use ring::Fit;
 use ring::Window;
 ghost use mathlib.Core.Path.{_≡_};
 ghost use mathlib.Core.Bool.{true};
-ghost use Prim.Native.Nat.{_+_, _≤_, _<_};
+ghost use mathlib.Core.List.{List};
+ghost use Prim.Native.Nat.{ℕ, _+_, _≤_, _<_};
 ghost use lib.ListN.{length};
 ghost use Rattle.protocol.specs.Layout.{goodGeometry, blockSize};
-ghost use Rattle.protocol.specs.Read.{heldBy, outputAfter, lookedAt, conditionOf, stateOf};
-ghost use Rattle.lookup.specs.Place.{Copied, placeIn, soughtAt, foundIn, foundAt, fetchedAt};
+ghost use Rattle.protocol.specs.Recency.{isArranged};
+ghost use Rattle.protocol.specs.Read.{heldAfter, heldBy, recentHeld, outputAfter, recentOutput, recentTable, lookedAt, conditionOf, stateOf};
+ghost use Rattle.lookup.specs.Place.{Copied, placeIn, soughtAt, foundIn, foundAt, fetchedBy, fetchedAt, recentAt, touchedBy, untabled};
 ghost use Rattle.ring.specs.Fitted.{Fitted, Placed, WindowOf, Framed};
 ghost use Rattle.checks.specs.Passed.{Indexed};
 ghost use Rattle.lookup.specs.Counted.{counted};
@@ -20,11 +22,12 @@ ghost use Rattle.lookup.specs.Cached.{cachedIn, cachedAt};
 ghost use Rattle.protocol.specs.Below.{countBelow};
 ghost use Rattle.protocol.specs.Ring.{isSettled};
 
-// Where a block lies: refused by checks 1 to 7, outside the disk, or at a place of the card or of the disk; with it B, if known.
+// Where a block lies: refused by checks 1 to 7, outside the disk, or at a place of the card or of the disk; with it B, if known, and on the card
+// the place of its entry.
 pub enum Found {
     Refused(u8),
     Outside(usize),
-    Card(usize, usize),
+    Card(usize, usize, usize),
     Disk(usize, usize),
 }
 
@@ -57,7 +60,7 @@ fn locate(g: Geometry, card: &[u8], index: &[u8; 640], b: u64) -> Found
     let i = checks::find(g, card, index, b);
     if i < g.blocks as usize {
         let e = checks::entry_of(g, card, i);
-        Found::Card(stores::block_place(g, wide(e.current)), size)
+        Found::Card(stores::block_place(g, wide(e.current)), size, i)
     } else {
         Found::Disk(stores::disk_place(g, b), size)
     }
@@ -107,7 +110,7 @@ pub fn look<'a>(card: &'a [u8], disk: &'a [u8], b: u64) -> &'a [u8]
     ensures { λ r. ⌜ now r ≡ lookedAt (now (card .entry)) (now (disk .entry)) b ⌝ }
 {
     match find(card, disk, b) {
-        Found::Card(at, size) => &card[at..at + size],
+        Found::Card(at, size, _) => &card[at..at + size],
         Found::Disk(at, size) => &disk[at..at + size],
         Found::Refused(_) => &card[..0],
         Found::Outside(_) => &card[..0],
@@ -140,9 +143,9 @@ pub fn fetch(card: &[u8], disk: &[u8], b: u64, out: &mut [u8]) -> Found
                 Found::Refused(9)
             }
         }
-        Found::Card(at, size) => {
+        Found::Card(at, size, i) => {
             if copy_out(card, at, size, out) {
-                Found::Card(at, size)
+                Found::Card(at, size, i)
             } else {
                 Found::Refused(9)
             }
@@ -157,17 +160,72 @@ pub fn fetch(card: &[u8], disk: &[u8], b: u64, out: &mut [u8]) -> Found
     }
 }
 
-// Copies disk block b to an output of B bytes, and says whether card or disk held it.
-pub fn read(card: &[u8], disk: &[u8], b: u64, out: &mut [u8]) -> Held
-    ensures answer { λ r. ⌜ r ≡ heldBy (now (card .entry)) (now (disk .entry)) (now (out .entry)) b ⌝ }
-    ensures output { λ r. ⌜ now (out .exit) ≡ outputAfter (now (card .entry)) (now (disk .entry)) (now (out .entry)) b ⌝ }
+// Who held the block that was fetched.
+fn held(f: Found) -> Held
+    ensures { λ h. ⌜ ((r : ℕ) (c : List ℕ) (b : ℕ) → f ≡ fetchedBy r c b → h ≡ heldAfter r c b) ⌝ }
 {
-    match fetch(card, disk, b, out) {
-        Found::Card(_, _) => Held::Card,
+    match f {
+        Found::Card(_, _, _) => Held::Card,
         Found::Disk(_, _) => Held::Disk,
         Found::Refused(r) => Held::Refused(r),
         Found::Outside(_) => Held::Refused(10),
     }
+}
+
+// Copies disk block b to an output of B bytes, and says whether card or disk held it. It takes no table, and is no use of the block.
+pub fn read(card: &[u8], disk: &[u8], b: u64, out: &mut [u8]) -> Held
+    ensures answer { λ r. ⌜ r ≡ heldBy (now (card .entry)) (now (disk .entry)) (now (out .entry)) b ⌝ }
+    ensures output { λ r. ⌜ now (out .exit) ≡ outputAfter (now (card .entry)) (now (disk .entry)) (now (out .entry)) b ⌝ }
+{
+    held(fetch(card, disk, b, out))
+}
+
+// The entry of a block that was fetched from the card, moved to the front of the table.
+fn touch_found(f: Found, table: &mut [u8])
+    requires { ⌜ (isArranged (now table) ≡ true) × ((at n i : ℕ) → f ≡ Found.Card at n i → i < 128) ⌝ }
+    ensures { λ _. ⌜ now (table .exit) ≡ touchedBy f (now (table .entry)) ⌝ }
+{
+    match f {
+        Found::Card(_, _, i) => recency::to_front(table, i as u8),
+        Found::Disk(_, _) => {}
+        Found::Refused(_) => {}
+        Found::Outside(_) => {}
+    }
+}
+
+// 16, unless one of 1 to 7 was given.
+fn refuse_table(f: Found) -> Found
+    ensures { λ r. ⌜ r ≡ untabled f ⌝ }
+{
+    match f {
+        Found::Refused(r) => Found::Refused(r),
+        Found::Outside(_) => Found::Refused(16),
+        Found::Card(_, _, _) => Found::Refused(16),
+        Found::Disk(_, _) => Found::Refused(16),
+    }
+}
+
+// `fetch` as a use of the block: where it lies on the card its entry goes to the front of the table.
+pub fn fetch_recent(card: &[u8], disk: &[u8], table: &mut [u8], b: u64, out: &mut [u8]) -> Found
+    ensures answer { λ r. ⌜ r ≡ recentAt (now (card .entry)) (now (disk .entry)) (now (table .entry)) (now (out .entry)) b ⌝ }
+    ensures output { λ r. ⌜ now (out .exit) ≡ recentOutput (now (card .entry)) (now (disk .entry)) (now (table .entry)) (now (out .entry)) b ⌝ }
+    ensures table { λ r. ⌜ now (table .exit) ≡ recentTable (now (card .entry)) (now (disk .entry)) (now (table .entry)) (now (out .entry)) b ⌝ }
+{
+    if !recency::is_arranged(table) {
+        return refuse_table(find(card, disk, b));
+    }
+    let f = fetch(card, disk, b, out);
+    touch_found(f, table);
+    f
+}
+
+// Document 02's read: `read` as a use of the block.
+pub fn read_recent(card: &[u8], disk: &[u8], table: &mut [u8], b: u64, out: &mut [u8]) -> Held
+    ensures answer { λ r. ⌜ r ≡ recentHeld (now (card .entry)) (now (disk .entry)) (now (table .entry)) (now (out .entry)) b ⌝ }
+    ensures output { λ r. ⌜ now (out .exit) ≡ recentOutput (now (card .entry)) (now (disk .entry)) (now (table .entry)) (now (out .entry)) b ⌝ }
+    ensures table { λ r. ⌜ now (table .exit) ≡ recentTable (now (card .entry)) (now (disk .entry)) (now (table .entry)) (now (out .entry)) b ⌝ }
+{
+    held(fetch_recent(card, disk, table, b, out))
 }
 
 // Whether entry i is one that is counted: what 0 in use, 1 in use and modified, else undoable.

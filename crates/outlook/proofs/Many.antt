@@ -12,7 +12,7 @@ use Rattle.protocol.specs.declared.Map.{Map}
 use Rattle.protocol.specs.Layout.{geometryOf}
 use Rattle.protocol.specs.Check.{refuse, _orElse_, fitRefusal, cardRefusal}
 use Rattle.protocol.specs.Map.{mapRefusal}
-use Rattle.protocol.specs.Commit.{countFits, saveRefusal, commitRefusal}
+use Rattle.protocol.specs.Commit.{countFits, roomFor, saveRefusal, commitRefusal}
 use Rattle.protocol.proofs.Below.{and-right}
 use Rattle.protocol.proofs.Checks.{Limits, limits, refuse-failed, orElse-first}
 use Rattle.ring.specs.Fitted.{Fitted}
@@ -29,9 +29,9 @@ module _ (g : Geometry) (small : g .slots ≤ 256) (ns : List ℕ) (many : 256 �
           absurd (omega arith)
       go false e = refl
 
-  save-eight : (c bs ch : List ℕ) → saveRefusal g c ns bs ch ≡ 8
+  save-eight : (bs ch : List ℕ) (room : Bool) → saveRefusal g ns bs ch room ≡ 8
   unfolding saveRefusal
-  save-eight c bs ch = sym (orElse-first 8 (refuse 8 (countFits g ns)) _ (refuse-failed 8 (countFits g ns) too-many) (λ z. omega arith))
+  save-eight bs ch room = sym (orElse-first 8 (refuse 8 (countFits g ns)) _ (refuse-failed 8 (countFits g ns) too-many) (λ z. omega arith))
 
 module _ (c : List ℕ) (m : Map) where
   many-refused : (ns bs ch : List ℕ) → 256 ≤ length ns
@@ -40,12 +40,12 @@ module _ (c : List ℕ) (m : Map) where
   many-refused ns bs ch h = go (fitRefusal c) refl
     where
       go : (f : ℕ) → f ≡ fitRefusal c
-          → f orElse (cardRefusal (geometryOf c) c orElse (mapRefusal c m orElse saveRefusal (geometryOf c) c ns bs ch))
+          → f orElse (cardRefusal (geometryOf c) c orElse (mapRefusal c m orElse saveRefusal (geometryOf c) ns bs ch (roomFor (geometryOf c) c (length ns))))
           ≡ f orElse (cardRefusal (geometryOf c) c orElse (mapRefusal c m orElse 8))
       go zero e =
           let fit : Fitted (geometryOf c) c = fit-fitted c (geometryOf c) 0 e refl refl in
           let l : Limits (geometryOf c) = limits (geometryOf c) (fit .good) in
-          ap (λ (r : ℕ). cardRefusal (geometryOf c) c orElse (mapRefusal c m orElse r)) (save-eight (geometryOf c) (l .slots .1) ns h c bs ch)
+          ap (λ (r : ℕ). cardRefusal (geometryOf c) c orElse (mapRefusal c m orElse r)) (save-eight (geometryOf c) (l .slots .1) ns h bs ch _)
       go (suc f) e = refl
 
   -- two saves of 256 blocks or more are refused with the same number

@@ -66,14 +66,16 @@ passed c m ns bs ch z =
       room = leb-true _ _ (refuse-none 14 (roomFor g c (length ns)) (omega arith) last);
     }
 
--- and its choice fits
-pub choice-passed : (c : List ℕ) (m : Map) (ns bs ch : List ℕ) → commitRefusal c m ns bs ch ≡ 0 → choiceFits (geometryOf c) ch ≡ true
+-- and its choice and its numbers fit
+pub late-passed : (c : List ℕ) (m : Map) (ns bs ch : List ℕ) → commitRefusal c m ns bs ch ≡ 0
+    → (choiceFits (geometryOf c) ch ≡ true) × (numbersFit (geometryOf c) ns ≡ true)
 unfolding commitRefusal saveRefusal choiceRefusal
-choice-passed c m ns bs ch z =
+late-passed c m ns bs ch z =
     let g : Geometry = geometryOf c in
     let rest = orElse-none (cardRefusal g c) _ (orElse-none (fitRefusal c) _ z .1) .1 in
     let own = orElse-none (refuse 8 (countFits g ns)) _ (orElse-none (mapRefusal c m) _ rest .1) .1 in
-    refuse-none 17 _ (omega arith) (orElse-none (choiceRefusal g ch) _ (orElse-none (refuse 9 (dataFits g ns bs)) _ own .1) .0)
+    let (seventeen, more) = orElse-none (choiceRefusal g ch) _ (orElse-none (refuse 9 (dataFits g ns bs)) _ own .1) in
+    (refuse-none 17 _ (omega arith) seventeen, refuse-none 10 _ (omega arith) (orElse-none (refuse 10 (numbersFit g ns)) _ more .0))
 
 -- ---- what the searches find
 

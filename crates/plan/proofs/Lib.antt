@@ -9,3 +9,4 @@ pub mod Released
 pub mod Bounds
 pub mod Order
 pub mod Count
+pub mod Meeting

@@ -25,18 +25,19 @@ use Rattle.freemap.specs.Taken.{Took}
 use Rattle.ring.specs.declared.Fit.{Fit}
 use Rattle.ring.specs.Fitted.{Opened}
 use Rattle.checks.specs.declared.Verdict.{Verdict}
-use Rattle.checks.specs.Keys.{keyAt}
+use Rattle.checks.specs.Keys.{keyAt, Lists}
 use Rattle.checks.specs.Passed.{Examined as Checked}
 use Rattle.plan.specs.declared.Admitted.{Admitted}
 use Rattle.plan.specs.declared.Saving.{Saving}
 use Rattle.plan.specs.Request.{sizeFits, choiceRoom, roomFits, requestRefusal, sizedRefusal}
 use Rattle.plan.proofs.Request.{room-is, quiet-room, quiet-fits}
 use Rattle.plan.proofs.Bounds.{passed, unused-room}
+use Rattle.plan.proofs.Housing.{housed-is}
 use Rattle.plan.proofs.Room.{enough-free, no-room, room as has-room, room-few, taken-block, taken-map, take-ready}
-use Rattle.plan.specs.Planned.{previousOf, released, AllHoused, Planned, Examined, Admission, Plannable, Prepared}
+use Rattle.plan.specs.Planned.{previousOf, released, Homes, housedAt, Planned, Examined, Admission, Findable, Prepared}
 
 -- two maps that are the same, word for word
-map-eq : (m n : Map) → sameMap m n ≡ true → m ≡ n
+pub map-eq : (m n : Map) → sameMap m n ≡ true → m ≡ n
 unfolding sameMap
 map-eq m n h =
     let a = eqb-true _ _ (and-left (eqb (m .low) (n .low)) _ h) in
@@ -55,16 +56,16 @@ byte-block x o d l h =
     (below-or-above x 128)
 
 -- what stands behind a refusal that is one of several
-orElse-assoc : (a b c : ℕ) → (a orElse b) orElse c ≡ a orElse (b orElse c)
+pub orElse-assoc : (a b c : ℕ) → (a orElse b) orElse c ≡ a orElse (b orElse c)
 unfolding _orElse_
 orElse-assoc zero b c = refl
 orElse-assoc (suc a) b c = refl
 
--- of data so long and a choice of such room the refusals are commit's own
-sized-is : (g : Geometry) (c ns bs ch : List ℕ) (size room : ℕ) → goodGeometry g ≡ true → length bs ≡ size → choiceRoom ch ≡ room
-    → sizedRefusal g c ns size room ≡ saveRefusal g c ns bs ch
-unfolding requestRefusal sizedRefusal saveRefusal dataFits sizeFits choiceRefusal
-sized-is g c ns bs ch size room good l k =
+-- of data so long and a choice of such room the refusals are a commit's own
+pub request-is : (g : Geometry) (ns bs ch : List ℕ) (size room : ℕ) (ok : Bool) → goodGeometry g ≡ true → length bs ≡ size → choiceRoom ch ≡ room
+    → requestRefusal g ns size room orElse refuse 14 ok ≡ saveRefusal g ns bs ch ok
+unfolding requestRefusal saveRefusal dataFits sizeFits choiceRefusal
+request-is g ns bs ch size room ok good l k =
     orElse-assoc (refuse 8 (countFits g ns)) _ _
     ∙ ap (λ (r : ℕ). refuse 8 (countFits g ns) orElse r)
     (orElse-assoc (refuse 9 (sizeFits g ns size)) _ _
@@ -76,7 +77,7 @@ sized-is g c ns bs ch size room good l k =
     orElse refuse 17 (room-is g ch room good k t)
     orElse refuse 10 (numbersFit g ns)
     orElse refuse 11 (numbersApart ns)
-    orElse refuse 14 (roomFor g c (length ns))))
+    orElse refuse 14 ok))
 
 -- commit asks of the choice only whether it fits, and only of a card that does
 choice-alike : (c : List ℕ) (m : Map) (ns bs ch dh : List ℕ) → (fitRefusal c ≡ 0 → choiceFits (geometryOf c) ch ≡ choiceFits (geometryOf c) dh)
@@ -131,13 +132,14 @@ module _ (g : Geometry) (c ns : List ℕ) (good : goodGeometry g ≡ true) (m : 
       pub plan-ready : (start < 128) × (length ns ≤ 128) × ((i : ℕ) → i < length ns → takenAt m start i < 128)
       plan-ready = take-ready g c good m q (freeCount m) refl (length ns) enough start b
 
-      pub plan-made : (qs es ps : List ℕ) (t y : Map) → Took m start (length ns) qs t → AllHoused g c ns es ps
+      pub plan-made : (qs zs es ps : List ℕ) (t y : Map) → Took m start (length ns) qs t → Homes g c ns zs ps
+          → Lists (housedAt g c zs) es (length ns)
           → ((p : ℕ → Bool) → t ≡ mapBy p → y ≡ mapBy (released p ps (length ns))) → Planned g c ns es ps qs y
       unfolding keyAt released
-      plan-made qs es ps t y x w r =
+      plan-made qs zs es ps t y x w k r =
           let n = length ns in
           record {
-            entries = w .entries;
+            entries = λ i l. k i l ∙ housed-is g c ns zs good (w .entries) i l;
             previous = w .previous;
             blocks = λ i k. x .blocks i k ∙ taken-block g c good m q (freeCount m) refl n enough start b i k;
             map-is =
@@ -190,12 +192,12 @@ module _ (c : List ℕ) (m : Map) (ns : List ℕ) (size room : ℕ) (xs : List �
   admit-misfit u n q = record {
     refusal-is = λ bs ch l k. q ∙ orElse-first (f .refusal) (fitRefusal c) _ (o .refusal-is) n;
     geometry-is = λ z. absurd (n (sym q ∙ z));
-    plannable = λ z. absurd (n (sym q ∙ z));
+    findable = λ z. absurd (n (sym q ∙ z));
   }
 
   module _ (z : f .refusal ≡ 0) (r : ℕ) (x : Examined (f .geometry) c m ns size room xs r) where
     refusal-of : (bs ch : List ℕ) → length bs ≡ size → choiceRoom ch ≡ room → r ≡ commitRefusal c m ns bs ch
-    unfolding commitRefusal mapRefusal mapOf
+    unfolding commitRefusal mapRefusal mapOf sizedRefusal
     refusal-of bs ch l k =
         let q = o .framed z .geometry-is in
         let good = ap goodGeometry (sym q) ∙ o .framed z .fitted .good in
@@ -203,7 +205,7 @@ module _ (c : List ℕ) (m : Map) (ns : List ℕ) (size room : ℕ) (xs : List �
         (x .refusal-is
         ∙ (λ t. cardRefusal (q t) c orElse refuse 15 (sameMap m (mapBy (isMarked (q t) c))) orElse sizedRefusal (q t) c ns size room)
         ∙ ap (λ (s : ℕ). cardRefusal (geometryOf c) c orElse refuse 15 (sameMap m (mapBy (isMarked (geometryOf c) c))) orElse s)
-        (sized-is (geometryOf c) c ns bs ch size room good l k))
+        (request-is (geometryOf c) ns bs ch size room (roomFor (geometryOf c) c (length ns)) good l k))
 
     module _ (y : r ≡ 0) where
       bytes : List ℕ
@@ -224,26 +226,29 @@ module _ (c : List ℕ) (m : Map) (ns : List ℕ) (size room : ℕ) (xs : List �
           let v = orElse-none (mapRefusal c m) _ (orElse-none (cardRefusal g c) _ w .1) .1 in
           orElse-none (choiceRefusal g quiet) _ (orElse-none (refuse 9 (dataFits g ns bytes)) _ (orElse-none (refuse 8 (countFits g ns)) _ v .1) .1) .1
 
-      plannable-of : Plannable (f .geometry) c (f .head) xs m ns
-      plannable-of =
+      findable-of : Findable (f .geometry) c (f .head) xs m ns
+      findable-of =
           let q : f .geometry ≡ geometryOf c = o .framed z .geometry-is in
           record {
+            plannable = record {
+              fitted = x .indexed y .fitted;
+              head = o .framed z .head-is;
+              map-is = x .map-is y;
+              room =
+                  rw q
+                  (refuse-none 14 _ (omega arith)
+                  (orElse-none (refuse 11 (numbersApart ns)) _ (orElse-none (refuse 10 (numbersFit (geometryOf c) ns)) _ late .1) .1));
+              unused = rw q (unused-room (passed c m ns bytes quiet none));
+            };
             indexed = x .indexed y;
-            head = o .framed z .head-is;
-            map-is = x .map-is y;
             numbers = rw q (refuse-none 10 _ (omega arith) (orElse-none (refuse 10 (numbersFit (geometryOf c) ns)) _ late .0));
-            room =
-                rw q
-                (refuse-none 14 _ (omega arith)
-                (orElse-none (refuse 11 (numbersApart ns)) _ (orElse-none (refuse 10 (numbersFit (geometryOf c) ns)) _ late .1) .1));
-            unused = rw q (unused-room (passed c m ns bytes quiet none));
           }
 
     pub admit-examined : Admission c m ns size room xs (record { refusal = r; geometry = f .geometry; head = f .head })
     admit-examined = record {
       refusal-is = refusal-of;
       geometry-is = λ y. o .framed z .geometry-is;
-      plannable = plannable-of;
+      findable = findable-of;
     }
 
 -- ---- a plan as a whole

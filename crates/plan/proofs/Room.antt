@@ -29,7 +29,7 @@ enough-free g c good m q n h = omega (arith, ap freeCount q ∙ search-count g c
 
 module _ (g : Geometry) (c : List ℕ) (good : goodGeometry g ≡ true) (m : Map) (q : m ≡ mapBy (isMarked g c)) (free : ℕ) (f : free ≡ freeCount m)
     (n : ℕ) where
-  counted : free ≡ length (freeBlocks g c)
+  pub counted : free ≡ length (freeBlocks g c)
   counted = f ∙ ap freeCount q ∙ search-count g c good
 
   pub no-room : free < n → roomFor g c n ≡ false

@@ -13,7 +13,7 @@ use Rattle.protocol.proofs.Below.{below-or-above, count-hit, count-miss}
 use Rattle.protocol.proofs.Searches.{length-walk}
 use Rattle.plan.specs.Walked.{passedBy, Reached}
 
-each-split : (f : ℕ → List ℕ) (a b : ℕ) → eachBelow f (a + b) ≡ eachBelow f a ++ eachBelow (λ i. f (a + i)) b
+pub each-split : (f : ℕ → List ℕ) (a b : ℕ) → eachBelow f (a + b) ≡ eachBelow f a ++ eachBelow (λ i. f (a + i)) b
 unfolding eachBelow
 each-split f a zero = rw add-zero (sym (append-nil (eachBelow f a)))
 each-split f a (suc b) =

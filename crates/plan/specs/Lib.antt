@@ -1,3 +1,4 @@
 pub mod Request
 pub mod Walked
 pub mod Planned
+pub mod Met

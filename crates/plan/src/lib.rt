@@ -13,12 +13,13 @@ ghost use Rattle.protocol.specs.Search.{unusedAt, searchStart, unusedEntries};
 ghost use Rattle.protocol.specs.Map.{mapBy, isMarked, freeCount};
 ghost use Rattle.protocol.specs.Commit.{numbersFit, newNumber, numbersApart, roomFor};
 ghost use Rattle.ring.specs.Fitted.{Fitted, Framed};
-ghost use Rattle.checks.specs.Keys.{NONE};
+ghost use Rattle.checks.specs.Keys.{NONE, Lists};
 ghost use Rattle.checks.specs.Chain.{Blank};
 ghost use Rattle.checks.specs.Passed.{Indexed};
 ghost use Rattle.plan.specs.Request.{choiceRoom, requestRefusal, sizedRefusal};
-ghost use Rattle.plan.specs.Walked.{unusedBefore, Reached};
-ghost use Rattle.plan.specs.Planned.{released, Housed, AllHoused, Planned, Examined, Admission, Plannable, Prepared};
+ghost use Rattle.plan.specs.Walked.{Reached};
+ghost use Rattle.plan.specs.Met.{Met};
+ghost use Rattle.plan.specs.Planned.{released, Housed, Homes, housedAt, Planned, Examined, Admission, Plannable, Prepared};
 
 // Not 10: each number is below D.
 fn numbers_fit(g: Geometry, numbers: &[u64]) -> bool
@@ -91,7 +92,7 @@ pub fn choice_room(choice: &[u8]) -> usize
 
 // 8, 9, 17, 10 and 11, which the numbers, the data's length and the choice's room decide alone. Nothing is shifted before the count has passed:
 // n·B then fits a word.
-fn request_refusal(g: Geometry, numbers: &[u64], size: usize, room: usize) -> u8
+pub fn request_refusal(g: Geometry, numbers: &[u64], size: usize, room: usize) -> u8
     requires { ⌜ goodGeometry g ≡ true ⌝ }
     ensures { λ r. ⌜ r ≡ requestRefusal g (now (numbers .entry)) size room ⌝ }
 {
@@ -151,17 +152,15 @@ pub fn next_unused(g: Geometry, card: &[u8], start: usize, from: usize) -> usize
     n
 }
 
-// Where one block of a commit belongs: its entry, its previous data block as a byte, 255 for FRESH, and how far the walk for unused entries went.
+// Where one block of a commit is cached: its entry and its data block as bytes, 255 for both where it is not.
 pub struct Home {
     pub entry: u8,
     pub previous: u8,
-    pub walked: usize,
 }
 
-// The entry for b with its current block, or the next unused one.
-fn home_of(g: Geometry, card: &[u8], index: &[u8; 640], start: usize, b: u64, from: usize) -> Home
-    requires { ⌜ Indexed g (now card) (now index) × (b < NONE) × (start ≡ searchStart g (now card)) × (start < g .blocks) × (from ≤ g .blocks) × (unusedBefore g (now card) from < length (unusedEntries g (now card))) ⌝ }
-    ensures { λ r. ⌜ Housed g (now (card .entry)) b from r ⌝ }
+fn home_of(g: Geometry, card: &[u8], index: &[u8; 640], b: u64) -> Home
+    requires { ⌜ Indexed g (now card) (now index) × (b < NONE) ⌝ }
+    ensures { λ r. ⌜ Housed g (now (card .entry)) b r ⌝ }
 {
     let at = checks::find(g, card, index, b);
     if at < g.blocks as usize {
@@ -171,40 +170,50 @@ fn home_of(g: Geometry, card: &[u8], index: &[u8; 640], start: usize, b: u64, fr
         return Home {
             entry: found,
             previous: current,
-            walked: from,
         };
     }
-    let j = next_unused(g, card, start, from);
-    let unused = place_after(g, start, j) as u8;
-    let after = j + 1;
     Home {
-        entry: unused,
+        entry: 255,
         previous: 255,
-        walked: after,
     }
 }
 
-// For each block of a commit its entry's place and its previous data block.
-fn homes_of(
+// For each number of a commit where it is cached.
+pub fn find_homes(
     g: Geometry,
     card: &[u8],
     index: &[u8; 640],
-    start: usize,
     numbers: &[u64],
     entries: &mut [u8; 128],
     previous: &mut [u8; 128],
 )
-    requires { ⌜ Indexed g (now card) (now index) × (start ≡ searchStart g (now card)) × (start < g .blocks) × (numbersFit g (now numbers) ≡ true) × (length (now numbers) ≤ length (unusedEntries g (now card))) × (length (now numbers) ≤ 128) × (length (now entries) ≡ 128) × (length (now previous) ≡ 128) ⌝ }
-    ensures { λ _. ⌜ AllHoused g (now (card .entry)) (now (numbers .entry)) (now (entries .exit)) (now (previous .exit)) ⌝ }
+    requires { ⌜ Indexed g (now card) (now index) × (numbersFit g (now numbers) ≡ true) × (length (now numbers) ≤ 128) × (length (now entries) ≡ 128) × (length (now previous) ≡ 128) ⌝ }
+    ensures { λ _. ⌜ Homes g (now (card .entry)) (now (numbers .entry)) (now (entries .exit)) (now (previous .exit)) ⌝ }
+{
+    let mut i: usize = 0;
+    while i < numbers.len() {
+        let h = home_of(g, card, index, numbers[i]);
+        entries[i] = h.entry;
+        previous[i] = h.previous;
+        i += 1;
+    }
+}
+
+// Each of the first n numbers that is not cached gets the next unused entry of the walk from `start`.
+fn house(g: Geometry, card: &[u8], start: usize, n: usize, entries: &mut [u8; 128])
+    requires { ⌜ Fitted g (now card) × (start ≡ searchStart g (now card)) × (start < g .blocks) × (n ≤ 128) × (n ≤ length (unusedEntries g (now card))) × (length (now entries) ≡ 128) ⌝ }
+    ensures { λ _. ⌜ Lists (housedAt g (now (card .entry)) (now (entries .entry))) (now (entries .exit)) n ⌝ }
 {
     let mut walked: usize = 0;
     let mut i: usize = 0;
-    while i < numbers.len() {
-        let h = home_of(g, card, index, start, numbers[i], walked);
-        entries[i] = h.entry;
-        previous[i] = h.previous;
-        walked = h.walked;
+    while i < n {
+        let at = i;
         i += 1;
+        if 128 <= entries[at] {
+            let j = next_unused(g, card, start, walked);
+            entries[at] = place_after(g, start, j) as u8;
+            walked = j + 1;
+        }
     }
 }
 
@@ -215,7 +224,7 @@ fn wide(x: u8) -> usize
 }
 
 // The map with the bits of the first n previous blocks cleared: a finished commit gives them up. FRESH is no block.
-fn release(map: Map, previous: &[u8; 128], n: usize) -> Map
+pub fn release(map: Map, previous: &[u8; 128], n: usize) -> Map
     requires { ⌜ n ≤ 128 ⌝ }
     ensures { λ r. ⌜ ((p : ℕ → Bool) → map ≡ mapBy p → r ≡ mapBy (released p (now (previous .entry)) n)) ⌝ }
 {
@@ -302,25 +311,78 @@ pub fn admit(
     }
 }
 
-// The plan of a commit that is not refused: for each block its entry's place, its previous and its new data block, and the map once it is made.
+// What a call on card and disk goes on from: its refusal, and where there is none the card's geometry, its Head and how many data blocks are free.
+pub struct Basis {
+    pub refusal: u8,
+    pub geometry: Geometry,
+    pub head: u64,
+    pub free: u64,
+}
+
+pub fn stopped(g: Geometry, refusal: u8) -> Basis
+    ensures { λ r. ⌜ r .refusal ≡ refusal ⌝ }
+{
+    Basis {
+        refusal: refusal,
+        geometry: g,
+        head: 0,
+        free: 0,
+    }
+}
+
+// 1 to 7, 15, and 16 unless the table is arranged; and the index of the card's numbers, so that no search decodes the entries again.
+pub fn meet(card: &[u8], disk: &[u8], map: Map, arranged: bool, index: &mut [u8; 640]) -> Basis
+    requires { ⌜ Blank (now index) ⌝ }
+    ensures { λ r. ⌜ Met (now (card .entry)) (now (disk .entry)) map arranged (now (index .exit)) r ⌝ }
+{
+    let f = ring::fit_of(card);
+    let g = f.geometry;
+    if f.refusal != 0 {
+        return stopped(g, f.refusal);
+    }
+    let other = ring::disk_refusal(g, disk);
+    if other != 0 {
+        return stopped(g, other);
+    }
+    let w = checks::examine(f, card, index);
+    if w.refusal != 0 {
+        return stopped(g, w.refusal);
+    }
+    let same = freemap::same(map, w.map);
+    if !same {
+        return stopped(g, 15);
+    }
+    if !arranged {
+        return stopped(g, 16);
+    }
+    Basis {
+        refusal: 0,
+        geometry: g,
+        head: f.head,
+        free: w.free,
+    }
+}
+
+// The plan of a commit that is not refused, from where its numbers are cached: for each block its entry's place, its previous and its new data
+// block, and the map once it is made.
 pub fn plan_of(
     g: Geometry,
     card: &[u8],
     head: u64,
-    index: &[u8; 640],
     map: Map,
     numbers: &[u64],
     entries: &mut [u8; 128],
-    previous: &mut [u8; 128],
+    previous: &[u8; 128],
     blocks: &mut [u8; 128],
 ) -> Map
-    requires { ⌜ Plannable g (now card) head (now index) map (now numbers) × (length (now entries) ≡ 128) × (length (now previous) ≡ 128) × (length (now blocks) ≡ 128) ⌝ }
-    ensures { λ r. ⌜ Planned g (now (card .entry)) (now (numbers .entry)) (now (entries .exit)) (now (previous .exit)) (now (blocks .exit)) r ⌝ }
+    requires { ⌜ Plannable g (now card) head map (now numbers) × Homes g (now card) (now numbers) (now entries) (now previous) × (length (now blocks) ≡ 128) ⌝ }
+    ensures { λ r. ⌜ Planned g (now (card .entry)) (now (numbers .entry)) (now (entries .exit)) (now (previous .entry)) (now (blocks .exit)) r ⌝ }
 {
     let start = search_start(g, head);
-    let taken = freemap::take(map, start, numbers.len(), blocks);
-    homes_of(g, card, index, start, numbers, entries, previous);
-    release(taken, previous, numbers.len())
+    let n = numbers.len();
+    let taken = freemap::take(map, start, n, blocks);
+    house(g, card, start, n, entries);
+    release(taken, previous, n)
 }
 
 // A plan as a whole, for whoever shows it.
@@ -361,15 +423,16 @@ pub fn prepare(card: &[u8], map: Map, numbers: &[u64], size: usize) -> Saving
     let mut entries = [0u8; 128];
     let mut previous = [0u8; 128];
     let mut blocks = [0u8; 128];
+    let g = a.geometry;
+    find_homes(g, card, &index, numbers, &mut entries, &mut previous);
     plan_of(
-        a.geometry,
+        g,
         card,
         a.head,
-        &index,
         map,
         numbers,
         &mut entries,
-        &mut previous,
+        &previous,
         &mut blocks,
     );
     Saving {

@@ -79,11 +79,11 @@ module _ (c : List ℕ) (m : Map) (ns bs out : List ℕ) (size : ℕ) (e : size 
     told-length : length out ≡ length ns
     told-length = passed-length c m ns bs out none
 
-    ready : Plannable (a .geometry) c (a .head) xs m ns
-    ready = x .plannable z
+    ready : Plannable (a .geometry) c (a .head) m ns
+    ready = x .findable z .plannable
 
     pub preview-good : goodGeometry (a .geometry) ≡ true
-    preview-good = ready .indexed .fitted .good
+    preview-good = ready .fitted .good
 
     pub preview-few : length out ≤ 128
     preview-few = omega (arith, told-length, plan-few (a .geometry) c ns preview-good m (ready .map-is) (ready .room))

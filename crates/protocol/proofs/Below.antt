@@ -38,6 +38,10 @@ and-right false b e = absurd-bool e refl
 pub and-both : {a b : Bool} → a ≡ true → b ≡ true → a && b ≡ true
 and-both {a} {b} p q = rw (p, q)
 
+pub and-true : (a : Bool) → a && true ≡ a
+and-true true = refl
+and-true false = refl
+
 pub and-fails : (a b : Bool) → b ≡ false → a && b ≡ false
 and-fails true b e = e
 and-fails false b e = refl
@@ -254,6 +258,13 @@ first-missed p n i h l = go (firstBelow p n) h (first-is p n)
     go : (f : ℕ) → n ≤ f → First p n f → p i ≡ false
     go f k (found m x y) = absurd (omega arith)
     go f k (missing q y) = y i l
+
+pub first-cong : (p q : ℕ → Bool) (n : ℕ) → ((i : ℕ) → i < n → p i ≡ q i) → firstBelow p n ≡ firstBelow q n
+first-cong p q n f = go (firstBelow q n) (first-is q n)
+  where
+    go : (j : ℕ) → First q n j → firstBelow p n ≡ j
+    go j (found l x y) = first-at p n j l (f j l ∙ x) (λ i h. f i (omega arith) ∙ y i h)
+    go j (missing e y) = first-none p n (λ i h. f i h ∙ y i h) ∙ sym e
 
 -- ---- rings
 

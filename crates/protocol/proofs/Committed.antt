@@ -18,7 +18,7 @@ use Rattle.protocol.specs.Below.{anyBelow, countBelow, eachBelow, around
 use Rattle.protocol.specs.Layout.{blockSize, blockAt, diskBlock}
 use Rattle.protocol.specs.Entry.{FRESH, entryAt, inUse, isModified, hasLogRole, goodEntry, switched}
 use Rattle.protocol.specs.Ring.{headOf, tailOf, slotAt, windowLength, windowOf, windowNumber, windowHas, inWindow, usedAt, findEntry, cached, currentOf}
-use Rattle.protocol.specs.Store.{card, disk, Store, Run, storedOn, madeOn, flat, made, single, words, entryStore, slotStore, headStore, tailStore}
+use Rattle.protocol.specs.Store.{card, disk, Store, Run, storedOn, madeOn, flat, single, words, entryStore, slotStore, headStore, tailStore}
 use Rattle.protocol.specs.Search.{freeBlocks, unusedEntries}
 use Rattle.protocol.specs.Commit.{numberOf, uncachedAt, newBlock, entryFound, oldBlock, logEntry, dataOf, headAfter, blockRuns, switchRuns, commitRuns, countFits, dataFits, numberFits, numbersFit, numbersDiffer, newNumber, numbersApart, roomFor}
 use Rattle.protocol.specs.History.{placeAmong, replaced}
@@ -35,10 +35,10 @@ use Rattle.protocol.proofs.Recovered.{fits-entry}
 use Rattle.protocol.proofs.Region.{entry, block, slot, head, tail, block-ends}
 use Rattle.protocol.proofs.Shape.{Changed, head-kept, tail-kept, slot-kept, entry-kept, block-kept, window-empty, window-kept, number-kept, kindOf, kindAt, viewOf, Seen, seen-idle, seen-live, seen-pending, see, previousOf, previous-none, previous-is, previous-some, Inv}
 use Rattle.protocol.proofs.Steps.{entry-changes, entry-stays, run-in-block, slot-changes, head-moves, window-longer, number-stays, number-last, tail-moves, tail-settled, window-below, head-after}
-use Rattle.protocol.proofs.Stores.{Some, Along, along-then, along-one, along-run, along-each, flat-append, flat-single, made-append}
+use Rattle.protocol.proofs.Stores.{made-append, flat-last, Some, Along, along-then, along-one, along-run, along-each}
 
 -- k is one of f's values below a, or none of them
-among : (f : ℕ → ℕ) (a k : ℕ) → ((j : ℕ) × (j < a) × (f j ≡ k)) ⊎ ((j : ℕ) → j < a → f j ≡ k → ⊥)
+pub among : (f : ℕ → ℕ) (a k : ℕ) → ((j : ℕ) × (j < a) × (f j ≡ k)) ⊎ ((j : ℕ) → j < a → f j ≡ k → ⊥)
 among f a k =
     ⊎-elim
     (λ h. let (j, l, e) = any-witness (λ j. eqb (f j) k) a h in inl (j, l, eqb-true _ _ e))
@@ -63,7 +63,26 @@ used-from : (g : Geometry) (c : List ℕ) (k : ℕ) → inUse (entryAt g c k) �
 unfolding usedAt
 used-from g c k u = u
 
+-- a commit leaves the other blocks of the row
+pub row-kept : (g : Geometry) (ns bs : List ℕ) (row : ℕ → List ℕ) (b : ℕ) → ((j : ℕ) → j < length ns → numberOf ns j ≡ b → ⊥)
+    → replaced g ns bs row b ≡ row b
+unfolding replaced placeAmong
+row-kept g ns bs row b h =
+    let e : placeAmong ns b ≡ length ns = first-none _ (length ns) (λ j l. ne-eqb _ _ (h j l)) in
+    rw e (rw (le-ltb (length ns) (length ns) (omega arith)))
+
 -- ---- the plan
+
+pub apart-numbers : (ns : List ℕ) → numbersApart ns ≡ true → (i j : ℕ) → i < length ns → j < length ns → numberOf ns i ≡ numberOf ns j → i ≡ j
+unfolding numbersApart newNumber numbersDiffer
+apart-numbers ns once i j li lj e =
+    ⊎-elim
+    (λ l. absurd (later j i lj l (sym e)))
+    (λ l. ⊎-elim (λ m. absurd (later i j li m e)) (λ m. omega arith) (below-or-above j i))
+    (below-or-above i j)
+  where
+    later : (i j : ℕ) → i < length ns → j < i → numberOf ns i ≡ numberOf ns j → ⊥
+    later i j l m e = eqb-false _ _ (not-true _ (all-at _ i j (all-at _ (length ns) i once l) m)) e
 
 module _ {g : Geometry} {row : ℕ → List ℕ} {c d : List ℕ} (ns bs : List ℕ) (v : Inv g row c d) (p : CommitPassed g c ns bs) where
   pub count-low : 0 < length ns
@@ -89,15 +108,7 @@ module _ {g : Geometry} {row : ℕ → List ℕ} {c d : List ℕ} (ns bs : List 
 
   -- no number twice
   numbers-apart : (i j : ℕ) → i < length ns → j < length ns → numberOf ns i ≡ numberOf ns j → i ≡ j
-  unfolding numbersApart newNumber numbersDiffer
-  numbers-apart i j li lj e =
-      ⊎-elim
-      (λ l. absurd (later j i lj l (sym e)))
-      (λ l. ⊎-elim (λ m. absurd (later i j li m e)) (λ m. omega arith) (below-or-above j i))
-      (below-or-above i j)
-    where
-      later : (i j : ℕ) → i < length ns → j < i → numberOf ns i ≡ numberOf ns j → ⊥
-      later i j l m e = eqb-false _ _ (not-true _ (all-at _ i j (all-at _ (length ns) i (p .once) l) m)) e
+  numbers-apart = apart-numbers ns (p .once)
 
   pub q-below : (j : ℕ) → j < length ns → newBlock g c j < g .blocks
   q-below j l = new-below v j (omega (arith, enough-free))
@@ -151,7 +162,7 @@ module _ {g : Geometry} {row : ℕ → List ℕ} {c d : List ℕ} (ns bs : List 
       go (again h e k w) = k .below
 
   -- no entry twice
-  e-apart : (i j : ℕ) → i < length ns → j < length ns → entryFound g c ns i ≡ entryFound g c ns j → i ≡ j
+  pub e-apart : (i j : ℕ) → i < length ns → j < length ns → entryFound g c ns i ≡ entryFound g c ns j → i ≡ j
   unfolding uncachedAt
   e-apart i j li lj e = go (entered i li) (entered j lj)
     where
@@ -786,12 +797,6 @@ module _ {g : Geometry} {row : ℕ → List ℕ} {c d : List ℕ} (ns bs : List 
   unfolding replaced
   row-given j l = rw (place-of j l) (rw (lt-ltb j (length ns) l))
 
-  row-kept : (b : ℕ) → ((j : ℕ) → j < length ns → numberOf ns j ≡ b → ⊥) → replaced g ns bs row b ≡ row b
-  unfolding replaced placeAmong
-  row-kept b h =
-      let e : placeAmong ns b ≡ length ns = first-none _ (length ns) (λ j l. ne-eqb _ _ (h j l)) in
-      rw e (rw (le-ltb (length ns) (length ns) (omega arith)))
-
   module _ (c′ d′ : List ℕ) (m : Mid (length ns) (length ns) (length ns) c′ d′) where
     ord : Order (length ns) (length ns) (length ns)
     ord = record { a-low = omega arith; h-low = omega arith; t-low = omega arith }
@@ -839,12 +844,12 @@ module _ {g : Geometry} {row : ℕ → List ℕ} {c d : List ℕ} (ns bs : List 
             let n₀ : kindNumber (kindAt g c k) ≡ some b = sym (ap kindNumber same) ∙ n in
             let live₀ = live-kind g c k (number-used g c k n₀ .0) (no-undoable v (p .settled) k lk) in
             m .inv .safe .held k b q lk n (ap kindHome (same ∙ live₀) ∙ sym (ap kindCurrent (same ∙ live₀)) ∙ e)
-            ∙ sym (row-kept b (λ j l h. un j l (e-own j k l lk (n₀ ∙ ap some (sym h)))))
+            ∙ sym (row-kept g ns bs row b (λ j l h. un j l (e-own j k l lk (n₀ ∙ ap some (sym h)))))
 
     empty : (b : ℕ) → b < g .disk → ((k : ℕ) → k < g .blocks → kindNumber (kindAt g c′ k) ≡ some b → ⊥) → diskBlock g d′ b ≡ replaced g ns bs row b
     empty b lb none′ =
         m .inv .safe .bare b lb (λ k lk n. absurd (none′ k lk n))
-        ∙ sym (row-kept b (λ j l h. none′ (entryFound g c ns j) (e-below j l) (ap kindNumber (kind-logged m ord j l) ∙ ap some h)))
+        ∙ sym (row-kept g ns bs row b (λ j l h. none′ (entryFound g c ns j) (e-below j l) (ap kindNumber (kind-logged m ord j l) ∙ ap some h)))
 
     -- the row moves
     committed : Rest g (replaced g ns bs row) (storedOn card (tailStore (headAfter g c (length ns))) c′) (storedOn disk (tailStore (headAfter g c (length ns))) d′)
@@ -884,15 +889,12 @@ module _ {g : Geometry} {row : ℕ → List ℕ} {c d : List ℕ} (ns bs : List 
   unfolding commitRuns front
   commit-front = sym (append-assoc (eachBelow (blockRuns g c ns bs) (length ns)) (eachBelow (switchRuns g c ns) (length ns)) _)
 
-  pub commit-flat : flat (commitRuns g c ns bs) ≡ flat front ++ (tailStore (headAfter g c (length ns)) ∷ [])
-  commit-flat =
-      ap flat commit-front
-      ∙ flat-append front _
-      ∙ ap (λ (ss : List Store). flat front ++ ss) (flat-single (tailStore (headAfter g c (length ns))))
+  commit-flat : flat (commitRuns g c ns bs) ≡ flat front ++ (tailStore (headAfter g c (length ns)) ∷ [])
+  commit-flat = ap flat commit-front ∙ flat-last front _
 
   -- wherever the commit is cut before Tail's store, whatever is chosen there, the row stays
-  pub commit-cut : (a : ℕ) (ch : List ℕ) → Inv g row (madeOn card (made a ch front) c) (madeOn disk (made a ch front) d)
-  commit-cut a ch = front-along .during a ch
+  pub commit-cut : Along (Inv g row) (Inv g row) front c d
+  commit-cut = record { during = front-along .during; end = front-along .end .inv }
 
   -- with Tail's store, the row's blocks are replaced, and the card is settled
   pub commit-done : Rest g (replaced g ns bs row) (madeOn card (flat (commitRuns g c ns bs)) c) (madeOn disk (flat (commitRuns g c ns bs)) d)

@@ -1,6 +1,7 @@
--- The cut rule and the plain row: by induction over the list of calls, from a formatted card, with the invariant at every call. Assumes nothing.
+-- The cut rule and the plain row: by induction over the list of calls, from a formatted card, with the invariant at every call; and that a
+-- room-making commit keeps the blocks outside its transaction. Assumes nothing.
 use Prim.Native.Nat.{ℕ, _≤_, _<_}
-use mathlib.Core.List.{List, [], _∷_, _++_}
+use mathlib.Core.List.{List, [], _∷_, _++_, append-assoc}
 use mathlib.Core.Bool.{Bool, true, false, cond}
 use mathlib.Core.Option.{Option, none, some}
 use mathlib.Core.Path.{_≡_, refl, sym, ap, subst, _∙_}
@@ -15,29 +16,32 @@ use Rattle.protocol.specs.declared.Answer.the-variants.{Done, Cut, Refus
 use Rattle.protocol.specs.declared.Outcome.the-variants.{Done as FormatDone, Refused as FormatRefused}
 use Rattle.protocol.specs.declared.Geometry.{Geometry}
 use Rattle.protocol.specs.declared.Map.{Map}
-use Rattle.protocol.specs.Layout.{goodGeometry, cardLength, diskLength, diskBlock, entryPlace}
+use Rattle.protocol.specs.Layout.{goodGeometry, geometryOf, cardLength, diskLength, blockAt, diskBlock, entryPlace}
 use Rattle.protocol.specs.Entry.{unused, entryIn, entryAt, inUse, hasLogRole, goodEntry}
-use Rattle.protocol.specs.Ring.{headOf, tailOf, windowLength, windowOf, usedAt, undoableAt, isSettled}
+use Rattle.protocol.specs.Ring.{headOf, tailOf, windowLength, windowOf, usedAt, undoableAt, isSettled, cached, currentOf, contents}
 use Rattle.protocol.specs.Check.{refuse, cardFits}
 use Rattle.protocol.specs.Store.{Medium, card, disk, Store, Run, Work, madeOn, flat, made, single, storesOf, answerOf, afterOn, tailStore}
 use Rattle.protocol.specs.Format.{outcomeOf, formatRefusal, formatted, afterFormat}
-use Rattle.protocol.specs.Commit.{commitRefusal, commitRuns, commitWork, headAfter}
+use Rattle.protocol.specs.Commit.{commitRuns, commitWork, headAfter}
 use Rattle.protocol.specs.Load.{loadRuns, loadWork, evictRuns, evictWork}
+use Rattle.protocol.specs.Room.{isAmong, victims, missing, victimNumber, roomRuns, roomLeft, roomRefusal, roomWork}
 use Rattle.protocol.specs.Recover.{recoverRuns, recoverWork}
-use Rattle.protocol.specs.History.{Call, commit, load, evict, recover, Request, Media, workOf, answerTo, after, run, answers, fresh, Row, replaced, rowStep, rowAfter}
-use Rattle.protocol.specs.CutRule.{left, rowLeft, recovering, CutRule, Uncut, PlainRow}
+use Rattle.protocol.specs.History.{Call, commit, makeRoom, load, evict, recover, Request, Media, workOf, answerTo, after, run, answers, fresh, Row, replaced, rowStep, rowAfter}
+use Rattle.protocol.specs.CutRule.{left, rowLeft, recovering, CutRule, Uncut, PlainRow, makingRoom, RoomKept, RoomKeeps}
 use Rattle.protocol.proofs.Allowed.{unused-good, unused-used, unused-role}
-use Rattle.protocol.proofs.Below.{either, absurd-bool, and-left}
+use Rattle.protocol.proofs.Below.{either, absurd-bool, and-left, any-at}
 use Rattle.protocol.proofs.Checks.{Limits, limits}
 use Rattle.protocol.proofs.Codec.{entry-of-part, good-header, geometry-of-header, header-formatted, length-formatted, zero-formatted}
-use Rattle.protocol.proofs.Committed.{front, commit-front, commit-flat, commit-cut, commit-done}
-use Rattle.protocol.proofs.Holds.{geometry-is, recover-refuses, map-made, contents-hold, read-holds, look-holds, read-refuses, look-refuses, idle-kind}
+use Rattle.protocol.proofs.Committed.{row-kept, front, commit-front, commit-cut, commit-done}
+use Rattle.protocol.proofs.Holds.{geometry-is, recover-refuses, map-made, contents-hold, read-holds, look-holds, read-refuses, look-refuses, recent-holds, recent-refuses, idle-kind}
 use Rattle.protocol.proofs.Invariant.{Kind, idle, kindNumber, kindCurrent, kindPrevious}
+use Rattle.protocol.proofs.Lawful.{inv-intact, number-below}
 use Rattle.protocol.proofs.Loaded.{Rest, eviction, loading}
-use Rattle.protocol.proofs.Passed.{first-zero, second-zero, passed, evict-passed, load-passed, commit-passed}
+use Rattle.protocol.proofs.Passed.{first-zero, second-zero, passed, CommitPassed, RoomPassed, room-passed, evict-passed, load-passed, commit-passed}
 use Rattle.protocol.proofs.Recovered.{recovery, settled-by}
+use Rattle.protocol.proofs.Room.{victim-below, victim-outside, room-enough, room-commits, room-along, victim-gone}
 use Rattle.protocol.proofs.Shape.{kindAt, Shape, Inv, window-empty}
-use Rattle.protocol.proofs.Stores.{runs-covered, runs-before, single-cut, Along}
+use Rattle.protocol.proofs.Stores.{made-runs, flat-last, runs-covered, runs-before, single-cut, Along, both, along-next, along-none}
 
 -- ---- what a call leaves, by its answer
 
@@ -63,125 +67,106 @@ answered a w = go (either (eqb (w .refusal) 0)) (either (ltb a (length (flat (w 
 abbrev Left : (List ℕ → List ℕ → Type 0) → ℕ → Work → Media → Type 0
 Left P a w m = P (afterOn card a w (m .onCard)) (afterOn disk a w (m .onDisk))
 
-left-by : (P : List ℕ → List ℕ → Type 0) (a : ℕ) (w : Work) (m : Media) {c d : List ℕ}
-    → afterOn card a w (m .onCard) ≡ c → afterOn disk a w (m .onDisk) ≡ d → P c d → Left P a w m
-left-by P a w m {c} {d} p q h =
-    subst (λ (z : List ℕ). P z (afterOn disk a w (m .onDisk))) (sym p) (subst (P c) (sym q) h)
+-- ---- the calls
 
--- a call whose stores keep P wherever they are cut, and leave Q at their end
-keeps : {P Q : List ℕ → List ℕ → Type 0} (a : ℕ) (w : Work) (m : Media) → P (m .onCard) (m .onDisk)
-    → (w .refusal ≡ 0 → Along P Q (w .runs) (m .onCard) (m .onDisk)) → Left P a w m
-keeps {P} {Q} a w m p f = go (answered a w)
-  where
-    go : Answered a w → Left P a w m
-    go (refused n e k) = left-by P a w m (k card (m .onCard)) (k disk (m .onDisk)) p
-    go (cut n l e k) = left-by P a w m (k card (m .onCard)) (k disk (m .onDisk)) (f n .during a (w .choice))
-    go (done n e k) =
-        left-by P a w m (k card (m .onCard)) (k disk (m .onDisk))
-        (subst (λ (ss : List Store). P (madeOn card ss (m .onCard)) (madeOn disk ss (m .onDisk)))
-        (runs-covered (length (flat (w .runs))) (w .choice) (w .runs) (omega arith))
-        (f n .during (length (flat (w .runs))) (w .choice)))
+-- a commit's runs behind runs that keep the invariant: cut before Tail's store they leave the row, done they replace its blocks
+module _ {g : Geometry} {row : Row} {c d : List ℕ} (rs : List Run) (ns bs : List ℕ) (x : Along (Inv g row) (Inv g row) rs c d)
+    (p : CommitPassed g (madeOn card (flat rs) c) ns bs) where
+  abbrev saving : List Run
+  saving = rs ++ commitRuns g (madeOn card (flat rs) c) ns bs
 
-ends : {P Q : List ℕ → List ℕ → Type 0} (a n : ℕ) (w : Work) (m : Media) → answerOf a w ≡ Done n
-    → (w .refusal ≡ 0 → Along P Q (w .runs) (m .onCard) (m .onDisk)) → Left Q a w m
-ends {P} {Q} a n w m e f = go (answered a w)
-  where
-    go : Answered a w → Left Q a w m
-    go (refused z x k) = let y : _≡_ {A = ℕ} 0 1 = cc in absurd (omega arith)
-    go (cut z l x k) = let y : _≡_ {A = ℕ} 0 1 = cc in absurd (omega arith)
-    go (done z x k) = left-by Q a w m (k card (m .onCard)) (k disk (m .onDisk)) (f z .end)
+  saving-cut : (a : ℕ) (ch : List ℕ) → a < length (flat saving) → Inv g row (madeOn card (made a ch saving) c) (madeOn disk (made a ch saving) d)
+  saving-cut a ch l =
+      let first = rs ++ front ns bs (x .end) p in
+      let last = tailStore (headAfter g (madeOn card (flat rs) c) (length ns)) in
+      let split : saving ≡ first ++ single last =
+      ap (λ (qs : List Run). rs ++ qs) (commit-front ns bs (x .end) p) ∙ sym (append-assoc rs (front ns bs (x .end) p) (single last)) in
+      let short : a ≤ length (flat first) = omega (arith, ap length (ap flat split ∙ flat-last first last), length-append (flat first) (last ∷ [])) in
+      subst (λ (ss : List Store). Inv g row (madeOn card ss c) (madeOn disk ss d))
+      (sym (ap (made a ch) split ∙ runs-before a ch first (single last) (single-cut ch last) short))
+      (along-next rs (front ns bs (x .end) p) c d x (commit-cut ns bs (x .end) p) .during a ch)
 
--- ---- the four calls
+  saving-done : Rest g (replaced g ns bs row) (madeOn card (flat saving) c) (madeOn disk (flat saving) d)
+  saving-done =
+      both (Rest g (replaced g ns bs row)) (sym (made-runs card rs _ c)) (sym (made-runs disk rs _ d)) (commit-done ns bs (x .end) p)
 
 module _ {g : Geometry} {row : Row} (m : Media) (s : Map) (v : Inv g row (m .onCard) (m .onDisk)) where
-  along-load : (b : ℕ) (ch : List ℕ) → loadWork (m .onCard) (m .onDisk) s b ch .refusal ≡ 0
-      → Along (Inv g row) (Rest g row) (loadWork (m .onCard) (m .onDisk) s b ch .runs) (m .onCard) (m .onDisk)
-  unfolding loadWork
-  along-load b ch z =
-      subst (λ (y : Geometry). Along (Inv g row) (Rest g row) (loadRuns y (m .onCard) (m .onDisk) b) (m .onCard) (m .onDisk))
-      (sym (geometry-is v)) (loading v b (load-passed v s b ch z))
+  -- what a call's runs do: cut they leave the row, done they leave a row of their own, and the card settled
+  record Does (row′ : Row) (rs : List Run) : Type 0 where
+    cutting : (a : ℕ) (ch : List ℕ) → a < length (flat rs) → Inv g row (madeOn card (made a ch rs) (m .onCard)) (madeOn disk (made a ch rs) (m .onDisk))
+    finished : Rest g row′ (madeOn card (flat rs) (m .onCard)) (madeOn disk (flat rs) (m .onDisk))
 
-  along-evict : (b : ℕ) (ch : List ℕ) → evictWork (m .onCard) (m .onDisk) s b ch .refusal ≡ 0
-      → Along (Inv g row) (Rest g row) (evictWork (m .onCard) (m .onDisk) s b ch .runs) (m .onCard) (m .onDisk)
-  unfolding evictWork
-  along-evict b ch z =
-      subst (λ (y : Geometry). Along (Inv g row) (Rest g row) (evictRuns y (m .onCard) b) (m .onCard) (m .onDisk))
-      (sym (geometry-is v)) (eviction v b (evict-passed v s b ch z))
+  -- the call's geometry is the card's
+  own : (row′ : Row) (rs : Geometry → List Run) → Does row′ (rs g) → Does row′ (rs (geometryOf (m .onCard)))
+  own row′ rs h = subst (λ (y : Geometry). Does row′ (rs y)) (sym (geometry-is v)) h
 
-  along-recover : Along (Inv g row) (Rest g row) (recoverWork (m .onCard) s .runs) (m .onCard) (m .onDisk)
-  unfolding recoverWork
-  along-recover =
-      subst (λ (y : Geometry). Along (Inv g row) (Rest g row) (recoverRuns y (m .onCard)) (m .onCard) (m .onDisk))
-      (sym (geometry-is v)) (recovery v)
+  along-does : (rs : List Run) → Along (Inv g row) (Rest g row) rs (m .onCard) (m .onDisk) → Does row rs
+  along-does rs x = record { cutting = λ a ch l. x .during a ch; finished = x .end }
 
-  -- a commit: cut before Tail's store it leaves the row, done it replaces its blocks
-  module _ (ns bs ch : List ℕ) where
-    abbrev saving : Work
-    saving = commitWork (m .onCard) s ns bs ch
+  commit-does : (rs : List Run) (ns bs : List ℕ) → Along (Inv g row) (Inv g row) rs (m .onCard) (m .onDisk)
+      → CommitPassed g (madeOn card (flat rs) (m .onCard)) ns bs
+      → Does (replaced g ns bs row) (rs ++ commitRuns g (madeOn card (flat rs) (m .onCard)) ns bs)
+  commit-does rs ns bs x p = record { cutting = saving-cut rs ns bs x p; finished = saving-done rs ns bs x p }
 
-    abbrev runs : Geometry → List Run
-    runs y = commitRuns y (m .onCard) ns bs
+  call-does : (q : Call) (n : ℕ) → workOf q s m .refusal ≡ 0 → Does (rowStep g q (Done n) row) (workOf q s m .runs)
+  unfolding workOf rowStep commitWork roomWork loadWork evictWork recoverWork flat madeOn roomLeft
+  call-does (commit ns bs ch) n z =
+      own (replaced g ns bs row) (λ y. commitRuns y (m .onCard) ns bs)
+      (commit-does [] ns bs (along-none (m .onCard) (m .onDisk) v v) (commit-passed v s ns bs ch z))
+  call-does (makeRoom t ns bs ch) n z =
+      let p = subst (λ (y : Geometry). RoomPassed y (m .onCard) t ns bs ch) (geometry-is v) (room-passed (m .onCard) (m .onDisk) s t ns bs ch z) in
+      let x = room-along t ns bs ch v p in
+      own (replaced g ns bs row) (λ y. roomRuns y (m .onCard) t ns ++ commitRuns y (roomLeft y (m .onCard) t ns) ns bs)
+      (commit-does (roomRuns g (m .onCard) t ns) ns bs (record { during = x .during; end = x .end .0 }) (room-commits t ns bs ch (inv-intact v) p))
+  call-does (load t b ch) n z =
+      own row (λ y. loadRuns y (m .onCard) (m .onDisk) b) (along-does _ (loading v b (load-passed v s t b ch z)))
+  call-does (evict b ch) n z = own row (λ y. evictRuns y (m .onCard) b) (along-does _ (eviction v b (evict-passed v s b ch z)))
+  call-does recover n z = own row (λ y. recoverRuns y (m .onCard)) (along-does _ (recovery v))
 
-    commit-cut-inv : (a : ℕ) → commitRefusal (m .onCard) s ns bs ch ≡ 0 → a < length (flat (runs g))
-        → Inv g row (madeOn card (made a ch (runs g)) (m .onCard)) (madeOn disk (made a ch (runs g)) (m .onDisk))
-    commit-cut-inv a z l =
-        let ps = commit-passed v s ns bs ch z in
-        let last = tailStore (headAfter g (m .onCard) (length ns)) in
-        let short : a ≤ length (flat (front ns bs v ps)) =
-        omega (arith, ap length (commit-flat ns bs v ps), length-append (flat (front ns bs v ps)) (last ∷ [])) in
-        let t : made a ch (runs g) ≡ made a ch (front ns bs v ps) =
-        ap (made a ch) (commit-front ns bs v ps) ∙ runs-before a ch (front ns bs v ps) (single last) (single-cut ch last) short in
-        subst (λ (ss : List Store). Inv g row (madeOn card ss (m .onCard)) (madeOn disk ss (m .onDisk))) (sym t) (commit-cut ns bs v ps a ch)
+  -- a call that is cut or refused leaves the row
+  row-cut : (q : Call) → rowStep g q Cut row ≡ row
+  unfolding rowStep
+  row-cut (commit ns bs ch) = refl
+  row-cut (makeRoom t ns bs ch) = refl
+  row-cut (load t b ch) = refl
+  row-cut (evict b ch) = refl
+  row-cut recover = refl
 
-    keeps-commit : (a : ℕ) → Left (Inv g (rowStep g (commit ns bs ch) (answerOf a saving) row)) a saving m
-    unfolding commitWork rowStep
-    keeps-commit a = go (answered a saving)
-      where
-        to : {ans : Answer} → answerOf a saving ≡ ans → Left (Inv g (rowStep g (commit ns bs ch) ans row)) a saving m
-            → Left (Inv g (rowStep g (commit ns bs ch) (answerOf a saving) row)) a saving m
-        to e h = subst (λ (y : Answer). Left (Inv g (rowStep g (commit ns bs ch) y row)) a saving m) (sym e) h
-
-        go : Answered a saving → Left (Inv g (rowStep g (commit ns bs ch) (answerOf a saving) row)) a saving m
-        go (refused n e k) = to e (left-by (Inv g row) a saving m (k card (m .onCard)) (k disk (m .onDisk)) v)
-        go (cut n l e k) =
-            to e
-            (left-by (Inv g row) a saving m (k card (m .onCard)) (k disk (m .onDisk))
-            (subst (λ (y : Geometry). Inv g row (madeOn card (made a ch (runs y)) (m .onCard)) (madeOn disk (made a ch (runs y)) (m .onDisk)))
-            (sym (geometry-is v))
-            (commit-cut-inv a n (subst (λ (y : Geometry). a < length (flat (runs y))) (geometry-is v) l))))
-        go (done n e k) =
-            to e
-            (left-by (Inv g (replaced g ns bs row)) a saving m (k card (m .onCard)) (k disk (m .onDisk))
-            (subst (λ (y : Geometry). Inv g (replaced g ns bs row) (madeOn card (flat (runs y)) (m .onCard)) (madeOn disk (flat (runs y)) (m .onDisk)))
-            (sym (geometry-is v)) (commit-done ns bs v (commit-passed v s ns bs ch n) .0)))
-
-    settles-commit : (a n : ℕ) → answerOf a saving ≡ Done n → isSettled g (afterOn card a saving (m .onCard)) ≡ true
-    unfolding commitWork
-    settles-commit a n e = go (answered a saving)
-      where
-        go : Answered a saving → isSettled g (afterOn card a saving (m .onCard)) ≡ true
-        go (refused z x k) = let y : _≡_ {A = ℕ} 0 1 = cc in absurd (omega arith)
-        go (cut z l x k) = let y : _≡_ {A = ℕ} 0 1 = cc in absurd (omega arith)
-        go (done z x k) =
-            ap (isSettled g) (k card (m .onCard))
-            ∙ subst (λ (y : Geometry). isSettled g (madeOn card (flat (runs y)) (m .onCard)) ≡ true)
-            (sym (geometry-is v)) (commit-done ns bs v (commit-passed v s ns bs ch z) .1)
+  row-refused : (q : Call) (r : ℕ) → rowStep g q (Refused r) row ≡ row
+  unfolding rowStep
+  row-refused (commit ns bs ch) r = refl
+  row-refused (makeRoom t ns bs ch) r = refl
+  row-refused (load t b ch) r = refl
+  row-refused (evict b ch) r = refl
+  row-refused recover r = refl
 
   -- every call keeps the invariant, of the row that its answer leaves
   call-keeps : (q : Call) (a : ℕ) → Left (Inv g (rowStep g q (answerOf a (workOf q s m)) row)) a (workOf q s m) m
-  unfolding workOf rowStep
-  call-keeps (commit ns bs ch) a = keeps-commit ns bs ch a
-  call-keeps (load b ch) a = keeps a (loadWork (m .onCard) (m .onDisk) s b ch) m v (along-load b ch)
-  call-keeps (evict b ch) a = keeps a (evictWork (m .onCard) (m .onDisk) s b ch) m v (along-evict b ch)
-  call-keeps recover a = keeps a (recoverWork (m .onCard) s) m v (λ z. along-recover)
+  call-keeps q a = go (answered a w)
+    where
+      w : Work
+      w = workOf q s m
+
+      to : {c d : List ℕ} (row′ : Row) → rowStep g q (answerOf a w) row ≡ row′ → afterOn card a w (m .onCard) ≡ c → afterOn disk a w (m .onDisk) ≡ d
+          → Inv g row′ c d → Left (Inv g (rowStep g q (answerOf a w) row)) a w m
+      to row′ e p q h = subst (λ (y : Row). Left (Inv g y) a w m) (sym e) (both (Inv g row′) (sym p) (sym q) h)
+
+      go : Answered a w → Left (Inv g (rowStep g q (answerOf a w) row)) a w m
+      go (refused z e k) = to row (ap (λ (y : Answer). rowStep g q y row) e ∙ row-refused q _) (k card (m .onCard)) (k disk (m .onDisk)) v
+      go (cut z l e k) =
+          to row (ap (λ (y : Answer). rowStep g q y row) e ∙ row-cut q) (k card (m .onCard)) (k disk (m .onDisk))
+          (call-does q 0 z .cutting a (w .choice) l)
+      go (done z e k) =
+          to _ (ap (λ (y : Answer). rowStep g q y row) e) (k card (m .onCard)) (k disk (m .onDisk)) (call-does q _ z .finished .0)
 
   -- every call that answers done leaves the card settled
   call-settles : (q : Call) (a n : ℕ) → answerOf a (workOf q s m) ≡ Done n → isSettled g (afterOn card a (workOf q s m) (m .onCard)) ≡ true
-  unfolding workOf
-  call-settles (commit ns bs ch) a n e = settles-commit ns bs ch a n e
-  call-settles (load b ch) a n e = ends {P = Inv g row} {Q = Rest g row} a n (loadWork (m .onCard) (m .onDisk) s b ch) m e (along-load b ch) .1
-  call-settles (evict b ch) a n e = ends {P = Inv g row} {Q = Rest g row} a n (evictWork (m .onCard) (m .onDisk) s b ch) m e (along-evict b ch) .1
-  call-settles recover a n e = ends {P = Inv g row} {Q = Rest g row} a n (recoverWork (m .onCard) s) m e (λ z. along-recover) .1
+  call-settles q a n e = go (answered a (workOf q s m))
+    where
+      go : Answered a (workOf q s m) → isSettled g (afterOn card a (workOf q s m) (m .onCard)) ≡ true
+      go (refused z x k) = let y : _≡_ {A = ℕ} 0 1 = cc in absurd (omega arith)
+      go (cut z l x k) = let y : _≡_ {A = ℕ} 0 1 = cc in absurd (omega arith)
+      go (done z x k) = ap (isSettled g) (k card (m .onCard)) ∙ call-does q 0 z .finished .1
 
 -- ---- the formatted card
 
@@ -339,6 +324,8 @@ cut-rule g c d rs ok sized =
       looks = look-holds v;
       readRefuses = read-refuses v;
       lookRefuses = look-refuses v;
+      recentReads = recent-holds v;
+      recentRefuses = recent-refuses v;
     }
 
 pub plain-row : PlainRow
@@ -348,3 +335,69 @@ plain-row g c d rs ok sized uncut =
     uncut-settled rs (fresh g c d) (diskBlock g d) (start-inv g c d (format-passed g c ok) sized)
     (start-settled g c d (format-passed g c ok) sized) uncut in
     (s, contents-hold (inv-left g c d ok sized rs) s)
+
+-- a call that answers done is not refused, and has made all its stores
+pub done-passed : (a n : ℕ) (w : Work) → answerOf a w ≡ Done n → (w .refusal ≡ 0) × ((m : Medium) (xs : List ℕ) → afterOn m a w xs ≡ madeOn m (flat (w .runs)) xs)
+done-passed a n w e = go (answered a w)
+  where
+    go : Answered a w → (w .refusal ≡ 0) × ((m : Medium) (xs : List ℕ) → afterOn m a w xs ≡ madeOn m (flat (w .runs)) xs)
+    go (refused z x k) = let y : _≡_ {A = ℕ} 0 1 = cc in absurd (omega arith)
+    go (cut z l x k) = let y : _≡_ {A = ℕ} 0 1 = cc in absurd (omega arith)
+    go (done z x k) = (z, k)
+
+-- a room-making commit that answers done, on media that the invariant holds of
+module _ {g : Geometry} {row : Row} (m : Media) (v : Inv g row (m .onCard) (m .onDisk)) (s : Map) (t ns bs ch : List ℕ) (a n : ℕ)
+    (e : answerTo (makingRoom s t ns bs ch a) m ≡ Done n) where
+  abbrev c : List ℕ
+  c = m .onCard
+
+  abbrev m′ : Media
+  m′ = after (makingRoom s t ns bs ch a) m
+
+  room-done : (roomRefusal c (m .onDisk) s t ns bs ch ≡ 0)
+      × (m′ .onCard ≡ madeOn card (flat (roomRuns (geometryOf c) c t ns ++ commitRuns (geometryOf c) (roomLeft (geometryOf c) c t ns) ns bs)) c)
+  unfolding answerTo after workOf roomWork
+  room-done = let x = done-passed a n (workOf (makeRoom t ns bs ch) s m) e in (x .0, x .1 card c)
+
+  room-goes : RoomPassed g c t ns bs ch
+  room-goes = subst (λ (y : Geometry). RoomPassed y c t ns bs ch) (geometry-is v) (room-passed c (m .onDisk) s t ns bs ch (room-done .0))
+
+  -- the card is settled before and after, and the row keeps the blocks outside the transaction
+  stay : (b : ℕ) → b < g .disk → isAmong ns b ≡ false → contents g (m′ .onCard) (m′ .onDisk) b ≡ contents g c (m .onDisk) b
+  unfolding answerTo after workOf roomWork rowStep isAmong
+  stay b l o =
+      let q = makeRoom t ns bs ch in
+      contents-hold (call-keeps m s v q a) (call-settles m s v q a n e) b l
+      ∙ ap (λ (y : Answer). rowStep g q y row b) e
+      ∙ row-kept g ns bs row b (λ j h i. absurd-bool (eq-eqb _ _ i) (any-at _ (length ns) j o h))
+      ∙ sym (contents-hold v (room-goes .settled) b l)
+
+  gone : (k : ℕ) → k < missing g c ns → cached g (m′ .onCard) (victimNumber g c t ns k) ≡ false
+  unfolding roomLeft
+  gone k l =
+      ap (λ (z : List ℕ). cached g z (victimNumber g c t ns k))
+      (room-done .1
+      ∙ ap (λ (y : Geometry). madeOn card (flat (roomRuns y c t ns ++ commitRuns y (roomLeft y c t ns) ns bs)) c) (geometry-is v)
+      ∙ made-runs card (roomRuns g c t ns) _ c)
+      ∙ victim-gone t ns bs ch (inv-intact v) room-goes k l
+
+  kept : RoomKept g m m′ t ns
+  unfolding contents victimNumber
+  kept =
+      record {
+        contents-stay = stay;
+        evicted = λ k l.
+            let listed : k < length (victims g c t ns) = omega (arith, room-enough t ns bs ch (inv-intact v) room-goes) in
+            let at = victim-below g c t ns k listed in
+            let b = victimNumber g c t ns k in (
+              gone k l,
+              sym (ap (λ (u : Bool). cond u (blockAt g (m′ .onCard) (currentOf g (m′ .onCard) b)) (diskBlock g (m′ .onDisk) b)) (gone k l))
+                  ∙ stay b (number-below (inv-intact v) _ at) (victim-outside g c t ns k listed),
+            );
+      }
+
+pub room-keeps : RoomKeeps
+unfolding left run
+room-keeps g c d rs s t ns bs ch a n ok sized e =
+    subst (λ (z : Media). RoomKept g (run rs (fresh g c d)) z t ns) (sym (run-append rs (makingRoom s t ns bs ch a ∷ []) (fresh g c d)))
+    (kept (run rs (fresh g c d)) (inv-left g c d ok sized rs) s t ns bs ch a n e)

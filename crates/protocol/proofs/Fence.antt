@@ -20,6 +20,7 @@ use Rattle.protocol.specs.Check.{choiceByteFits, choiceFits}
 use Rattle.protocol.specs.Store.{Store, Run, flat, chosen, landed, made, words, sectors, single, entryStore}
 use Rattle.protocol.specs.Commit.{blockRuns, switchRuns, commitRuns}
 use Rattle.protocol.specs.Load.{loadRuns, writeBack, evictRuns}
+use Rattle.protocol.specs.Room.{missing, victimNumber, evictions, roomRuns, roomLeft}
 use Rattle.protocol.specs.Recover.{sameBytes, ifChanging, undoRuns, recoverRuns}
 use Rattle.protocol.specs.Fence.{firstMade, cutRun, reach, inOrder, Fenced, AgreesWhere, ZerosAgree, PrefixLaw, PrefixAccepted, CallsFenced}
 use Rattle.protocol.proofs.Below.{absurd-bool, below-or-above, and-both, all-of}
@@ -202,20 +203,33 @@ fenced-changing : (c : List ℕ) (s : Store) → Fenced (ifChanging c s)
 unfolding ifChanging
 fenced-changing c s = fenced-if (sameBytes (part c (s .place) (length (s .bytes))) (s .bytes)) [] (single s) tt (fenced-single s)
 
-pub calls-fenced : (g : Geometry) (c d ns bs : List ℕ) (b : ℕ) → CallsFenced g c d ns bs b
-unfolding commitRuns blockRuns switchRuns loadRuns evictRuns writeBack recoverRuns undoRuns words sectors
-calls-fenced g c d ns bs b =
+fenced-commit : (g : Geometry) (c ns bs : List ℕ) → Fenced (commitRuns g c ns bs)
+unfolding commitRuns blockRuns switchRuns words
+fenced-commit g c ns bs =
+    fenced-append (eachBelow (blockRuns g c ns bs) (length ns)) _
+    (fenced-each (blockRuns g c ns bs) (length ns)
+    (λ i. (inl refl, fenced-append (single _) _ (fenced-single _) (fenced-append (single _) _ (fenced-single _) (fenced-single _)))))
+    (fenced-append (eachBelow (switchRuns g c ns) (length ns)) _
+    (fenced-each (switchRuns g c ns) (length ns) (λ i. fenced-single _))
+    (fenced-single _))
+
+fenced-evict : (g : Geometry) (c : List ℕ) (b : ℕ) → Fenced (evictRuns g c b)
+unfolding evictRuns writeBack sectors
+fenced-evict g c b =
+    fenced-append (writeBack g c b) _
+    (fenced-if (isModified (entryAt g c (findEntry g c b))) (sectors g b (blockAt g c (currentOf g c b)) ∷ []) [] (inl refl, tt) tt)
+    (fenced-single _)
+
+pub calls-fenced : (g : Geometry) (c d t ns bs : List ℕ) (b : ℕ) → CallsFenced g c d t ns bs b
+unfolding roomRuns evictions loadRuns recoverRuns undoRuns words
+calls-fenced g c d t ns bs b =
     record {
-      commit =
-          fenced-append (eachBelow (blockRuns g c ns bs) (length ns)) _
-          (fenced-each (blockRuns g c ns bs) (length ns)
-          (λ i. (inl refl, fenced-append (single _) _ (fenced-single _) (fenced-append (single _) _ (fenced-single _) (fenced-single _)))))
-          (fenced-append (eachBelow (switchRuns g c ns) (length ns)) _
-          (fenced-each (switchRuns g c ns) (length ns) (λ i. fenced-single _))
-          (fenced-single _));
+      commit = fenced-commit g c ns bs;
+      makeRoom =
+          fenced-append (roomRuns g c t ns) _ (fenced-each _ (missing g c ns) (λ i. fenced-evict g c (victimNumber g c t ns i)))
+          (fenced-commit g (roomLeft g c t ns) ns bs);
       load = (inl refl, fenced-single _);
-      evict = fenced-append (writeBack g c b) _ (fenced-if (isModified (entryAt g c (findEntry g c b))) (sectors g b (blockAt g c (currentOf g c b)) ∷ []) [] (inl refl, tt) tt)
-          (fenced-single _);
+      evict = fenced-evict g c b;
       recover =
           fenced-append (eachBelow (undoRuns g c) (g .blocks)) _
           (fenced-each (undoRuns g c) (g .blocks) (λ i. fenced-if (undoableAt g c i) (ifChanging c (entryStore g i (undone (entryAt g c i)))) [] (fenced-changing c _) tt))

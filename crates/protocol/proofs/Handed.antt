@@ -3,10 +3,9 @@
 use Prim.Native.Nat.{ℕ, zero, suc}
 use mathlib.Core.List.{List, [], _∷_}
 use mathlib.Core.Bool.{Bool, true, false, cond}
-use mathlib.Core.Path.{_≡_, refl, sym, ap, _∙_}
+use mathlib.Core.Path.{_≡_, sym, ap, _∙_}
 use native.Mathlib.Omega.{arith}
 use lib.Dec.{eqb}
-use borrow.Author.Tests.{eq-eqb}
 use Rattle.protocol.specs.declared.Answer.{Answer}
 use Rattle.protocol.specs.declared.Answer.the-variants.{Done, Cut, Refused}
 use Rattle.protocol.specs.declared.Geometry.{Geometry}
@@ -16,13 +15,16 @@ use Rattle.protocol.specs.declared.Mapped.the-variants.{Is, Refused as R
 use Rattle.protocol.specs.Layout.{geometryOf}
 use Rattle.protocol.specs.Check.{refuse, _orElse_, fitRefusal, diskRefusal, damageRefusal, cardRefusal, choiceRefusal}
 use Rattle.protocol.specs.Store.{card, Work, answerOf, afterOn}
-use Rattle.protocol.specs.Map.{mapOf, sameMap, mapRefusal, makeRefusal, madeMap, handedOn, mapAfter}
+use Rattle.protocol.specs.Map.{mapOf, mapRefusal, makeRefusal, madeMap, handedOn, mapAfter}
 use Rattle.protocol.specs.Commit.{saveRefusal, commitRefusal, commitWork}
+use Rattle.protocol.specs.Recency.{tableRefusal}
 use Rattle.protocol.specs.Load.{pairRefusal, blockRefusal, loadRefusal, loadWork, evictRefusal, evictWork}
+use Rattle.protocol.specs.Room.{roomRefusal, roomWork}
 use Rattle.protocol.specs.Recover.{recoverRefusal, recoverWork}
-use Rattle.protocol.specs.History.{Call, commit, load, evict, recover, Media, workOf, answerTo, after, Asked, lent, mapTo, served}
+use Rattle.protocol.specs.History.{Call, commit, makeRoom, load, evict, recover, Media, workOf, answerTo, after, Asked, lent, mapTo, served}
 use Rattle.protocol.specs.CutRule.{Kept, MapKept}
 use Rattle.protocol.proofs.CutRule.{Answered, refused, cut, done, answered}
+use Rattle.protocol.proofs.Maps.{own-map}
 
 -- ---- no check but 15 refuses with 15
 
@@ -38,11 +40,6 @@ other-refuse : (r : ℕ) (b : Bool) → Other r → Other (refuse r b)
 unfolding refuse
 other-refuse r true f e = omega arith
 other-refuse r false f e = f e
-
--- the map that the card gives is not refused
-pub own-map : (c : List ℕ) → mapRefusal c (mapOf c) ≡ 0
-unfolding mapRefusal sameMap refuse
-own-map c = rw (eq-eqb (mapOf c .low) (mapOf c .low) refl, eq-eqb (mapOf c .high) (mapOf c .high) refl)
 
 module _ (c : List ℕ) where
   other-map : Other (mapRefusal c (mapOf c))
@@ -74,25 +71,37 @@ module _ (c : List ℕ) where
   unfolding choiceRefusal
   other-choice ch = other-refuse 17 _ (λ e. omega arith)
 
-  other-commit : (ns bs ch : List ℕ) → Other (commitRefusal c (mapOf c) ns bs ch)
-  unfolding commitRefusal saveRefusal
-  other-commit ns bs ch =
-      other-else _ _ other-fit
-      (other-else _ _ (other-card (geometryOf c))
-      (other-else _ _ other-map
-      (other-else _ _ (other-refuse 8 _ (λ e. omega arith))
+  other-save : (ns bs ch : List ℕ) (room : Bool) → Other (saveRefusal (geometryOf c) ns bs ch room)
+  unfolding saveRefusal
+  other-save ns bs ch room =
+      other-else _ _ (other-refuse 8 _ (λ e. omega arith))
       (other-else _ _ (other-refuse 9 _ (λ e. omega arith))
       (other-else _ _ (other-choice ch)
       (other-else _ _ (other-refuse 10 _ (λ e. omega arith))
-      (other-else _ _ (other-refuse 11 _ (λ e. omega arith)) (other-refuse 14 _ (λ e. omega arith)))))))))
+      (other-else _ _ (other-refuse 11 _ (λ e. omega arith)) (other-refuse 14 _ (λ e. omega arith))))))
 
-  other-load : (d : List ℕ) (b : ℕ) (ch : List ℕ) → Other (loadRefusal c d (mapOf c) b ch)
+  other-commit : (ns bs ch : List ℕ) → Other (commitRefusal c (mapOf c) ns bs ch)
+  unfolding commitRefusal
+  other-commit ns bs ch =
+      other-else _ _ other-fit (other-else _ _ (other-card (geometryOf c)) (other-else _ _ other-map (other-save ns bs ch _)))
+
+  other-table : (t : List ℕ) → Other (tableRefusal t)
+  unfolding tableRefusal
+  other-table t = other-refuse 16 _ (λ e. omega arith)
+
+  other-room : (d t ns bs ch : List ℕ) → Other (roomRefusal c d (mapOf c) t ns bs ch)
+  unfolding roomRefusal
+  other-room d t ns bs ch =
+      other-else _ _ (other-pair d) (other-else _ _ other-map (other-else _ _ (other-table t) (other-save ns bs ch _)))
+
+  other-load : (d t : List ℕ) (b : ℕ) (ch : List ℕ) → Other (loadRefusal c d (mapOf c) t b ch)
   unfolding loadRefusal
-  other-load d b ch =
+  other-load d t b ch =
       other-else _ _ (other-pair d)
       (other-else _ _ other-map
+      (other-else _ _ (other-table t)
       (other-else _ _ (other-choice ch)
-      (other-else _ _ (other-block b) (other-else _ _ (other-refuse 12 _ (λ e. omega arith)) (other-refuse 14 _ (λ e. omega arith))))))
+      (other-else _ _ (other-block b) (other-else _ _ (other-refuse 12 _ (λ e. omega arith)) (other-refuse 14 _ (λ e. omega arith)))))))
 
   other-evict : (d : List ℕ) (b : ℕ) (ch : List ℕ) → Other (evictRefusal c d (mapOf c) b ch)
   unfolding evictRefusal
@@ -105,9 +114,10 @@ module _ (c : List ℕ) where
   other-recover = other-else _ _ (other-else _ _ other-fit (other-damage (geometryOf c))) other-map
 
 other-call : (q : Call) (m : Media) → Other (workOf q (mapOf (m .onCard)) m .refusal)
-unfolding workOf commitWork loadWork evictWork recoverWork
+unfolding workOf commitWork roomWork loadWork evictWork recoverWork
 other-call (commit ns bs ch) m = other-commit (m .onCard) ns bs ch
-other-call (load b ch) m = other-load (m .onCard) (m .onDisk) b ch
+other-call (makeRoom t ns bs ch) m = other-room (m .onCard) (m .onDisk) t ns bs ch
+other-call (load t b ch) m = other-load (m .onCard) (m .onDisk) t b ch
 other-call (evict b ch) m = other-evict (m .onCard) (m .onDisk) b ch
 other-call recover m = other-recover (m .onCard)
 

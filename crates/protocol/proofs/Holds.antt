@@ -21,7 +21,8 @@ use Rattle.protocol.specs.Check.{refuse, _orElse_, headerFits, cardFits,
 use Rattle.protocol.specs.Load.{pairRefusal, blockRefusal}
 use Rattle.protocol.specs.Map.{mapOf, mapRefusal, makeRefusal, madeMap}
 use Rattle.protocol.specs.Recover.{recoverRefusal}
-use Rattle.protocol.specs.Read.{outputRefusal, readRefusal, outputAfter, lookRefusal, lookedAt}
+use Rattle.protocol.specs.Read.{outputRefusal, readRefusal, outputAfter, recentRefusal, recentOutput, lookRefusal, lookedAt}
+use Rattle.protocol.specs.Recency.{isArranged, tableRefusal}
 use Rattle.protocol.proofs.Below.{either, absurd-bool, and-left, and-right, and-both, and-fails, or-true, all-of, all-at, First, found, missing, first-is}
 use Rattle.protocol.proofs.Invariant.{Kind, idle, live, pending, kindNumber, kindCurrent, kindPrevious, kindHome, View, Safe}
 use Rattle.protocol.proofs.Shape.{kindOf, kindAt, Seen, seen-idle, seen-live, seen-pending, see, previousOf, previous-some, Inv, window-empty}
@@ -308,6 +309,13 @@ module _ {g : Geometry} {row : ℕ → List ℕ} {c d : List ℕ} (v : Inv g row
       ap (λ (z : Geometry). pairRefusal c d orElse refuse 9 (eqb (length out) (blockSize z)) orElse refuse 10 (ltb b (z .disk))) geometry-is
       ∙ ap (λ (r : ℕ). r orElse refuse 9 (eqb (length out) (blockSize g)) orElse refuse 10 (ltb b (g .disk))) pair-refuses
 
+  pub recent-refuses : (t out : List ℕ) (b : ℕ) → recentRefusal c d t out b
+      ≡ refuse 7 (isSettled g c) orElse refuse 16 (isArranged t) orElse refuse 9 (eqb (length out) (blockSize g)) orElse refuse 10 (ltb b (g .disk))
+  unfolding recentRefusal tableRefusal outputRefusal blockRefusal
+  recent-refuses t out b =
+      ap (λ (z : Geometry). pairRefusal c d orElse refuse 16 (isArranged t) orElse refuse 9 (eqb (length out) (blockSize z)) orElse refuse 10 (ltb b (z .disk))) geometry-is
+      ∙ ap (λ (r : ℕ). r orElse refuse 16 (isArranged t) orElse refuse 9 (eqb (length out) (blockSize g)) orElse refuse 10 (ltb b (g .disk))) pair-refuses
+
   pub look-holds : isSettled g c ≡ true → (b : ℕ) → b < g .disk → lookedAt c d b ≡ row b
   unfolding lookedAt
   look-holds s b l =
@@ -319,4 +327,12 @@ module _ {g : Geometry} {row : ℕ → List ℕ} {c d : List ℕ} (v : Inv g row
   read-holds s out b e l =
       let r : readRefusal c d out b ≡ 0 =
       read-refuses out b ∙ none-first _ (pass 7 s) ∙ none-first _ (pass 9 (eq-eqb _ _ e)) ∙ pass 10 (lt-ltb _ _ l) in
+      rw (eq-eqb _ _ r) (ap (λ (z : Geometry). contents z c d b) geometry-is ∙ contents-hold s b l)
+
+  pub recent-holds : isSettled g c ≡ true → (t out : List ℕ) (b : ℕ) → isArranged t ≡ true → length out ≡ blockSize g → b < g .disk
+      → recentOutput c d t out b ≡ row b
+  unfolding recentOutput
+  recent-holds s t out b a e l =
+      let r : recentRefusal c d t out b ≡ 0 =
+      recent-refuses t out b ∙ none-first _ (pass 7 s) ∙ none-first _ (pass 16 a) ∙ none-first _ (pass 9 (eq-eqb _ _ e)) ∙ pass 10 (lt-ltb _ _ l) in
       rw (eq-eqb _ _ r) (ap (λ (z : Geometry). contents z c d b) geometry-is ∙ contents-hold s b l)

@@ -12,7 +12,7 @@ use native.Mathlib.Omega.{arith}
 use lib.ListN.{length, take, drop, getD, replicate, length-append, length-replicate, length-drop}
 use lib.Seq.{take-append-le, drop-append-le, take-all, drop-at}
 use lib.Dec.{eqb, ltb}
-use borrow.Author.Tests.{eq-eqb, eqb-true, ltb-true}
+use borrow.Author.Tests.{eq-eqb, eqb-true, ltb-true, lt-ltb}
 use Rattle.numbers.specs.Bytes.{part, numberAt}
 use Rattle.numbers.proofs.Laws.{length-part}
 use Rattle.protocol.specs.declared.Geometry.{Geometry}
@@ -24,7 +24,7 @@ use Rattle.protocol.specs.Check.{refuse, headerFits, cardFits, windowNum
 use Rattle.protocol.proofs.Allowed.{bounded}
 use Rattle.protocol.proofs.Below.{either, absurd-bool, below-or-above, last-or-before, and-left, and-right, or-left, or-right, all-at}
 use Rattle.protocol.proofs.Checks.{Limits, limits, orElse-none, refuse-none}
-use Rattle.protocol.proofs.Holds.{used-number, used-current, number-used, idle-kind, live-kind, settled-undoable}
+use Rattle.protocol.proofs.Holds.{used-number, used-current, number-used, idle-kind, live-kind, settled-undoable, geometry-is, fit-passes, damage-passes}
 use Rattle.protocol.proofs.Invariant.{Kind, idle, live, kindNumber, kindCurrent, kindPrevious, kindHome}
 use Rattle.protocol.proofs.Loaded.{settled-ring, Cached, cached-entry, not-cached}
 use Rattle.protocol.proofs.Planned.{current-used}
@@ -126,6 +126,12 @@ intact c fit damage =
       distinct = refuse-none 6 (entriesApart g c) (omega arith) six;
     }
 
+-- a lawful card is one
+pub inv-intact : {g : Geometry} {row : ℕ → List ℕ} {c d : List ℕ} → Inv g row c d → Intact g c
+inv-intact {g} {row} {c} {d} v =
+    subst (λ (y : Geometry). Intact y c) (geometry-is v)
+    (intact c (fit-passes v) (ap (λ (y : Geometry). damageRefusal y c) (geometry-is v) ∙ damage-passes v))
+
 module _ {g : Geometry} {c : List ℕ} (w : Intact g c) where
   fit : Limits g
   fit = limits g (w .good)
@@ -139,10 +145,23 @@ module _ {g : Geometry} {c : List ℕ} (w : Intact g c) where
       let m = fit in
       bounded (g .blocks) (g .disk) (entryAt g c i) (omega arith) (omega arith) (good-entry i l) .current
 
-  number-below : (i : ℕ) → i < g .blocks → entryAt g c i .number < g .disk
+  pub number-below : (i : ℕ) → i < g .blocks → entryAt g c i .number < g .disk
   number-below i l =
       let m = fit in
       bounded (g .blocks) (g .disk) (entryAt g c i) (omega arith) (omega arith) (good-entry i l) .number
+
+  -- the entry with the number b is the one that is found for b
+  pub entry-found : (i b : ℕ) → i < g .blocks → usedAt g c i ≡ true → entryAt g c i .number ≡ b → findEntry g c b ≡ i
+  entry-found i b l u n = ⊎-elim
+      (λ e.
+      let k = cached-entry g c b e in
+      numbers-apart g c (w .distinct) (findEntry g c b) i (k .below) l (k .used) u (k .number ∙ sym n))
+      (λ e. absurd (not-cached g c b e i l (used-number g c i u ∙ ap some n)))
+      (either (cached g c b))
+
+  pub entry-cached : (i b : ℕ) → i < g .blocks → usedAt g c i ≡ true → entryAt g c i .number ≡ b → cached g c b ≡ true
+  unfolding cached
+  entry-cached i b l u n = rw (entry-found i b l u n) (lt-ltb i (g .blocks) l)
 
   module _ (s : isSettled g c ≡ true) where
     -- what is cached for b, and zeros where nothing is
@@ -188,13 +207,9 @@ module _ {g : Geometry} {c : List ℕ} (w : Intact g c) where
     -- the block of the entry for b is what is held for b
     held-is : (i b : ℕ) → i < g .blocks → usedAt g c i ≡ true → entryAt g c i .number ≡ b → blockAt g c (entryAt g c i .current) ≡ held b
     unfolding held currentOf
-    held-is i b l u n = ⊎-elim
-        (λ e.
-        let k = cached-entry g c b e in
-        let same : i ≡ findEntry g c b = numbers-apart g c (w .distinct) i (findEntry g c b) l (k .below) u (k .used) (n ∙ sym (k .number)) in
-        ap (λ (z : ℕ). blockAt g c (entryAt g c z .current)) same ∙ sym (ap (λ (t : Bool). cond t (blockAt g c (currentOf g c b)) (replicate (blockSize g) 0)) e))
-        (λ e. absurd (not-cached g c b e i l (used-number g c i u ∙ ap some n)))
-        (either (cached g c b))
+    held-is i b l u n =
+        ap (λ (z : ℕ). blockAt g c (entryAt g c z .current)) (sym (entry-found i b l u n))
+        ∙ sym (ap (λ (t : Bool). cond t (blockAt g c (currentOf g c b)) (replicate (blockSize g) 0)) (entry-cached i b l u n))
 
     shape : Shape g c home
     unfolding home diskLength

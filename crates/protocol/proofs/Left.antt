@@ -19,14 +19,15 @@ use Rattle.protocol.specs.Layout.{geometryOf, blockAt, diskBlock, entryP
 use Rattle.protocol.specs.Entry.{FRESH, entryOf, unused, entryBytes, entryIn, entryAt, inUse, isModified, goodEntry, switched, undone}
 use Rattle.protocol.specs.Ring.{headOf, usedAt, undoableAt, isSettled, findEntry, cached, currentOf}
 use Rattle.protocol.specs.Check.{refuse, _orElse_, goodEntryAt, entriesFit, fitRefusal, diskRefusal, damageRefusal, cardRefusal, choiceRefusal}
-use Rattle.protocol.specs.Store.{card, Store, Run, storedOn, madeOn, flat, single, words, sectors, entryStore, tailStore}
+use Rattle.protocol.specs.Store.{card, storedOn, madeOn, flat, single, words, sectors, entryStore, tailStore}
 use Rattle.protocol.specs.Search.{freeBlocks, unusedEntries}
 use Rattle.protocol.specs.Map.{mapBy, isMarked, mapOf, mapRefusal, makeRefusal}
 use Rattle.protocol.specs.Commit.{numberOf, newBlock, entryFound, oldBlock, logEntry, roomFor, commitRuns, commitRefusal}
+use Rattle.protocol.specs.Recency.{tableRefusal}
 use Rattle.protocol.specs.Load.{pairRefusal, blockRefusal, cleanEntry, loadRuns, loadRefusal, writeBack, evictRuns, evictRefusal}
 use Rattle.protocol.specs.Recover.{sameBytes, ifChanging, undoRuns, recoverRuns, recoverRefusal}
 use Rattle.protocol.proofs.Allowed.{UsedEntry, clean, used-good, used-entry, unused-good, unused-used, clean-used, kept-used}
-use Rattle.protocol.proofs.Below.{either, absurd-bool, last-or-before, and-left, and-right, and-both, or-none, all-at, any-found, any-witness}
+use Rattle.protocol.proofs.Below.{either, absurd-bool, last-or-before, and-left, and-right, and-both, and-true, or-none, all-at, any-found, any-witness}
 use Rattle.protocol.proofs.Checks.{Limits, limits, orElse-none, refuse-none}
 use Rattle.protocol.proofs.Codec.{EntryFits, geometry-same, entry-of-part, entry-of-bytes, length-entry}
 use Rattle.protocol.proofs.Committed.{Entered, fresh, again, entered, e-below, q-free, Entries, commit-entries, commit-done}
@@ -35,13 +36,13 @@ use Rattle.protocol.proofs.Invariant.{kindCurrent}
 use Rattle.protocol.proofs.Lawful.{Intact, intact, lawful}
 use Rattle.protocol.proofs.Loaded.{cached-entry}
 use Rattle.protocol.proofs.Made.{entry-changed, entry-stored, tail-changed, words-changed-all, sectors-elsewhere}
-use Rattle.protocol.proofs.Maps.{Moves, map-moves}
+use Rattle.protocol.proofs.Maps.{Moves, marked-is, map-moves}
 use Rattle.protocol.proofs.Passed.{CommitPassed, commit-passed}
 use Rattle.protocol.proofs.Planned.{new-below, unused-below, unused-is, enough-unused}
 use Rattle.protocol.proofs.Recovered.{entry-fits, same-bytes, Undone, emptied, restored, undo-cases, undone-good}
 use Rattle.protocol.proofs.Region.{entry, block}
-use Rattle.protocol.proofs.Shape.{header-kept, entry-kept, Inv}
-use Rattle.protocol.proofs.Stores.{flat-append, made-append}
+use Rattle.protocol.proofs.Shape.{Changed, header-kept, entry-kept, Inv}
+use Rattle.protocol.proofs.Stores.{made-append, made-runs}
 use Rattle.protocol.proofs.Words.{map-cong}
 
 -- ---- one entry changes
@@ -79,6 +80,10 @@ module _ {g : Geometry} {c : List ℕ} (c′ : List ℕ) (w : Intact g c) (i : �
       ≡ mapBy (λ d. (isMarked g c d && not (usedAt g c i && eqb (entryAt g c i .current) d)) || (inUse x && eqb (x .current) d))
   one-entry = map-moves w one-moves
 
+  one-marked : (d : ℕ) → d < 128
+      → isMarked g c′ d ≡ (isMarked g c d && not (usedAt g c i && eqb (entryAt g c i .current) d)) || (inUse x && eqb (x .current) d)
+  one-marked = marked-is w one-moves
+
 -- ---- what the checks have passed
 
 module _ (c : List ℕ) (fit : fitRefusal c ≡ 0) where
@@ -95,7 +100,7 @@ module _ (c : List ℕ) (fit : fitRefusal c ≡ 0) where
 -- ---- evict
 
 -- the sectors leave the card, so all that an evict does there is to clear the entry
-made-evict : (g : Geometry) (fit : Limits g) (c : List ℕ) (b : ℕ)
+pub made-evict : (g : Geometry) (fit : Limits g) (c : List ℕ) (b : ℕ)
     → madeOn card (flat (evictRuns g c b)) c ≡ storedOn card (entryStore g (findEntry g c b) unused) c
 unfolding evictRuns writeBack flat single madeOn
 made-evict g fit c b = go (isModified (entryAt g c (findEntry g c b)))
@@ -110,14 +115,28 @@ made-evict g fit c b = go (isModified (entryAt g c (findEntry g c b)))
         (sectors-elsewhere g fit b (blockAt g c (currentOf g c b)) ss (λ m at n h. h) c)
     go false = refl
 
--- a bit cleared, and nothing set
-cleared : (a b e : Bool) → b ≡ true → (a && not (b && e)) || (false && false) ≡ a && not e
-cleared a b e h = rw h (or-none (a && not e))
+-- an entry in use is cleared: its block's bit is too, and no other
+module _ {g : Geometry} {c : List ℕ} (w : Intact g c) (i : ℕ) (l : i < g .blocks) (u : usedAt g c i ≡ true) where
+  ch : Changed g (entry i) c (storedOn card (entryStore g i unused) c)
+  ch = entry-changed g c i unused l
+
+  pub clear-own : geometryOf (storedOn card (entryStore g i unused) c) ≡ g
+  clear-own = geometry-same c _ (header-kept ch (λ p q. omega arith)) ∙ w .own
+
+  pub clear-marked : (d : ℕ) → d < 128 → isMarked g (storedOn card (entryStore g i unused) c) d ≡ isMarked g c d && not (eqb (entryAt g c i .current) d)
+  clear-marked d h =
+      one-marked _ w i unused l (header-kept ch (λ p q. omega arith)) (λ j k n. entry-kept ch j k (λ p q. n (sym q)))
+      (entry-stored g c i unused l (w .sized) (entry-fits g (w .good) unused (unused-good (g .blocks) (g .disk)))) d h
+      ∙ ap (λ (t : Bool). (isMarked g c d && not (usedAt g c i && eqb (entryAt g c i .current) d)) || (t && eqb 0 d)) unused-used
+      ∙ cleared (isMarked g c d) (usedAt g c i) (eqb (entryAt g c i .current) d) u
+    where
+      cleared : (a b e : Bool) → b ≡ true → (a && not (b && e)) || false ≡ a && not e
+      cleared a b e h = rw h (or-none (a && not e))
 
 pub evict-map : (c d : List ℕ) (m : Map) (b : ℕ) (ch : List ℕ) → evictRefusal c d m b ch ≡ 0
     → mapOf (madeOn card (flat (evictRuns (geometryOf c) c b)) c)
     ≡ mapBy (λ x. isMarked (geometryOf c) c x && not (eqb (currentOf (geometryOf c) c b) x))
-unfolding evictRefusal pairRefusal currentOf
+unfolding evictRefusal pairRefusal currentOf mapOf
 evict-map c d m b ch z =
     let g = geometryOf c in
     let (pair, more) = orElse-none (pairRefusal c d) _ z in
@@ -126,33 +145,25 @@ evict-map c d m b ch z =
     let w = pair-intact c fit d rest .0 in
     let k = cached-entry g c b (refuse-none 13 _ (omega arith) own) in
     let i = findEntry g c b in
-    let ch = entry-changed g c i unused (k .below) in
-    let now = entry-stored g c i unused (k .below) (w .sized) (entry-fits g (w .good) unused (unused-good (g .blocks) (g .disk))) in
     ap mapOf (made-evict g (limits g (w .good)) c b)
-    ∙ one-entry _ w i unused (k .below) (header-kept ch (λ p q. omega arith)) (λ j h n. entry-kept ch j h (λ p q. n (sym q))) now
-    ∙ map-cong _ _
-    (λ x l.
-    ap (λ (t : Bool). (isMarked g c x && not (usedAt g c i && eqb (entryAt g c i .current) x)) || (t && eqb 0 x)) unused-used
-    ∙ cleared (isMarked g c x) (usedAt g c i) (eqb (entryAt g c i .current) x) (k .used))
+    ∙ ap (λ (y : Geometry). mapBy (isMarked y (storedOn card (entryStore g i unused) c))) (clear-own w i (k .below) (k .used))
+    ∙ map-cong _ _ (clear-marked w i (k .below) (k .used))
 
 -- ---- load
 
 -- a bit set, and none cleared
 put : (a b x e f : Bool) → b ≡ false → f ≡ true → (a && not (b && x)) || (f && e) ≡ a || e
 put a b x e f p q = (λ t. (a && not (p t && x)) || (q t && e)) ∙ ap (λ (y : Bool). y || e) (and-true a)
-  where
-    and-true : (a : Bool) → a && true ≡ a
-    and-true true = refl
-    and-true false = refl
 
-pub load-map : (c d : List ℕ) (m : Map) (b : ℕ) (ch : List ℕ) → loadRefusal c d m b ch ≡ 0
+pub load-map : (c d : List ℕ) (m : Map) (t : List ℕ) (b : ℕ) (ch : List ℕ) → loadRefusal c d m t b ch ≡ 0
     → mapOf (madeOn card (flat (loadRuns (geometryOf c) c d b)) c)
     ≡ mapBy (λ x. isMarked (geometryOf c) c x || eqb (newBlock (geometryOf c) c 0) x)
 unfolding loadRefusal pairRefusal blockRefusal roomFor loadRuns flat single cleanEntry madeOn
-load-map c d m b ch z =
+load-map c d m t b ch z =
     let g = geometryOf c in
     let (pair, more) = orElse-none (pairRefusal c d) _ z in
-    let (ten, own) = orElse-none (blockRefusal g b) _ (orElse-none (choiceRefusal g ch) _ (orElse-none (mapRefusal c m) _ more .1) .1) in
+    let asked = orElse-none (tableRefusal t) _ (orElse-none (mapRefusal c m) _ more .1) .1 in
+    let (ten, own) = orElse-none (blockRefusal g b) _ (orElse-none (choiceRefusal g ch) _ asked .1) in
     let last = orElse-none (refuse 12 (not (cached g c b))) _ own .1 in
     let room : 1 ≤ length (freeBlocks g c) = leb-true _ _ (refuse-none 14 (leb 1 (length (freeBlocks g c))) (omega arith) last) in
     let (fit, rest) = orElse-none (fitRefusal c) _ pair in
@@ -293,9 +304,6 @@ commit-map c m ns bs ch z =
 
 -- ---- recovery
 
-made-flat : (rs qs : List Run) (c : List ℕ) → madeOn card (flat (rs ++ qs)) c ≡ madeOn card (flat qs) (madeOn card (flat rs) c)
-made-flat rs qs c = ap (λ (ss : List Store). madeOn card ss c) (flat-append rs qs) ∙ made-append card (flat rs) (flat qs) c
-
 -- what recovery makes of entry i of the card c
 recovered : Geometry → List ℕ → ℕ → Entry
 recovered g c i = cond (undoableAt g c i) (undone (entryAt g c i)) (entryAt g c i)
@@ -385,7 +393,7 @@ module _ {g : Geometry} {c : List ℕ} (w : Intact g c) where
   turns zero l = record { sized = refl; header = refl; done = λ j h k. absurd (omega arith); ahead = λ j h k. refl }
   turns (suc i) l =
       subst (Undoing (suc i))
-      (sym (made-flat (eachBelow (undoRuns g c) i) (undoRuns g c i) c))
+      (sym (made-runs card (eachBelow (undoRuns g c) i) (undoRuns g c i) c))
       (turn i _ (omega arith) (turns i (omega arith)))
 
   -- Tail's store, made or left out, touches no entry
@@ -407,7 +415,7 @@ module _ {g : Geometry} {c : List ℕ} (w : Intact g c) where
   all-done : Undoing (g .blocks) (madeOn card (flat (recoverRuns g c)) c)
   unfolding recoverRuns
   all-done =
-      subst (Undoing (g .blocks)) (sym (made-flat (eachBelow (undoRuns g c) (g .blocks)) (ifChanging c (tailStore (headOf c))) c))
+      subst (Undoing (g .blocks)) (sym (made-runs card (eachBelow (undoRuns g c) (g .blocks)) (ifChanging c (tailStore (headOf c))) c))
       (tail-too _ (turns (g .blocks) (omega arith)))
 
   -- an undoable entry's previous block is its current one then, if it has one

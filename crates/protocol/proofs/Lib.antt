@@ -6,6 +6,7 @@ pub mod Codec
 pub mod Committed
 pub mod Computing
 pub mod CutRule
+pub mod Enough
 pub mod Example
 pub mod Fence
 pub mod Handed
@@ -19,11 +20,14 @@ pub mod Maps
 pub mod Passed
 pub mod Planned
 pub mod Previewed
+pub mod Recency
 pub mod Recovered
 pub mod Region
+pub mod Room
 pub mod Searches
 pub mod Shape
 pub mod Steps
 pub mod Stores
 pub mod Table
+pub mod Tables
 pub mod Words

@@ -16,12 +16,18 @@ use Rattle.protocol.specs.Below.{anyBelow}
 use Rattle.protocol.specs.Layout.{geometryOf}
 use Rattle.protocol.specs.Entry.{FRESH, entryAt, inUse}
 use Rattle.protocol.specs.Ring.{usedAt}
+use Rattle.protocol.specs.Check.{refuse}
 use Rattle.protocol.specs.Search.{takenBy, isFree}
-use Rattle.protocol.specs.Map.{mapBy, isMarked, mapOf}
+use Rattle.protocol.specs.Map.{mapBy, isMarked, mapOf, sameMap, mapRefusal}
 use Rattle.protocol.proofs.Below.{either, absurd-bool, bool-same, and-left, and-right, and-both, or-left, or-right, or-true, any-found, any-none, any-witness, below-or-above}
 use Rattle.protocol.proofs.Checks.{Limits, limits}
 use Rattle.protocol.proofs.Lawful.{Intact, currents-apart, current-below}
 use Rattle.protocol.proofs.Words.{map-cong}
+
+-- the map that the card gives is not refused
+pub own-map : (c : List ℕ) → mapRefusal c (mapOf c) ≡ 0
+unfolding mapRefusal sameMap refuse
+own-map c = rw (eq-eqb (mapOf c .low) (mapOf c .low) refl, eq-eqb (mapOf c .high) (mapOf c .high) refl)
 
 -- ---- a change of some entries
 
@@ -70,7 +76,7 @@ module _ {g : Geometry} {c c′ : List ℕ} {changed gone come : ℕ → Bool} (
   abbrev stays : ℕ → Bool
   stays d = anyBelow (takenBy g c d) (g .blocks) && not (gone d)
 
-  marked-is : (d : ℕ) → d < 128 → isMarked g c′ d ≡ (isMarked g c d && not (gone d)) || come d
+  pub marked-is : (d : ℕ) → d < 128 → isMarked g c′ d ≡ (isMarked g c d && not (gone d)) || come d
   marked-is d l = go (below-or-above d (g .blocks))
     where
       -- no block from N on was given up

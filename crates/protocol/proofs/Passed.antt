@@ -9,12 +9,15 @@ use lib.Dec.{ltb}
 use borrow.Author.Tests.{ltb-true, not-true}
 use Rattle.protocol.specs.declared.Geometry.{Geometry}
 use Rattle.protocol.specs.declared.Map.{Map}
+use Rattle.protocol.specs.Layout.{geometryOf}
 use Rattle.protocol.specs.Ring.{isSettled, cached}
-use Rattle.protocol.specs.Check.{refuse, _orElse_, fitRefusal, cardRefusal, choiceRefusal}
+use Rattle.protocol.specs.Check.{refuse, _orElse_, fitRefusal, diskRefusal, damageRefusal, cardRefusal, choiceFits, choiceRefusal}
 use Rattle.protocol.specs.Map.{mapRefusal}
 use Rattle.protocol.specs.Commit.{countFits, dataFits, numbersFit, numbersApart, roomFor, saveRefusal, commitRefusal}
+use Rattle.protocol.specs.Recency.{isArranged, tableRefusal}
 use Rattle.protocol.specs.Load.{pairRefusal, blockRefusal, loadRefusal, evictRefusal}
-use Rattle.protocol.proofs.Holds.{geometry-is, card-refuses, pair-refuses}
+use Rattle.protocol.specs.Room.{enoughVictims, roomRefusal}
+use Rattle.protocol.proofs.Holds.{pass, none-first, geometry-is, card-refuses, pair-refuses}
 use Rattle.protocol.proofs.Shape.{Inv}
 
 pub first-zero : (r s : ℕ) → r orElse s ≡ 0 → r ≡ 0
@@ -51,6 +54,68 @@ pub record CommitPassed (g : Geometry) (c ns bs : List ℕ) : Type 0 where
   pub once : numbersApart ns ≡ true
   pub room : roomFor g c (length ns) ≡ true
 
+-- what a commit of either kind asks of its arguments, and that there is room
+pub record SavePassed (g : Geometry) (ns bs ch : List ℕ) (room : Bool) : Type 0 where
+  pub counted : countFits g ns ≡ true
+  pub sized : dataFits g ns bs ≡ true
+  pub chosen : choiceFits g ch ≡ true
+  pub inDisk : numbersFit g ns ≡ true
+  pub once : numbersApart ns ≡ true
+  pub enough : room ≡ true
+
+pub record RoomPassed (g : Geometry) (c t ns bs ch : List ℕ) : Type 0 where
+  pub fit : fitRefusal c ≡ 0
+  pub undamaged : damageRefusal g c ≡ 0
+  pub settled : isSettled g c ≡ true
+  pub arranged : isArranged t ≡ true
+  pub saves : SavePassed g ns bs ch (enoughVictims g c t ns)
+
+module _ (g : Geometry) (ns bs ch : List ℕ) (room : Bool) where
+  pub save-passed : saveRefusal g ns bs ch room ≡ 0 → SavePassed g ns bs ch room
+  unfolding saveRefusal choiceRefusal
+  save-passed z =
+      let z₂ = second-zero (refuse 8 (countFits g ns)) _ z in
+      let z₃ = second-zero (refuse 9 (dataFits g ns bs)) _ z₂ in
+      let z₄ = second-zero (choiceRefusal g ch) _ z₃ in
+      let z₅ = second-zero (refuse 10 (numbersFit g ns)) _ z₄ in
+      record {
+        counted = passed 7 _ (first-zero (refuse 8 (countFits g ns)) _ z);
+        sized = passed 8 _ (first-zero (refuse 9 (dataFits g ns bs)) _ z₂);
+        chosen = passed 16 _ (first-zero (choiceRefusal g ch) _ z₃);
+        inDisk = passed 9 _ (first-zero (refuse 10 (numbersFit g ns)) _ z₄);
+        once = passed 10 _ (first-zero (refuse 11 (numbersApart ns)) _ z₅);
+        enough = passed 13 _ (second-zero (refuse 11 (numbersApart ns)) _ z₅);
+      }
+
+  pub save-passes : SavePassed g ns bs ch room → saveRefusal g ns bs ch room ≡ 0
+  unfolding saveRefusal choiceRefusal
+  save-passes p =
+      none-first _ (pass 8 (p .counted))
+      ∙ none-first _ (pass 9 (p .sized))
+      ∙ none-first _ (pass 17 (p .chosen))
+      ∙ none-first _ (pass 10 (p .inDisk))
+      ∙ none-first _ (pass 11 (p .once))
+      ∙ pass 14 (p .enough)
+
+pub save-commit : {g : Geometry} {c ns bs ch : List ℕ} → isSettled g c ≡ true → SavePassed g ns bs ch (roomFor g c (length ns)) → CommitPassed g c ns bs
+save-commit s p =
+    record { settled = s; counted = p .counted; sized = p .sized; inDisk = p .inDisk; once = p .once; room = p .enough }
+
+pub room-passed : (c d : List ℕ) (m : Map) (t ns bs ch : List ℕ) → roomRefusal c d m t ns bs ch ≡ 0 → RoomPassed (geometryOf c) c t ns bs ch
+unfolding roomRefusal pairRefusal cardRefusal tableRefusal
+room-passed c d m t ns bs ch z =
+    let g = geometryOf c in
+    let pair = first-zero (pairRefusal c d) _ z in
+    let card = second-zero (diskRefusal g d) _ (second-zero (fitRefusal c) _ pair) in
+    let own = second-zero (mapRefusal c m) _ (second-zero (pairRefusal c d) _ z) in
+    record {
+      fit = first-zero (fitRefusal c) _ pair;
+      undamaged = first-zero (damageRefusal g c) _ card;
+      settled = passed 6 _ (second-zero (damageRefusal g c) _ card);
+      arranged = passed 15 _ (first-zero (tableRefusal t) _ own);
+      saves = save-passed g ns bs ch _ (second-zero (tableRefusal t) _ own);
+    }
+
 module _ {g : Geometry} {row : ℕ → List ℕ} {c d : List ℕ} (v : Inv g row c d) where
   pub evict-passed : (s : Map) (b : ℕ) (ch : List ℕ) → evictRefusal c d s b ch ≡ 0 → EvictPassed g c b
   unfolding evictRefusal blockRefusal
@@ -68,21 +133,22 @@ module _ {g : Geometry} {row : ℕ → List ℕ} {c d : List ℕ} (v : Inv g row
         isCached = passed 12 _ (second-zero (refuse 10 (ltb b (g .disk))) _ own);
       }
 
-  pub load-passed : (s : Map) (b : ℕ) (ch : List ℕ) → loadRefusal c d s b ch ≡ 0 → LoadPassed g c b
+  pub load-passed : (s : Map) (t : List ℕ) (b : ℕ) (ch : List ℕ) → loadRefusal c d s t b ch ≡ 0 → LoadPassed g c b
   unfolding loadRefusal blockRefusal
-  load-passed s b ch z =
+  load-passed s t b ch z =
       let e =
       ap
       (λ (y : Geometry).
       pairRefusal c d
       orElse mapRefusal c s
+      orElse tableRefusal t
       orElse choiceRefusal y ch
       orElse refuse 10 (ltb b (y .disk))
       orElse refuse 12 (not (cached y c b))
       orElse refuse 14 (roomFor y c 1))
       (sym (geometry-is v))
       ∙ z in
-      let own = second-zero (choiceRefusal g ch) _ (second-zero (mapRefusal c s) _ (second-zero (pairRefusal c d) _ e)) in
+      let own = second-zero (choiceRefusal g ch) _ (second-zero (tableRefusal t) _ (second-zero (mapRefusal c s) _ (second-zero (pairRefusal c d) _ e))) in
       let more = second-zero (refuse 10 (ltb b (g .disk))) _ own in
       record {
         settled = passed 6 _ (sym (pair-refuses v) ∙ first-zero (pairRefusal c d) _ e);
@@ -92,20 +158,14 @@ module _ {g : Geometry} {row : ℕ → List ℕ} {c d : List ℕ} (v : Inv g row
       }
 
   pub commit-passed : (s : Map) (ns bs ch : List ℕ) → commitRefusal c s ns bs ch ≡ 0 → CommitPassed g c ns bs
-  unfolding commitRefusal saveRefusal
+  unfolding commitRefusal
   commit-passed s ns bs ch z =
       let e =
-      ap (λ (y : Geometry). fitRefusal c orElse cardRefusal y c orElse mapRefusal c s orElse saveRefusal y c ns bs ch) (sym (geometry-is v)) ∙ z in
+      ap
+      (λ (y : Geometry).
+      fitRefusal c orElse cardRefusal y c orElse mapRefusal c s orElse saveRefusal y ns bs ch (roomFor y c (length ns)))
+      (sym (geometry-is v))
+      ∙ z in
       let card = second-zero (fitRefusal c) _ e in
-      let own = second-zero (mapRefusal c s) _ (second-zero (cardRefusal g c) _ card) in
-      let own₂ = second-zero (refuse 8 (countFits g ns)) _ own in
-      let own₃ = second-zero (choiceRefusal g ch) _ (second-zero (refuse 9 (dataFits g ns bs)) _ own₂) in
-      let own₄ = second-zero (refuse 10 (numbersFit g ns)) _ own₃ in
-      record {
-        settled = passed 6 _ (sym (card-refuses v) ∙ first-zero (cardRefusal g c) _ card);
-        counted = passed 7 _ (first-zero (refuse 8 (countFits g ns)) _ own);
-        sized = passed 8 _ (first-zero (refuse 9 (dataFits g ns bs)) _ own₂);
-        inDisk = passed 9 _ (first-zero (refuse 10 (numbersFit g ns)) _ own₃);
-        once = passed 10 _ (first-zero (refuse 11 (numbersApart ns)) _ own₄);
-        room = passed 13 _ (second-zero (refuse 11 (numbersApart ns)) _ own₄);
-      }
+      save-commit (passed 6 _ (sym (card-refuses v) ∙ first-zero (cardRefusal g c) _ card))
+      (save-passed g ns bs ch _ (second-zero (mapRefusal c s) _ (second-zero (cardRefusal g c) _ card)))

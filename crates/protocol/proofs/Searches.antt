@@ -1,5 +1,5 @@
--- The searches round the ring: what they find has the property, is below the ring's length, and is found once; and by counting, a card that
--- passes check 6 has an unused entry for each free data block. Assumes nothing.
+-- What is sifted out of a sequence has the property and stands there once, as what the searches round the ring find; and by counting, a card
+-- that passes check 6 has an unused entry for each free data block. Assumes nothing.
 use Prim.Native.Nat.{ℕ, zero, suc, _+_, _-_, _≤_, _<_}
 use mathlib.Core.List.{List, [], _∷_, _++_}
 use mathlib.Core.Bool.{Bool, true, false, cond, not, _&&_, _||_}
@@ -14,118 +14,141 @@ use borrow.Author.Tests.{eqb-true, eq-eqb, ne-eqb, lt-ltb, le-ltb}
 use Rattle.protocol.specs.Below.{anyBelow, countBelow, eachBelow, keep, around, walked}
 use Rattle.protocol.proofs.Below.{below-cong, either, absurd-bool, below-or-above, last-or-before, around-apart, any-found, any-none, and-left, and-right, and-both}
 
--- ---- what a walk finds
+-- ---- what is sifted out
 
 at-end : (xs : List ℕ) (x k : ℕ) → length xs ≤ k → k < length xs + 1 → getD (xs ++ (x ∷ [])) k 0 ≡ x
 at-end xs x k a b =
     let e : k ≡ length xs + 0 = omega arith in
     ap (λ (z : ℕ). getD (xs ++ (x ∷ [])) z 0) e ∙ getD-append-add xs (x ∷ []) 0 0
 
--- the k-th that was found stands at some step of the walk, and has p
-pub record Found (p : ℕ → Bool) (n start j x : ℕ) : Type 0 where
+-- those of nth's first j values that have p, in their order
+abbrev pub sifted : (ℕ → Bool) → (ℕ → ℕ) → ℕ → List ℕ
+sifted p nth = eachBelow (λ i. keep (p (nth i)) (nth i))
+
+-- one of them is nth's value at some step, and has p
+pub record Sifted (p : ℕ → Bool) (nth : ℕ → ℕ) (j x : ℕ) : Type 0 where
   pub step : ℕ
   pub before : step < j
-  pub at : x ≡ around n start step
+  pub at : x ≡ nth step
   pub has : p x ≡ true
 
-module _ (p : ℕ → Bool) (n start : ℕ) where
-  -- a walk of one step more: the same, or one more at the end
+module _ (p : ℕ → Bool) (nth : ℕ → ℕ) where
+  -- one step more: the same, or one more at the end
   data Longer (j : ℕ) : Type 0 where
-    more : p (around n start j) ≡ true → walked p n start (suc j) ≡ walked p n start j ++ (around n start j ∷ []) → Longer j
-    same : p (around n start j) ≡ false → walked p n start (suc j) ≡ walked p n start j ++ [] → Longer j
+    more : p (nth j) ≡ true → sifted p nth (suc j) ≡ sifted p nth j ++ (nth j ∷ []) → Longer j
+    same : p (nth j) ≡ false → sifted p nth (suc j) ≡ sifted p nth j ++ [] → Longer j
 
   longer : (j : ℕ) → Longer j
-  unfolding walked eachBelow keep
-  longer j = ⊎-elim (λ e. more e (rw e)) (λ e. same e (rw e)) (either (p (around n start j)))
+  unfolding eachBelow keep
+  longer j = ⊎-elim (λ e. more e (rw e)) (λ e. same e (rw e)) (either (p (nth j)))
 
-  pub walk-finds : (j k : ℕ) → k < length (walked p n start j) → Found p n start j (getD (walked p n start j) k 0)
-  unfolding walked eachBelow
-  walk-finds zero k l = absurd (omega arith)
-  walk-finds (suc j) k l = go (longer j) (λ m. walk-finds j k m)
+  pub sift-finds : (j k : ℕ) → k < length (sifted p nth j) → Sifted p nth j (getD (sifted p nth j) k 0)
+  unfolding eachBelow
+  sift-finds zero k l = absurd (omega arith)
+  sift-finds (suc j) k l = go (longer j) (λ m. sift-finds j k m)
     where
-      old : (ys : List ℕ) → walked p n start (suc j) ≡ walked p n start j ++ ys → k < length (walked p n start j)
-          → Found p n start j (getD (walked p n start j) k 0) → Found p n start (suc j) (getD (walked p n start (suc j)) k 0)
+      old : (ys : List ℕ) → sifted p nth (suc j) ≡ sifted p nth j ++ ys → k < length (sifted p nth j)
+          → Sifted p nth j (getD (sifted p nth j) k 0) → Sifted p nth (suc j) (getD (sifted p nth (suc j)) k 0)
       old ys e m f =
-          let q : getD (walked p n start (suc j)) k 0 ≡ getD (walked p n start j) k 0 =
-          ap (λ (z : List ℕ). getD z k 0) e ∙ List·getD-append (walked p n start j) ys 0 k m in
+          let q : getD (sifted p nth (suc j)) k 0 ≡ getD (sifted p nth j) k 0 =
+          ap (λ (z : List ℕ). getD z k 0) e ∙ List·getD-append (sifted p nth j) ys 0 k m in
           record { step = f .step; before = omega (arith, f .before); at = q ∙ f .at; has = ap p q ∙ f .has }
 
-      go : Longer j → (k < length (walked p n start j) → Found p n start j (getD (walked p n start j) k 0))
-          → Found p n start (suc j) (getD (walked p n start (suc j)) k 0)
+      go : Longer j → (k < length (sifted p nth j) → Sifted p nth j (getD (sifted p nth j) k 0))
+          → Sifted p nth (suc j) (getD (sifted p nth (suc j)) k 0)
       go (same h e) ih =
-          let m : k < length (walked p n start j) = omega (arith, ap length e, length-append (walked p n start j) []) in
+          let m : k < length (sifted p nth j) = omega (arith, ap length e, length-append (sifted p nth j) []) in
           old [] e m (ih m)
       go (more h e) ih =
           ⊎-elim
-          (λ m. old (around n start j ∷ []) e m (ih m))
+          (λ m. old (nth j ∷ []) e m (ih m))
           (λ m.
-          let q : getD (walked p n start (suc j)) k 0 ≡ around n start j =
-          ap (λ (z : List ℕ). getD z k 0) e ∙ at-end (walked p n start j) (around n start j) k m
-          (omega (arith, ap length e, length-append (walked p n start j) (around n start j ∷ []))) in
+          let q : getD (sifted p nth (suc j)) k 0 ≡ nth j =
+          ap (λ (z : List ℕ). getD z k 0) e ∙ at-end (sifted p nth j) (nth j) k m
+          (omega (arith, ap length e, length-append (sifted p nth j) (nth j ∷ []))) in
           record { step = j; before = omega arith; at = q; has = ap p q ∙ h })
-          (below-or-above k (length (walked p n start j)))
+          (below-or-above k (length (sifted p nth j)))
 
-  -- no two are the same
-  pub walk-apart : (j k k′ : ℕ) → start < n → j ≤ n → k < length (walked p n start j) → k′ < length (walked p n start j)
-      → getD (walked p n start j) k 0 ≡ getD (walked p n start j) k′ 0 → k ≡ k′
-  unfolding walked eachBelow
-  walk-apart zero k k′ s b l l′ e = absurd (omega arith)
-  walk-apart (suc j) k k′ s b l l′ e = go (longer j) (λ m m′. walk-apart j k k′ s (omega arith) m m′)
+  -- no two are the same, where no two of nth's values are
+  pub sift-apart : (j k k′ : ℕ) → ((i i′ : ℕ) → i < j → i′ < j → nth i ≡ nth i′ → i ≡ i′) → k < length (sifted p nth j) → k′ < length (sifted p nth j)
+      → getD (sifted p nth j) k 0 ≡ getD (sifted p nth j) k′ 0 → k ≡ k′
+  unfolding eachBelow
+  sift-apart zero k k′ once l l′ e = absurd (omega arith)
+  sift-apart (suc j) k k′ once l l′ e = go (longer j) (λ m m′. sift-apart j k k′ (λ i i′ h h′. once i i′ (omega arith) (omega arith)) m m′)
     where
-      old : (ys : List ℕ) (i : ℕ) → walked p n start (suc j) ≡ walked p n start j ++ ys → i < length (walked p n start j)
-          → getD (walked p n start (suc j)) i 0 ≡ getD (walked p n start j) i 0
-      old ys i q m = ap (λ (z : List ℕ). getD z i 0) q ∙ List·getD-append (walked p n start j) ys 0 i m
+      old : (ys : List ℕ) (i : ℕ) → sifted p nth (suc j) ≡ sifted p nth j ++ ys → i < length (sifted p nth j)
+          → getD (sifted p nth (suc j)) i 0 ≡ getD (sifted p nth j) i 0
+      old ys i q m = ap (λ (z : List ℕ). getD z i 0) q ∙ List·getD-append (sifted p nth j) ys 0 i m
 
       -- one of the earlier steps is not the last one
-      never : (i : ℕ) → i < length (walked p n start j) → getD (walked p n start j) i 0 ≡ around n start j → ⊥
+      never : (i : ℕ) → i < length (sifted p nth j) → getD (sifted p nth j) i 0 ≡ nth j → ⊥
       never i m q =
-          let f = walk-finds j i m in
-          let z : f .step ≡ j = around-apart n start (f .step) j s (omega (arith, f .before)) (omega arith) (sym (f .at) ∙ q) in
+          let f = sift-finds j i m in
+          let z : f .step ≡ j = once (f .step) j (omega (arith, f .before)) (omega arith) (sym (f .at) ∙ q) in
           omega (arith, f .before)
 
       go : Longer j
-          → (k < length (walked p n start j) → k′ < length (walked p n start j) → getD (walked p n start j) k 0 ≡ getD (walked p n start j) k′ 0 → k ≡ k′)
+          → (k < length (sifted p nth j) → k′ < length (sifted p nth j) → getD (sifted p nth j) k 0 ≡ getD (sifted p nth j) k′ 0 → k ≡ k′)
           → k ≡ k′
       go (same h q) ih =
-          let n0 = length-append (walked p n start j) [] in
+          let n0 = length-append (sifted p nth j) [] in
           let n1 = ap length q in
-          let m : k < length (walked p n start j) = omega arith in
-          let m′ : k′ < length (walked p n start j) = omega arith in
+          let m : k < length (sifted p nth j) = omega arith in
+          let m′ : k′ < length (sifted p nth j) = omega arith in
           ih m m′ (sym (old [] k q m) ∙ e ∙ old [] k′ q m′)
-      go (more h q) ih = sides (below-or-above k (length (walked p n start j))) (below-or-above k′ (length (walked p n start j)))
+      go (more h q) ih = sides (below-or-above k (length (sifted p nth j))) (below-or-above k′ (length (sifted p nth j)))
         where
           x : ℕ
-          x = around n start j
+          x = nth j
 
-          long : length (walked p n start (suc j)) ≡ length (walked p n start j) + 1
-          long = ap length q ∙ length-append (walked p n start j) (x ∷ [])
+          long : length (sifted p nth (suc j)) ≡ length (sifted p nth j) + 1
+          long = ap length q ∙ length-append (sifted p nth j) (x ∷ [])
 
-          last : (i : ℕ) → length (walked p n start j) ≤ i → i < length (walked p n start (suc j)) → getD (walked p n start (suc j)) i 0 ≡ x
-          last i m b = ap (λ (z : List ℕ). getD z i 0) q ∙ at-end (walked p n start j) x i m (omega (arith, long))
+          last : (i : ℕ) → length (sifted p nth j) ≤ i → i < length (sifted p nth (suc j)) → getD (sifted p nth (suc j)) i 0 ≡ x
+          last i m b = ap (λ (z : List ℕ). getD z i 0) q ∙ at-end (sifted p nth j) x i m (omega (arith, long))
 
-          sides : (k < length (walked p n start j)) ⊎ (length (walked p n start j) ≤ k)
-              → (k′ < length (walked p n start j)) ⊎ (length (walked p n start j) ≤ k′) → k ≡ k′
+          sides : (k < length (sifted p nth j)) ⊎ (length (sifted p nth j) ≤ k)
+              → (k′ < length (sifted p nth j)) ⊎ (length (sifted p nth j) ≤ k′) → k ≡ k′
           sides (inl m) (inl m′) = ih m m′ (sym (old (x ∷ []) k q m) ∙ e ∙ old (x ∷ []) k′ q m′)
           sides (inl m) (inr m′) = absurd (never k m (sym (old (x ∷ []) k q m) ∙ e ∙ last k′ m′ l′))
           sides (inr m) (inl m′) = absurd (never k′ m′ (sym (old (x ∷ []) k′ q m′) ∙ sym e ∙ last k m l))
           sides (inr m) (inr m′) = omega (arith, long)
 
-  pub length-walk : (j : ℕ) → length (walked p n start j) ≡ countBelow (λ i. p (around n start i)) j
-  unfolding walked eachBelow countBelow
-  length-walk zero = refl
-  length-walk (suc j) = go (longer j) (length-walk j)
+  pub length-sift : (j : ℕ) → length (sifted p nth j) ≡ countBelow (λ i. p (nth i)) j
+  unfolding eachBelow countBelow
+  length-sift zero = refl
+  length-sift (suc j) = go (longer j) (length-sift j)
     where
-      go : Longer j → length (walked p n start j) ≡ countBelow (λ i. p (around n start i)) j
-          → length (walked p n start (suc j))
-          ≡ cond (p (around n start j)) (suc (countBelow (λ i. p (around n start i)) j)) (countBelow (λ i. p (around n start i)) j)
+      go : Longer j → length (sifted p nth j) ≡ countBelow (λ i. p (nth i)) j
+          → length (sifted p nth (suc j))
+          ≡ cond (p (nth j)) (suc (countBelow (λ i. p (nth i)) j)) (countBelow (λ i. p (nth i)) j)
       go (more h e) ih =
-          let m : length (walked p n start (suc j)) ≡ suc (countBelow (λ i. p (around n start i)) j) =
-          omega (arith, ap length e, length-append (walked p n start j) (around n start j ∷ [])) in
-          m ∙ sym (ap (λ (b : Bool). cond b (suc (countBelow (λ i. p (around n start i)) j)) (countBelow (λ i. p (around n start i)) j)) h)
+          let m : length (sifted p nth (suc j)) ≡ suc (countBelow (λ i. p (nth i)) j) =
+          omega (arith, ap length e, length-append (sifted p nth j) (nth j ∷ [])) in
+          m ∙ sym (ap (λ (b : Bool). cond b (suc (countBelow (λ i. p (nth i)) j)) (countBelow (λ i. p (nth i)) j)) h)
       go (same h e) ih =
-          let m : length (walked p n start (suc j)) ≡ countBelow (λ i. p (around n start i)) j =
-          omega (arith, ap length e, length-append (walked p n start j) []) in
-          m ∙ sym (ap (λ (b : Bool). cond b (suc (countBelow (λ i. p (around n start i)) j)) (countBelow (λ i. p (around n start i)) j)) h)
+          let m : length (sifted p nth (suc j)) ≡ countBelow (λ i. p (nth i)) j =
+          omega (arith, ap length e, length-append (sifted p nth j) []) in
+          m ∙ sym (ap (λ (b : Bool). cond b (suc (countBelow (λ i. p (nth i)) j)) (countBelow (λ i. p (nth i)) j)) h)
+
+-- ---- what a walk finds
+
+abbrev pub Found : (ℕ → Bool) → ℕ → ℕ → ℕ → ℕ → Type 0
+Found p n start = Sifted p (around n start)
+
+module _ (p : ℕ → Bool) (n start : ℕ) where
+  pub walk-finds : (j k : ℕ) → k < length (walked p n start j) → Found p n start j (getD (walked p n start j) k 0)
+  unfolding walked
+  walk-finds = sift-finds p (around n start)
+
+  pub walk-apart : (j k k′ : ℕ) → start < n → j ≤ n → k < length (walked p n start j) → k′ < length (walked p n start j)
+      → getD (walked p n start j) k 0 ≡ getD (walked p n start j) k′ 0 → k ≡ k′
+  unfolding walked
+  walk-apart j k k′ s b = sift-apart p (around n start) j k k′ (λ i i′ h h′. around-apart n start i i′ s (omega arith) (omega arith))
+
+  pub length-walk : (j : ℕ) → length (walked p n start j) ≡ countBelow (λ i. p (around n start i)) j
+  unfolding walked
+  length-walk = length-sift p (around n start)
 
 -- ---- counting
 
@@ -166,7 +189,7 @@ count-round p n s l =
     back i h = let k : n ≤ s + (n - s + i) = omega arith in rw (le-ltb (s + (n - s + i)) n k) (omega arith)
 
 -- one more has it
-count-grows : (p q : ℕ → Bool) (n k : ℕ) → k < n → p k ≡ false → q k ≡ true → ((i : ℕ) → i < n → (i ≡ k → ⊥) → q i ≡ p i)
+pub count-grows : (p q : ℕ → Bool) (n k : ℕ) → k < n → p k ≡ false → q k ≡ true → ((i : ℕ) → i < n → (i ≡ k → ⊥) → q i ≡ p i)
     → countBelow q n ≡ countBelow p n + 1
 unfolding countBelow
 count-grows p q zero k l a b f = absurd (omega arith)

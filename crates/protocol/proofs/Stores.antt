@@ -48,9 +48,16 @@ unfolding flat
 flat-append [] qs = refl
 flat-append (r ∷ rs) qs = ap (λ (z : List Store). r .stores ++ z) (flat-append rs qs) ∙ sym (append-assoc (r .stores) (flat rs) (flat qs))
 
+-- runs after runs
+pub made-runs : (m : Medium) (rs qs : List Run) (xs : List ℕ) → madeOn m (flat (rs ++ qs)) xs ≡ madeOn m (flat qs) (madeOn m (flat rs) xs)
+made-runs m rs qs xs = ap (λ (ss : List Store). madeOn m ss xs) (flat-append rs qs) ∙ made-append m (flat rs) (flat qs) xs
+
 pub flat-single : (s : Store) → flat (single s) ≡ s ∷ []
 unfolding flat single
 flat-single s = refl
+
+pub flat-last : (rs : List Run) (s : Store) → flat (rs ++ single s) ≡ flat rs ++ (s ∷ [])
+flat-last rs s = flat-append rs (single s) ∙ ap (λ (ss : List Store). flat rs ++ ss) (flat-single s)
 
 -- ---- runs under an allowance and a choice
 
@@ -255,20 +262,16 @@ pub record Along (P Q : List ℕ → List ℕ → Type 0) (rs : List Run) (c d :
   pub during : (a : ℕ) (ch : List ℕ) → P (madeOn card (made a ch rs) c) (madeOn disk (made a ch rs) d)
   pub end : Q (madeOn card (flat rs) c) (madeOn disk (flat rs) d)
 
-both : (T : List ℕ → List ℕ → Type 0) {a b a′ b′ : List ℕ} → a ≡ b → a′ ≡ b′ → T a a′ → T b b′
+-- the same of two lists that are what these are
+pub both : (T : List ℕ → List ℕ → Type 0) {a b a′ b′ : List ℕ} → a ≡ b → a′ ≡ b′ → T a a′ → T b b′
 both T {a} {b} {a′} {b′} p q t = subst (λ (z : List ℕ). T b z) q (subst (λ (z : List ℕ). T z a′) p t)
 
-pub along-then : {P Q R : List ℕ → List ℕ → Type 0} (rs qs : List Run) (c d : List ℕ) → Along P Q rs c d
-    → ((c′ d′ : List ℕ) → Q c′ d′ → Along P R qs c′ d′) → Along P R (rs ++ qs) c d
-along-then {P} {Q} {R} rs qs c d x f =
-    record { during = cut; end = both R (sym (ends card c)) (sym (ends disk d)) (next .end) }
+-- runs, then runs on what they leave
+pub along-next : {P Q R : List ℕ → List ℕ → Type 0} (rs qs : List Run) (c d : List ℕ) → Along P Q rs c d
+    → Along P R qs (madeOn card (flat rs) c) (madeOn disk (flat rs) d) → Along P R (rs ++ qs) c d
+along-next {P} {Q} {R} rs qs c d x next =
+    record { during = cut; end = both R (sym (made-runs card rs qs c)) (sym (made-runs disk rs qs d)) (next .end) }
   where
-    next : Along P R qs (madeOn card (flat rs) c) (madeOn disk (flat rs) d)
-    next = f (madeOn card (flat rs) c) (madeOn disk (flat rs) d) (x .end)
-
-    ends : (m : Medium) (xs : List ℕ) → madeOn m (flat (rs ++ qs)) xs ≡ madeOn m (flat qs) (madeOn m (flat rs) xs)
-    ends m xs = ap (λ (ss : List Store). madeOn m ss xs) (flat-append rs qs) ∙ made-append m (flat rs) (flat qs) xs
-
     all : (m : Medium) (a : ℕ) (ch xs : List ℕ) → length (flat rs) ≤ a
         → madeOn m (made a ch (rs ++ qs)) xs ≡ madeOn m (made (a - length (flat rs)) ch qs) (madeOn m (flat rs) xs)
     all m a ch xs l = ap (λ (ss : List Store). madeOn m ss xs) (runs-past a ch rs qs l) ∙ made-append m (flat rs) _ xs
@@ -282,6 +285,10 @@ along-then {P} {Q} {R} rs qs c d x f =
         (λ l. both P (sym (some card a ch c l)) (sym (some disk a ch d l)) (x .during a ch))
         (λ l. both P (sym (all card a ch c l)) (sym (all disk a ch d l)) (next .during (a - length (flat rs)) ch))
         (below-or-above a (length (flat rs)))
+
+pub along-then : {P Q R : List ℕ → List ℕ → Type 0} (rs qs : List Run) (c d : List ℕ) → Along P Q rs c d
+    → ((c′ d′ : List ℕ) → Q c′ d′ → Along P R qs c′ d′) → Along P R (rs ++ qs) c d
+along-then rs qs c d x f = along-next rs qs c d x (f (madeOn card (flat rs) c) (madeOn disk (flat rs) d) (x .end))
 
 pub along-none : {P Q : List ℕ → List ℕ → Type 0} (c d : List ℕ) → P c d → Q c d → Along P Q [] c d
 unfolding madeOn made flat

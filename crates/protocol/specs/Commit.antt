@@ -101,20 +101,23 @@ numbersApart ns = allBelow (newNumber ns) (length ns)
 unfoldable pub roomFor : Geometry → List ℕ → ℕ → Bool
 roomFor g c n = leb n (length (freeBlocks g c))
 
--- commit's own refusals, 8 to 14, with 17 "after 9"
-unfoldable pub saveRefusal : Geometry → List ℕ → List ℕ → List ℕ → List ℕ → ℕ
-saveRefusal g c ns bs ch =
+-- a commit's own refusals, 8 to 14, with 17 "after 9", where `room` says that 14 does not hold
+unfoldable pub saveRefusal : Geometry → List ℕ → List ℕ → List ℕ → Bool → ℕ
+saveRefusal g ns bs ch room =
     refuse 8 (countFits g ns)
     orElse refuse 9 (dataFits g ns bs)
     orElse choiceRefusal g ch
     orElse refuse 10 (numbersFit g ns)
     orElse refuse 11 (numbersApart ns)
-    orElse refuse 14 (roomFor g c (length ns))
+    orElse refuse 14 room
 
 -- commit is refused with 1, 2, 4 to 7 and 15, then by its own checks
 unfoldable pub commitRefusal : List ℕ → Map → List ℕ → List ℕ → List ℕ → ℕ
 commitRefusal c m ns bs ch =
-    fitRefusal c orElse cardRefusal (geometryOf c) c orElse mapRefusal c m orElse saveRefusal (geometryOf c) c ns bs ch
+    fitRefusal c
+    orElse cardRefusal (geometryOf c) c
+    orElse mapRefusal c m
+    orElse saveRefusal (geometryOf c) ns bs ch (roomFor (geometryOf c) c (length ns))
 
 -- commit of the numbers ns with the bytes bs and the choice ch, given the map m
 unfoldable pub commitWork : List ℕ → Map → List ℕ → List ℕ → List ℕ → Work

@@ -1,25 +1,31 @@
--- Document 01, "The cut rule" (demand 3), the plain row of demand 2, and the map that a station hands on (document 02, ask 1): what is claimed
--- of every list of calls.
-use Prim.Native.Nat.{ℕ, _<_}
+-- Document 01, "The cut rule" (demand 3), the plain row of demand 2, the map that a station hands on (document 02, ask 1), and what a
+-- room-making commit keeps (ask 4): what is claimed of every list of calls.
+use Prim.Native.Nat.{ℕ, _+_, _<_}
 use mathlib.Core.List.{List, [], _∷_, _++_}
-use mathlib.Core.Bool.{true}
+use mathlib.Core.Bool.{true, false}
 use mathlib.Core.Path.{_≡_}
 use lib.ListN.{length}
-use lib.Dec.{eqb, ltb}
+use lib.Dec.{eqb, ltb, leb}
 use Rattle.protocol.specs.declared.Answer.{Answer}
 use Rattle.protocol.specs.declared.Answer.the-variants.{Done, Cut, Refused}
 use Rattle.protocol.specs.declared.Outcome.the-variants.{Done as FormatDone}
 use Rattle.protocol.specs.declared.Geometry.{Geometry}
 use Rattle.protocol.specs.declared.Map.{Map}
 use Rattle.protocol.specs.declared.Mapped.the-variants.{Is}
-use Rattle.protocol.specs.Layout.{blockSize, diskBlock, diskLength}
-use Rattle.protocol.specs.Ring.{isSettled, contents}
+use Rattle.protocol.specs.Below.{countBelow}
+use Rattle.protocol.specs.Layout.{geometryOf, blockSize, diskBlock, diskLength}
+use Rattle.protocol.specs.Ring.{isSettled, cached, contents}
 use Rattle.protocol.specs.Check.{refuse, _orElse_}
 use Rattle.protocol.specs.Map.{mapOf, mapRefusal, madeMap}
 use Rattle.protocol.specs.Format.{outcomeOf, formatRefusal}
+use Rattle.protocol.specs.Recency.{isArranged, ascending}
+use Rattle.protocol.specs.Store.{answerOf}
+use Rattle.protocol.specs.Commit.{numberOf, numbersApart}
+use Rattle.protocol.specs.Load.{pairRefusal, loadWork, tableAfterLoad}
+use Rattle.protocol.specs.Room.{isAmong, missing, victimNumber, enoughVictims, roomWork, tableAfterSave}
 use Rattle.protocol.specs.Recover.{recoverRefusal}
-use Rattle.protocol.specs.Read.{readRefusal, outputAfter, lookRefusal, lookedAt}
-use Rattle.protocol.specs.History.{Request, recover, Media, answerTo, run, answers, fresh, Row, rowAfter, Asked, served}
+use Rattle.protocol.specs.Read.{readRefusal, outputAfter, recentRefusal, recentOutput, recentTable, lookRefusal, lookedAt}
+use Rattle.protocol.specs.History.{Request, makeRoom, recover, Media, answerTo, run, answers, fresh, Row, rowAfter, Asked, served}
 
 -- the media that a list of calls leaves, from a fresh card c over the disk d
 unfoldable pub left : Geometry → List ℕ → List ℕ → List Request → Media
@@ -56,6 +62,14 @@ pub record Sound (g : Geometry) (c d : List ℕ) (rs : List Request) : Type 0 wh
       ≡ refuse 7 (isSettled g (left g c d rs .onCard)) orElse refuse 9 (eqb (length out) (blockSize g)) orElse refuse 10 (ltb b (g .disk))
   pub lookRefuses : (b : ℕ) → lookRefusal (left g c d rs .onCard) (left g c d rs .onDisk) b
       ≡ refuse 7 (isSettled g (left g c d rs .onCard)) orElse refuse 10 (ltb b (g .disk))
+  -- and so does a read with the table, refused with 16 besides
+  pub recentReads : isSettled g (left g c d rs .onCard) ≡ true → (t out : List ℕ) (b : ℕ) → isArranged t ≡ true → length out ≡ blockSize g
+      → b < g .disk → recentOutput (left g c d rs .onCard) (left g c d rs .onDisk) t out b ≡ rowLeft g c d rs b
+  pub recentRefuses : (t out : List ℕ) (b : ℕ) → recentRefusal (left g c d rs .onCard) (left g c d rs .onDisk) t out b
+      ≡ refuse 7 (isSettled g (left g c d rs .onCard))
+      orElse refuse 16 (isArranged t)
+      orElse refuse 9 (eqb (length out) (blockSize g))
+      orElse refuse 10 (ltb b (g .disk))
 
 -- demand 3: "The list starts from a card that format answered with done, whatever its data blocks hold, and any disk of D·B bytes";
 -- "After every such list, an empty one too"
@@ -88,3 +102,51 @@ Kept (a ∷ ans) = (a ≡ Refused 15 → ⊥) × ((a ≡ Cut → ⊥) → Kept a
 -- the disk, whatever is refused between
 abbrev pub MapKept : Type 0
 MapKept = (m : Media) (s : Map) (qs : List Asked) → madeMap (m .onCard) ≡ Is s → Kept (served qs m s)
+
+-- a use of the table t leaves such an arrangement, whatever the card and the disk
+pub record TableStays (m : Media) (t : List ℕ) : Type 0 where
+  pub reads : (out : List ℕ) (b : ℕ) → isArranged (recentTable (m .onCard) (m .onDisk) t out b) ≡ true
+  pub loads : (a : ℕ) (s : Map) (b : ℕ) (ch : List ℕ) → isArranged (tableAfterLoad a (m .onCard) (m .onDisk) s t b ch) ≡ true
+  pub saves : (a : ℕ) (s : Map) (ns bs ch : List ℕ) → isArranged (tableAfterSave a (m .onCard) (m .onDisk) s t ns bs ch) ≡ true
+
+-- so a station whose table ascends at start, and is changed by its calls alone, meets no refusal with 16
+abbrev pub TableKept : Type 0
+TableKept = (isArranged ascending ≡ true) × ((m : Media) (t : List ℕ) → isArranged t ≡ true → TableStays m t)
+
+-- "cut and refused calls don't change it": a load or a room-making commit under the allowance a that does not answer done leaves the table t
+pub record TableWaits (m : Media) (s : Map) (t : List ℕ) (a : ℕ) : Type 0 where
+  pub loads : (b : ℕ) (ch : List ℕ) → ((n : ℕ) → answerOf a (loadWork (m .onCard) (m .onDisk) s t b ch) ≡ Done n → ⊥)
+      → tableAfterLoad a (m .onCard) (m .onDisk) s t b ch ≡ t
+  pub saves : (ns bs ch : List ℕ) → ((n : ℕ) → answerOf a (roomWork (m .onCard) (m .onDisk) s t ns bs ch) ≡ Done n → ⊥)
+      → tableAfterSave a (m .onCard) (m .onDisk) s t ns bs ch ≡ t
+
+-- a room-making commit with the map s and the table t, under the allowance a
+abbrev pub makingRoom : Map → List ℕ → List ℕ → List ℕ → List ℕ → ℕ → Request
+makingRoom s t ns bs ch a = record { call = makeRoom t ns bs ch; map = s; allowance = a }
+
+-- how many of a transaction's numbers are cached
+unfoldable pub cachedAmong : Geometry → List ℕ → List ℕ → ℕ
+cachedAmong g c ns = countBelow (λ i. cached g c (numberOf ns i)) (length ns)
+
+-- document 02, ask 4, for users: where 1 to 7, 11 and 16 pass, "too few victims" means that the transaction, with its cached blocks counted twice,
+-- has more blocks than the card
+abbrev pub RoomEnough : Type 0
+RoomEnough = (c d t ns : List ℕ) → pairRefusal c d ≡ 0 → isArranged t ≡ true → numbersApart ns ≡ true
+    → enoughVictims (geometryOf c) c t ns ≡ leb (length ns + cachedAmong (geometryOf c) c ns) (geometryOf c .blocks)
+
+-- document 02, ask 4, for users: a room-making commit that answers done leaves the contents of every block outside the transaction, from the
+-- media m to the media after it
+pub record RoomKept (g : Geometry) (m after : Media) (t ns : List ℕ) : Type 0 where
+  pub contents-stay : (b : ℕ) → b < g .disk → isAmong ns b ≡ false
+      → contents g (after .onCard) (after .onDisk) b ≡ contents g (m .onCard) (m .onDisk) b
+  -- "evicts as many blocks as are missing": no card holds them then, and they are read "from the disk byte for byte as before"
+  pub evicted : (k : ℕ) → k < missing g (m .onCard) ns
+      → (cached g (after .onCard) (victimNumber g (m .onCard) t ns k) ≡ false)
+      × (diskBlock g (after .onDisk) (victimNumber g (m .onCard) t ns k) ≡ contents g (m .onCard) (m .onDisk) (victimNumber g (m .onCard) t ns k))
+
+abbrev pub RoomKeeps : Type 0
+RoomKeeps = (g : Geometry) (c d : List ℕ) (rs : List Request) (s : Map) (t ns bs ch : List ℕ) (a n : ℕ)
+    → outcomeOf (formatRefusal g c) ≡ FormatDone
+    → length d ≡ diskLength g
+    → answerTo (makingRoom s t ns bs ch a) (left g c d rs) ≡ Done n
+    → RoomKept g (left g c d rs) (left g c d (rs ++ (makingRoom s t ns bs ch a ∷ []))) t ns

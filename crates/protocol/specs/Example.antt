@@ -1,16 +1,17 @@
--- A worked history that computes: saves, cuts, recoveries, an evict, a load and refusals, with what each call answers and what is read. Each
--- call gets the map of the card that it meets, but for the last.
+-- Two worked histories that compute: saves, cuts, recoveries, an evict, a load, room-making and refusals, with what each call answers and what is
+-- read. Each call gets the map of the card that it meets, but for the first history's last.
 use Prim.Native.Nat.{ℕ, _+_}
 use mathlib.Core.List.{List, [], _∷_, _++_}
-use mathlib.Core.Bool.{true}
+use mathlib.Core.Bool.{true, false}
 use mathlib.Core.Path.{_≡_}
 use lib.ListN.{getD, replicate}
 use Rattle.protocol.specs.declared.Answer.the-variants.{Done, Cut, Refused}
 use Rattle.protocol.specs.declared.Geometry.{Geometry}
 use Rattle.protocol.specs.declared.Map.{Map}
-use Rattle.protocol.specs.Ring.{isSettled, contents}
+use Rattle.protocol.specs.Ring.{isSettled, cached, contents}
 use Rattle.protocol.specs.Table.{geometry}
-use Rattle.protocol.specs.History.{Call, commit, load, evict, recover, Request, Media, fresh, run, answers}
+use Rattle.protocol.specs.Recency.{ascending, allToFront}
+use Rattle.protocol.specs.History.{Call, commit, makeRoom, load, evict, recover, Request, Media, fresh, run, answers}
 
 -- four data blocks, four disk blocks of 512 bytes
 abbrev pub tiny : Geometry
@@ -53,7 +54,20 @@ twice = halfway ++ (ask (save 9) 3 136 ∷ ask recover 12 1 ∷ ask recover 5 am
 
 -- an evict, a load of the same block, a refused load of a cached block, and one with the map of before
 abbrev pub moved : List Request
-moved = twice ++ (ask (evict 2 quiet) 3 ample ∷ ask (load 2 quiet) 2 ample ∷ ask (load 3 quiet) 6 ample ∷ ask (load 3 quiet) 2 ample ∷ [])
+moved = twice ++ (ask (evict 2 quiet) 3 ample ∷ ask (load ascending 2 quiet) 2 ample ∷ ask (load ascending 3 quiet) 6 ample ∷ ask (load ascending 3 quiet) 2 ample ∷ [])
+
+-- the four entries used in their order, so that the first is the least recent one
+abbrev pub used : List ℕ
+used = allToFront (λ i. i) 4 ascending
+
+-- block 0 alone, filled with 9
+abbrev pub more : List ℕ → Call
+more t = makeRoom t (0 ∷ []) (replicate 512 9) quiet
+
+-- the card full by a room-making commit of blocks 0 and 1; one more that is cut between its eviction's sector and entry; made; and one with no
+-- table
+abbrev pub busy : List Request
+busy = saved ++ (ask (makeRoom ascending (0 ∷ 1 ∷ []) (replicate 1024 8) quiet) 3 ample ∷ ask (more used) 15 1 ∷ ask (more used) 15 ample ∷ ask (more []) 11 ample ∷ [])
 
 -- the first byte of disk block b as it is read
 unfoldable pub firstByte : Media → ℕ → ℕ
@@ -65,3 +79,8 @@ pub record Worked : Type 0 where
   pub read : firstByte (run saved start) 2 ∷ firstByte (run saved start) 3 ∷ firstByte (run saved start) 0 ∷ [] ≡ 7 ∷ 7 ∷ 1 ∷ []
   pub kept : firstByte (run moved start) 2 ∷ firstByte (run moved start) 3 ∷ firstByte (run moved start) 0 ∷ [] ≡ 7 ∷ 7 ∷ 1 ∷ []
   pub rests : isSettled tiny (run moved start .onCard) ≡ true
+  -- making room: block 2, which the least recent entry cached, is read from the disk
+  pub room-said : answers busy start ≡ Done 137 ∷ Done 137 ∷ Cut ∷ Done 71 ∷ Refused 16 ∷ []
+  pub room-kept : firstByte (run busy start) 0 ∷ firstByte (run busy start) 1 ∷ firstByte (run busy start) 2 ∷ firstByte (run busy start) 3 ∷ []
+      ≡ 9 ∷ 8 ∷ 7 ∷ 7 ∷ []
+  pub room-made : cached tiny (run busy start .onCard) 2 ≡ false

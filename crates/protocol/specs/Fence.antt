@@ -12,6 +12,7 @@ use Rattle.protocol.specs.Check.{choiceFits}
 use Rattle.protocol.specs.Store.{Store, Run, flat, landed, made}
 use Rattle.protocol.specs.Commit.{commitRuns}
 use Rattle.protocol.specs.Load.{loadRuns, evictRuns}
+use Rattle.protocol.specs.Room.{roomRuns, roomLeft}
 use Rattle.protocol.specs.Recover.{recoverRuns}
 
 -- document 01's rule: "exactly the first ones are made, as many as the allowance"
@@ -57,8 +58,9 @@ abbrev pub PrefixAccepted : Type 0
 PrefixAccepted = (g : Geometry) (a : ℕ) (rs : List Run) → choiceFits g (inOrder (blockSize g / 8) a rs) ≡ true
 
 -- and so are the runs of every call
-pub record CallsFenced (g : Geometry) (c d ns bs : List ℕ) (b : ℕ) : Type 0 where
+pub record CallsFenced (g : Geometry) (c d t ns bs : List ℕ) (b : ℕ) : Type 0 where
   pub commit : Fenced (commitRuns g c ns bs)
+  pub makeRoom : Fenced (roomRuns g c t ns ++ commitRuns g (roomLeft g c t ns) ns bs)
   pub load : Fenced (loadRuns g c d b)
   pub evict : Fenced (evictRuns g c b)
   pub recover : Fenced (recoverRuns g c)

@@ -15,13 +15,15 @@ use Rattle.protocol.specs.Map.{mapAfter}
 use Rattle.protocol.specs.Format.{afterFormat}
 use Rattle.protocol.specs.Commit.{numberOf, dataOf, commitWork}
 use Rattle.protocol.specs.Load.{loadWork, evictWork}
+use Rattle.protocol.specs.Room.{roomWork}
 use Rattle.protocol.specs.Recover.{recoverWork}
 
--- "In it stand commit, load, evict and recover": a storing call with all its arguments but the map and the allowance. "Commit, load and evict
--- take the choice", their last
+-- "In it stand commit, load, evict and recover": a storing call with all its arguments but the map and the allowance; document 02's room-making
+-- commit is one too. That and load take the table, their first; "Commit, load and evict take the choice", their last
 pub data Call : Type 0 where
   commit : List ℕ → List ℕ → List ℕ → Call
-  load : ℕ → List ℕ → Call
+  makeRoom : List ℕ → List ℕ → List ℕ → List ℕ → Call
+  load : List ℕ → ℕ → List ℕ → Call
   evict : ℕ → List ℕ → Call
   recover : Call
 
@@ -39,7 +41,8 @@ pub record Media : Type 0 where
 -- the call's refusal and runs of stores, from the map that it gets and the media that it meets
 unfoldable pub workOf : Call → Map → Media → Work
 workOf (commit ns bs ch) s m = commitWork (m .onCard) s ns bs ch
-workOf (load b ch) s m = loadWork (m .onCard) (m .onDisk) s b ch
+workOf (makeRoom t ns bs ch) s m = roomWork (m .onCard) (m .onDisk) s t ns bs ch
+workOf (load t b ch) s m = loadWork (m .onCard) (m .onDisk) s t b ch
 workOf (evict b ch) s m = evictWork (m .onCard) (m .onDisk) s b ch
 workOf recover s m = recoverWork (m .onCard) s
 
@@ -81,12 +84,15 @@ placeAmong ns b = firstBelow (λ i. eqb (numberOf ns i) b) (length ns)
 unfoldable pub replaced : Geometry → List ℕ → List ℕ → Row → Row
 replaced g ns bs row b = cond (ltb (placeAmong ns b) (length ns)) (dataOf g bs (placeAmong ns b)) (row b)
 
--- "a commit that answers done" replaces its blocks; "A cut or refused commit leaves the row as it is; so does every load, evict and recover"
+-- "a commit that answers done", of either kind, replaces its blocks; "A cut or refused commit leaves the row as it is; so does every load, evict and recover"
 unfoldable pub rowStep : Geometry → Call → Answer → Row → Row
 rowStep g (commit ns bs ch) (Done m) row = replaced g ns bs row
 rowStep g (commit ns bs ch) Cut row = row
 rowStep g (commit ns bs ch) (Refused r) row = row
-rowStep g (load b ch) a row = row
+rowStep g (makeRoom t ns bs ch) (Done m) row = replaced g ns bs row
+rowStep g (makeRoom t ns bs ch) Cut row = row
+rowStep g (makeRoom t ns bs ch) (Refused r) row = row
+rowStep g (load t b ch) a row = row
 rowStep g (evict b ch) a row = row
 rowStep g recover a row = row
 

@@ -10,7 +10,9 @@ pub mod Search
 pub mod Map
 pub mod Commit
 pub mod Preview
+pub mod Recency
 pub mod Load
+pub mod Room
 pub mod Recover
 pub mod Fence
 pub mod Read

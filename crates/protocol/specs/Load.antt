@@ -1,4 +1,4 @@
--- Document 01, "Load" and "Evict"; document 02's checks 15 and 17 among their refusals.
+-- Document 01, "Load" and "Evict"; document 02's checks 15, 16 and 17 among their refusals.
 use Prim.Native.Nat.{ℕ}
 use mathlib.Core.List.{List, [], _∷_, _++_}
 use mathlib.Core.Bool.{cond, not}
@@ -11,9 +11,10 @@ use Rattle.protocol.specs.Layout.{geometryOf, blockAt, diskBlock}
 use Rattle.protocol.specs.Entry.{FRESH, entryOf, unused, entryAt, isModified}
 use Rattle.protocol.specs.Ring.{findEntry, cached, currentOf}
 use Rattle.protocol.specs.Check.{refuse, _orElse_, fitRefusal, diskRefusal, cardRefusal, choiceRefusal}
-use Rattle.protocol.specs.Store.{Run, Work, words, sectors, entryStore, single}
+use Rattle.protocol.specs.Store.{Run, Work, words, sectors, entryStore, single, answerOf}
 use Rattle.protocol.specs.Search.{unusedEntries}
 use Rattle.protocol.specs.Map.{mapRefusal}
+use Rattle.protocol.specs.Recency.{tableRefusal, toFront, turned}
 use Rattle.protocol.specs.Commit.{newBlock, roomFor}
 
 -- checks 1 to 7 of a card and a disk
@@ -33,19 +34,25 @@ unfoldable pub loadRuns : Geometry → List ℕ → List ℕ → ℕ → List Ru
 loadRuns g c d b =
     words g (newBlock g c 0) (diskBlock g d b) ∷ single (entryStore g (getD (unusedEntries g c) 0 0) (cleanEntry g c b))
 
--- 12: "load of a cached block"; 14: "load with none free"
-unfoldable pub loadRefusal : List ℕ → List ℕ → Map → ℕ → List ℕ → ℕ
-loadRefusal c d m b ch =
+-- 12: "load of a cached block"; 14: "load with none free"; 16 "after 15"
+unfoldable pub loadRefusal : List ℕ → List ℕ → Map → List ℕ → ℕ → List ℕ → ℕ
+loadRefusal c d m t b ch =
     pairRefusal c d
     orElse mapRefusal c m
+    orElse tableRefusal t
     orElse choiceRefusal (geometryOf c) ch
     orElse blockRefusal (geometryOf c) b
     orElse refuse 12 (not (cached (geometryOf c) c b))
     orElse refuse 14 (roomFor (geometryOf c) c 1)
 
--- load of disk block b with the choice ch, given the map m
-unfoldable pub loadWork : List ℕ → List ℕ → Map → ℕ → List ℕ → Work
-loadWork c d m b ch = record { refusal = loadRefusal c d m b ch; runs = loadRuns (geometryOf c) c d b; choice = ch }
+-- load of disk block b with the choice ch, given the map m and the table t
+unfoldable pub loadWork : List ℕ → List ℕ → Map → List ℕ → ℕ → List ℕ → Work
+loadWork c d m t b ch = record { refusal = loadRefusal c d m t b ch; runs = loadRuns (geometryOf c) c d b; choice = ch }
+
+-- "a load .. move[s its] entry to the front": the table after a load
+unfoldable pub tableAfterLoad : ℕ → List ℕ → List ℕ → Map → List ℕ → ℕ → List ℕ → List ℕ
+tableAfterLoad allowance c d m t b ch =
+    turned (answerOf allowance (loadWork c d m t b ch)) t (toFront (getD (unusedEntries (geometryOf c) c) 0 0) t)
 
 -- "Evict of a modified block writes its B/512 sectors ascending", of a clean block none
 unfoldable pub writeBack : Geometry → List ℕ → ℕ → List Run

@@ -1,4 +1,4 @@
--- Document 01, "Read", "Look" and "State".
+-- Document 01, "Read", "Look" and "State"; and document 02, ask 4: a read that moves its entry to the front of the table.
 use Prim.Native.Nat.{ℕ}
 use mathlib.Core.List.{List, []}
 use mathlib.Core.Bool.{Bool, cond, _&&_}
@@ -14,8 +14,9 @@ use Rattle.protocol.specs.declared.Held.the-variants.{Card, Disk, Refuse
 use Rattle.protocol.specs.Below.{countBelow}
 use Rattle.protocol.specs.Layout.{geometryOf, blockSize}
 use Rattle.protocol.specs.Entry.{entryAt, isModified}
-use Rattle.protocol.specs.Ring.{usedAt, undoableAt, windowOf, isSettled, cached, contents}
+use Rattle.protocol.specs.Ring.{usedAt, undoableAt, windowOf, isSettled, findEntry, cached, contents}
 use Rattle.protocol.specs.Check.{refuse, _orElse_, fitRefusal, damageRefusal}
+use Rattle.protocol.specs.Recency.{tableRefusal, toFront}
 use Rattle.protocol.specs.Load.{pairRefusal, blockRefusal}
 
 -- 9: "read's output not B bytes"
@@ -27,14 +28,33 @@ unfoldable pub readRefusal : List ℕ → List ℕ → List ℕ → ℕ → ℕ
 readRefusal c d out b =
     pairRefusal c d orElse outputRefusal (geometryOf c) out orElse blockRefusal (geometryOf c) b
 
--- "says whether card or disk held it"
-unfoldable pub heldBy : List ℕ → List ℕ → List ℕ → ℕ → Held
-heldBy c d out b =
-    cond (eqb (readRefusal c d out b) 0) (cond (cached (geometryOf c) c b) Card Disk) (RefusedRead (readRefusal c d out b))
+-- a read with the table t is refused with 16 too, "after 7 for read"
+unfoldable pub recentRefusal : List ℕ → List ℕ → List ℕ → List ℕ → ℕ → ℕ
+recentRefusal c d t out b =
+    pairRefusal c d orElse tableRefusal t orElse outputRefusal (geometryOf c) out orElse blockRefusal (geometryOf c) b
+
+-- "says whether card or disk held it", after the refusal r
+unfoldable pub heldAfter : ℕ → List ℕ → ℕ → Held
+heldAfter r c b = cond (eqb r 0) (cond (cached (geometryOf c) c b) Card Disk) (RefusedRead r)
+
+abbrev pub heldBy : List ℕ → List ℕ → List ℕ → ℕ → Held
+heldBy c d out b = heldAfter (readRefusal c d out b) c b
+
+abbrev pub recentHeld : List ℕ → List ℕ → List ℕ → List ℕ → ℕ → Held
+recentHeld c d t out b = heldAfter (recentRefusal c d t out b) c b
 
 -- "copies the contents of a block to an output of B bytes": the output after the call, out before it
 unfoldable pub outputAfter : List ℕ → List ℕ → List ℕ → ℕ → List ℕ
 outputAfter c d out b = cond (eqb (readRefusal c d out b) 0) (contents (geometryOf c) c d b) out
+
+-- the output after a read with the table t
+unfoldable pub recentOutput : List ℕ → List ℕ → List ℕ → List ℕ → ℕ → List ℕ
+recentOutput c d t out b = cond (eqb (recentRefusal c d t out b) 0) (contents (geometryOf c) c d b) out
+
+-- "A read from the card .. move[s its] entry to the front": the table after it
+unfoldable pub recentTable : List ℕ → List ℕ → List ℕ → List ℕ → ℕ → List ℕ
+recentTable c d t out b =
+    cond (eqb (recentRefusal c d t out b) 0 && cached (geometryOf c) c b) (toFront (findEntry (geometryOf c) c b) t) t
 
 -- look is refused with 1 to 7 and 10; "Look's refusal is the empty part"
 unfoldable pub lookRefusal : List ℕ → List ℕ → ℕ → ℕ

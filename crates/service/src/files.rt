@@ -95,7 +95,7 @@ fn find(name: &[u8], card: &[u8], path: &[u8], fd: i32, long: u64, b: u64) {
     match lookup::find_in(card, long, b) {
         Found::Refused(r) => refuse_pair(name, path, card, r),
         Found::Outside(_) => refuse(name, card, 10),
-        Found::Card(at, size) => {
+        Found::Card(at, size, _) => {
             held(b, b"card", at);
             listing::block(&card[at..at + size]);
         }

@@ -69,6 +69,23 @@ module _ {m : Medium} {rs : List Run} {ch : List ℕ} {a : ℕ} {xs ys : List �
         left = omega (arith, y .left, x .left, length-append (flat rs) (flat qs), ap length (flat-append rs qs));
       }
 
+  -- what is left of a credit says that all was made
+  pub did-all : (r ≡ 0 → ⊥) → ys ≡ madeOn m (flat rs) xs
+  did-all h = x .made ∙ ap (λ (ss : List Store). madeOn m ss xs) (go a (x .left))
+    where
+      go : (k : ℕ) → r ≡ k - length (flat rs) → underCredit k ch rs ≡ flat rs
+      go zero e = absurd (h (omega arith))
+      go (suc k) e = unfold underCredit in runs-covered k ch rs (⊎-elim (λ l. absurd (h (omega arith))) (λ l. l) (below-or-above k (length (flat rs))))
+
+  -- and of one that is spent nothing more is made
+  pub did-spent : (qs : List Run) → r ≡ 0 → Did m (rs ++ qs) ch a xs ys 0
+  did-spent qs z =
+      did-then
+      (record {
+        made = unfold underCredit in unfold madeOn in ap (λ (k : ℕ). madeOn m (underCredit k ch qs) ys) (sym z);
+        left = omega arith;
+      })
+
 pub did-none : {m : Medium} {ch : List ℕ} {a : ℕ} {xs : List ℕ} → Did m [] ch a xs xs a
 unfolding madeOn underCredit made flat
 did-none {m} {ch} {a} {xs} = record { made = go a; left = omega arith }

@@ -110,7 +110,9 @@ fn load_choosing(
 ) -> Map {
     print::text(b"load");
     print::number(b);
-    let s = transfer::load(card, disk, map, b, choice, allowance);
+    let fresh = recency::ascend();
+    let mut table = fresh.order;
+    let s = transfer::load(card, disk, map, &mut table, b, choice, allowance);
     told(card, s)
 }
 

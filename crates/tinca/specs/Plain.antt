@@ -41,7 +41,7 @@ plainOutcome (FormatRefused r) = record { kind = 2; refusal = r; stores = 0 }
 
 -- 0 on the card, 1 on the disk, 2 refused; a number outside the disk is 10
 abbrev pub plainPlace : Found → TincaPlace
-plainPlace (Card at n) = record { kind = 0; refusal = 0; offset = at; length = n }
+plainPlace (Card at n i) = record { kind = 0; refusal = 0; offset = at; length = n }
 plainPlace (Disk at n) = record { kind = 1; refusal = 0; offset = at; length = n }
 plainPlace (FoundRefused r) = record { kind = 2; refusal = r; offset = 0; length = 0 }
 plainPlace (Outside n) = record { kind = 2; refusal = 10; offset = 0; length = 0 }

@@ -16,10 +16,11 @@ ghost use Rattle.protocol.specs.Format.{outcomeOf, formatRefusal, afterFormat};
 ghost use Rattle.protocol.specs.Map.{freeCount, madeMap, mapAfter};
 ghost use Rattle.protocol.specs.Commit.{commitWork};
 ghost use Rattle.protocol.specs.Preview.{previewAnswer, blocksAfter};
-ghost use Rattle.protocol.specs.Load.{loadWork, evictWork};
+ghost use Rattle.protocol.specs.Load.{loadWork, tableAfterLoad, evictWork};
+ghost use Rattle.protocol.specs.Room.{roomWork, tableAfterSave};
 ghost use Rattle.protocol.specs.Recover.{recoverWork};
-ghost use Rattle.protocol.specs.Read.{outputAfter, stateOf};
-ghost use Rattle.lookup.specs.Place.{foundAt, fetchedAt};
+ghost use Rattle.protocol.specs.Read.{recentOutput, recentTable, stateOf};
+ghost use Rattle.lookup.specs.Place.{foundAt, recentAt};
 ghost use Rattle.lookup.specs.Cached.{cachedAt};
 ghost use Rattle.tinca.specs.Plain.{plainAnswer, plainOutcome, plainPlace, plainState, plainEntry, plainMap, otherMap, lentMap, wordsOf, wordsAfter};
 
@@ -136,7 +137,7 @@ fn place(f: Found) -> TincaPlace
     ensures { λ r. ⌜ r ≡ plainPlace f ⌝ }
 {
     match f {
-        Found::Card(at, size) => at_place(0, at, size),
+        Found::Card(at, size, _) => at_place(0, at, size),
         Found::Disk(at, size) => at_place(1, at, size),
         Found::Refused(r) => no_place(r as u32),
         Found::Outside(_) => no_place(10),
@@ -362,20 +363,49 @@ pub extern "C" fn tinca_preview(
 }
 
 #[no_mangle]
+pub extern "C" fn tinca_commit_making_room(
+    card: &mut [u8],
+    disk: &mut [u8],
+    map: &mut [u64],
+    table: &mut [u8],
+    numbers: &[u64],
+    bytes: &[u8],
+    choice: &[u8],
+    allowance: u64,
+) -> TincaAnswer
+    ensures answer { λ r. ⌜ r ≡ plainAnswer (answerOf allowance (roomWork (now (card .entry)) (now (disk .entry)) (lentMap (now (card .entry)) (now (map .entry))) (now (table .entry)) (now (numbers .entry)) (now (bytes .entry)) (now (choice .entry)))) ⌝ }
+    ensures card { λ r. ⌜ now (card .exit) ≡ afterOn onCard allowance (roomWork (now (card .entry)) (now (disk .entry)) (lentMap (now (card .entry)) (now (map .entry))) (now (table .entry)) (now (numbers .entry)) (now (bytes .entry)) (now (choice .entry))) (now (card .entry)) ⌝ }
+    ensures disk { λ r. ⌜ now (disk .exit) ≡ afterOn onDisk allowance (roomWork (now (card .entry)) (now (disk .entry)) (lentMap (now (card .entry)) (now (map .entry))) (now (table .entry)) (now (numbers .entry)) (now (bytes .entry)) (now (choice .entry))) (now (disk .entry)) ⌝ }
+    ensures map { λ r. ⌜ now (map .exit) ≡ wordsAfter (answerOf allowance (roomWork (now (card .entry)) (now (disk .entry)) (lentMap (now (card .entry)) (now (map .entry))) (now (table .entry)) (now (numbers .entry)) (now (bytes .entry)) (now (choice .entry)))) (mapAfter allowance (roomWork (now (card .entry)) (now (disk .entry)) (lentMap (now (card .entry)) (now (map .entry))) (now (table .entry)) (now (numbers .entry)) (now (bytes .entry)) (now (choice .entry))) (now (card .entry)) (lentMap (now (card .entry)) (now (map .entry)))) (now (map .entry)) ⌝ }
+    ensures table { λ r. ⌜ now (table .exit) ≡ tableAfterSave allowance (now (card .entry)) (now (disk .entry)) (lentMap (now (card .entry)) (now (map .entry))) (now (table .entry)) (now (numbers .entry)) (now (bytes .entry)) (now (choice .entry)) ⌝ }
+{
+    let m = lent(card, map);
+    handed(
+        map,
+        room::commit(card, disk, m, table, numbers, bytes, choice, allowance),
+    )
+}
+
+#[no_mangle]
 pub extern "C" fn tinca_load(
     card: &mut [u8],
     disk: &[u8],
     map: &mut [u64],
+    table: &mut [u8],
     block: u64,
     choice: &[u8],
     allowance: u64,
 ) -> TincaAnswer
-    ensures answer { λ r. ⌜ r ≡ plainAnswer (answerOf allowance (loadWork (now (card .entry)) (now (disk .entry)) (lentMap (now (card .entry)) (now (map .entry))) block (now (choice .entry)))) ⌝ }
-    ensures card { λ r. ⌜ now (card .exit) ≡ afterOn onCard allowance (loadWork (now (card .entry)) (now (disk .entry)) (lentMap (now (card .entry)) (now (map .entry))) block (now (choice .entry))) (now (card .entry)) ⌝ }
-    ensures map { λ r. ⌜ now (map .exit) ≡ wordsAfter (answerOf allowance (loadWork (now (card .entry)) (now (disk .entry)) (lentMap (now (card .entry)) (now (map .entry))) block (now (choice .entry)))) (mapAfter allowance (loadWork (now (card .entry)) (now (disk .entry)) (lentMap (now (card .entry)) (now (map .entry))) block (now (choice .entry))) (now (card .entry)) (lentMap (now (card .entry)) (now (map .entry)))) (now (map .entry)) ⌝ }
+    ensures answer { λ r. ⌜ r ≡ plainAnswer (answerOf allowance (loadWork (now (card .entry)) (now (disk .entry)) (lentMap (now (card .entry)) (now (map .entry))) (now (table .entry)) block (now (choice .entry)))) ⌝ }
+    ensures card { λ r. ⌜ now (card .exit) ≡ afterOn onCard allowance (loadWork (now (card .entry)) (now (disk .entry)) (lentMap (now (card .entry)) (now (map .entry))) (now (table .entry)) block (now (choice .entry))) (now (card .entry)) ⌝ }
+    ensures map { λ r. ⌜ now (map .exit) ≡ wordsAfter (answerOf allowance (loadWork (now (card .entry)) (now (disk .entry)) (lentMap (now (card .entry)) (now (map .entry))) (now (table .entry)) block (now (choice .entry)))) (mapAfter allowance (loadWork (now (card .entry)) (now (disk .entry)) (lentMap (now (card .entry)) (now (map .entry))) (now (table .entry)) block (now (choice .entry))) (now (card .entry)) (lentMap (now (card .entry)) (now (map .entry)))) (now (map .entry)) ⌝ }
+    ensures table { λ r. ⌜ now (table .exit) ≡ tableAfterLoad allowance (now (card .entry)) (now (disk .entry)) (lentMap (now (card .entry)) (now (map .entry))) (now (table .entry)) block (now (choice .entry)) ⌝ }
 {
     let m = lent(card, map);
-    handed(map, transfer::load(card, disk, m, block, choice, allowance))
+    handed(
+        map,
+        transfer::load(card, disk, m, table, block, choice, allowance),
+    )
 }
 
 #[no_mangle]
@@ -410,11 +440,18 @@ pub extern "C" fn tinca_recover(card: &mut [u8], map: &mut [u64], allowance: u64
 }
 
 #[no_mangle]
-pub extern "C" fn tinca_read(card: &[u8], disk: &[u8], block: u64, out: &mut [u8]) -> TincaPlace
-    ensures answer { λ r. ⌜ r ≡ plainPlace (fetchedAt (now (card .entry)) (now (disk .entry)) (now (out .entry)) block) ⌝ }
-    ensures output { λ r. ⌜ now (out .exit) ≡ outputAfter (now (card .entry)) (now (disk .entry)) (now (out .entry)) block ⌝ }
+pub extern "C" fn tinca_read(
+    card: &[u8],
+    disk: &[u8],
+    table: &mut [u8],
+    block: u64,
+    out: &mut [u8],
+) -> TincaPlace
+    ensures answer { λ r. ⌜ r ≡ plainPlace (recentAt (now (card .entry)) (now (disk .entry)) (now (table .entry)) (now (out .entry)) block) ⌝ }
+    ensures output { λ r. ⌜ now (out .exit) ≡ recentOutput (now (card .entry)) (now (disk .entry)) (now (table .entry)) (now (out .entry)) block ⌝ }
+    ensures table { λ r. ⌜ now (table .exit) ≡ recentTable (now (card .entry)) (now (disk .entry)) (now (table .entry)) (now (out .entry)) block ⌝ }
 {
-    place(lookup::fetch(card, disk, block, out))
+    place(lookup::fetch_recent(card, disk, table, block, out))
 }
 
 #[no_mangle]

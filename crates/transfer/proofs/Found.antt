@@ -14,13 +14,14 @@ use Rattle.protocol.specs.declared.Map.{Map}
 use Rattle.protocol.specs.Below.{anyBelow, countBelow, around}
 use Rattle.protocol.specs.Layout.{goodGeometry, geometryOf, blockSize, diskLength}
 use Rattle.protocol.specs.Ring.{findEntry, cached, currentOf}
-use Rattle.protocol.specs.Check.{refuse, _orElse_, goodEntryAt, entriesFit}
+use Rattle.protocol.specs.Check.{refuse, _orElse_, goodEntryAt, entriesFit, choiceRefusal}
 use Rattle.protocol.specs.Entry.{entryAt}
 use Rattle.protocol.specs.Search.{unusedAt, searchStart, freeBlocks, unusedEntries}
 use Rattle.protocol.specs.Store.{card, madeOn, flat}
-use Rattle.protocol.specs.Map.{isMarked, mapOf}
+use Rattle.protocol.specs.Map.{isMarked, mapOf, mapRefusal}
 use Rattle.protocol.specs.Commit.{numberOf, uncachedAt, newBlock, entryFound, roomFor}
-use Rattle.protocol.specs.Load.{loadRefusal, evictRuns, evictRefusal}
+use Rattle.protocol.specs.Recency.{isArranged, tableRefusal}
+use Rattle.protocol.specs.Load.{pairRefusal, blockRefusal, loadRefusal, evictRuns, evictRefusal}
 use Rattle.protocol.proofs.Below.{all-at}
 use Rattle.protocol.proofs.Allowed.{bounded}
 use Rattle.protocol.proofs.Checks.{Limits, limits, refuse-passed, refuse-failed, refuse-none, orElse-first, orElse-next, orElse-none}
@@ -34,13 +35,15 @@ use Rattle.freemap.specs.Taken.{Took}
 use Rattle.freemap.proofs.Maps.{without-by}
 use Rattle.plan.specs.Walked.{passedBy, unusedBefore, Reached}
 use Rattle.plan.proofs.Bounds.{Passed, new-below, unused-room, entry-below}
-use Rattle.plan.proofs.Housing.{housed-missed}
+use Rattle.plan.proofs.Housing.{reached-is}
 use Rattle.plan.proofs.Room.{no-room, room, take-ready, taken-block, taken-map}
 use Rattle.plan.proofs.Start.{start-is}
-use Rattle.transfer.specs.declared.Basis.{Basis}
+use Rattle.plan.specs.declared.Basis.{Basis}
+use Rattle.plan.specs.Met.{Searchable}
 use Rattle.transfer.specs.declared.Room.{Room}
 use Rattle.transfer.specs.declared.Place.{Place}
-use Rattle.transfer.specs.Examined.{sharedRefusal, Searchable, Examined, Chosen, Roomed, Located}
+use Rattle.transfer.specs.Moved.{Leaving}
+use Rattle.transfer.specs.Examined.{sharedRefusal, Examined, Chosen, Roomed, Located}
 use Rattle.transfer.proofs.Shared.{Whole, whole-of, Shared, shared, own-after}
 
 -- ---- keys
@@ -116,9 +119,7 @@ module _ (g : Geometry) (c : List ℕ) (h : ℕ) (xs : List ℕ) (m : Map) (free
         module _ (j : ℕ) (w : Reached (unusedAt g c) (g .blocks) start 0 j) (place : ℕ) (q : place ≡ around (g .blocks) start j) where
           first-unused : place ≡ getD (unusedEntries g c) 0 0
           unfolding unusedBefore passedBy countBelow
-          first-unused =
-              housed-missed g c xs b 0 at (k .indexed) e start j place (begins .0) n w some-unused q .entry
-              ∙ rw (cached-is false (le-ltb at (g .blocks) n))
+          first-unused = reached-is g c start 0 j (begins .0) w some-unused place q
 
           pub chosen-room : (bs : List ℕ) (y : Map) → Took m start 1 bs y
               → Chosen g c b (record { refusal = 0; geometry = g; block = getD bs 0 0; entry = place; map = y })
@@ -135,22 +136,31 @@ module _ (g : Geometry) (c : List ℕ) (h : ℕ) (xs : List ℕ) (m : Map) (free
                     };
               }
 
-module _ (c d : List ℕ) (m : Map) (b : ℕ) (ch : List ℕ) (xs : List ℕ) (s : Basis) (x : Examined c d m b ch xs s) where
-  pub roomed-refused : (r : Room) → (s .refusal ≡ 0 → ⊥) → r .refusal ≡ s .refusal → Roomed c d m b ch r
-  unfolding loadRefusal
-  roomed-refused r h q =
-      record {
-        refusal-is = q ∙ orElse-first (s .refusal) (sharedRefusal c d m b ch) _ (x .refusal-is) h ∙ sym (own-after c d m b ch _);
-        free = λ z. absurd (h (sym q ∙ z));
-      }
+module _ (c d : List ℕ) (m : Map) (b : ℕ) (ch : List ℕ) where
+  -- the shared refusals and its own are load's, where the table is arranged or not as the search was told
+  as-load : (ok : Bool) (t : List ℕ) → ok ≡ isArranged t
+      → loadRefusal c d m t b ch
+      ≡ sharedRefusal c d m ok b ch orElse (refuse 12 (not (cached (geometryOf c) c b)) orElse refuse 14 (roomFor (geometryOf c) c 1))
+  unfolding loadRefusal tableRefusal
+  as-load ok t e =
+      let g = geometryOf c in
+      let own = refuse 12 (not (cached g c b)) orElse refuse 14 (roomFor g c 1) in
+      ap
+      (λ (z : Bool). pairRefusal c d orElse mapRefusal c m orElse refuse 16 z orElse choiceRefusal g ch orElse blockRefusal g b orElse own)
+      (sym e)
+      ∙ own-after c d m ok b ch own
 
-  pub located-refused : (s .refusal ≡ 0 → ⊥) → Located c d m b ch (record { refusal = s .refusal; geometry = s .geometry; at = 0 })
-  unfolding evictRefusal
-  located-refused h =
+  -- and evict's, which asks no table
+  as-evict : evictRefusal c d m b ch ≡ sharedRefusal c d m true b ch orElse refuse 13 (cached (geometryOf c) c b)
+  unfolding evictRefusal refuse _orElse_
+  as-evict = own-after c d m true b ch _
+
+module _ (c d : List ℕ) (m : Map) (ok : Bool) (b : ℕ) (ch : List ℕ) (xs : List ℕ) (s : Basis) (x : Examined c d m ok b ch xs s) where
+  pub roomed-refused : (r : Room) → (s .refusal ≡ 0 → ⊥) → r .refusal ≡ s .refusal → (t : List ℕ) → ok ≡ isArranged t → Roomed c d m t b ch r
+  roomed-refused r h q t e =
       record {
-        refusal-is = orElse-first (s .refusal) (sharedRefusal c d m b ch) _ (x .refusal-is) h ∙ sym (own-after c d m b ch _);
-        geometry-is = λ z. absurd (h z);
-        at = λ z. absurd (h z);
+        refusal-is = q ∙ orElse-first (s .refusal) (sharedRefusal c d m ok b ch) _ (x .refusal-is) h ∙ sym (as-load c d m b ch ok t e);
+        free = λ z. absurd (h (sym q ∙ z));
       }
 
   module _ (z : s .refusal ≡ 0) where
@@ -158,46 +168,54 @@ module _ (c d : List ℕ) (m : Map) (b : ℕ) (ch : List ℕ) (xs : List ℕ) (s
     geometry = x .geometry-is z
 
     pub examined-inside : b < s .geometry .disk
-    examined-inside = subst (λ (h : Geometry). b < h .disk) (sym geometry) (shared c d m b ch (sym (x .refusal-is) ∙ z) .inside)
+    examined-inside = subst (λ (h : Geometry). b < h .disk) (sym geometry) (shared c d m ok b ch (sym (x .refusal-is) ∙ z) .inside)
 
     pub examined-key : b < NONE
     examined-key = number-key (s .geometry) c (s .head) xs m (s .free) (x .searchable z) b examined-inside
 
-    pub roomed-chosen : (r : Room) → Chosen (s .geometry) c b r → Roomed c d m b ch r
-    unfolding loadRefusal
-    roomed-chosen r y =
+    pub roomed-chosen : (r : Room) → Chosen (s .geometry) c b r → (t : List ℕ) → ok ≡ isArranged t → Roomed c d m t b ch r
+    roomed-chosen r y t e =
         let own : Chosen (geometryOf c) c b r = subst (λ (h : Geometry). Chosen h c b r) geometry y in
         record {
-          refusal-is = orElse-next (r .refusal) (sharedRefusal c d m b ch) _ (sym z ∙ x .refusal-is) (own .refusal-is) ∙ sym (own-after c d m b ch _);
+          refusal-is = orElse-next (r .refusal) (sharedRefusal c d m ok b ch) _ (sym z ∙ x .refusal-is) (own .refusal-is) ∙ sym (as-load c d m b ch ok t e);
           free = own .free;
         }
 
-    -- evict: the place, or 13
-    module _ (at : ℕ) (e : at ≡ findEntry (s .geometry) c b) where
-      finds : at ≡ findEntry (geometryOf c) c b
-      finds = e ∙ ap (λ (h : Geometry). findEntry h c b) geometry
+module _ (c d : List ℕ) (m : Map) (b : ℕ) (ch : List ℕ) (xs : List ℕ) (s : Basis) (x : Examined c d m true b ch xs s) where
+  pub located-refused : (s .refusal ≡ 0 → ⊥) → Located c d m b ch (record { refusal = s .refusal; geometry = s .geometry; at = 0 })
+  located-refused h =
+      record {
+        refusal-is = orElse-first (s .refusal) (sharedRefusal c d m true b ch) _ (x .refusal-is) h ∙ sym (as-evict c d m b ch);
+        geometry-is = λ z. absurd (h z);
+        at = λ z. absurd (h z);
+      }
 
-      past-shared : (t : ℕ) (k : Bool) → ltb at (s .geometry .blocks) ≡ k → t ≡ refuse 13 k → t ≡ evictRefusal c d m b ch
-      unfolding evictRefusal cached
-      past-shared t k h p =
-          let same : k ≡ cached (geometryOf c) c b = sym h ∙ (λ j. ltb (finds j) (geometry j .blocks)) in
-          orElse-next t (sharedRefusal c d m b ch) _ (sym z ∙ x .refusal-is) (p ∙ ap (refuse 13) same) ∙ sym (own-after c d m b ch _)
+  -- the place, or 13
+  module _ (z : s .refusal ≡ 0) (at : ℕ) (e : at ≡ findEntry (s .geometry) c b) where
+    finds : at ≡ findEntry (geometryOf c) c b
+    finds = e ∙ ap (λ (h : Geometry). findEntry h c b) (x .geometry-is z)
 
-      pub located-found : at < s .geometry .blocks → Located c d m b ch (record { refusal = 0; geometry = s .geometry; at = at })
-      located-found l =
-          record {
-            refusal-is = past-shared 0 true (lt-ltb at (s .geometry .blocks) l) (refuse-passed 13 true refl);
-            geometry-is = λ k. geometry;
-            at = λ k. finds;
-          }
+    past-shared : (t : ℕ) (k : Bool) → ltb at (s .geometry .blocks) ≡ k → t ≡ refuse 13 k → t ≡ evictRefusal c d m b ch
+    unfolding cached
+    past-shared t k h p =
+        let same : k ≡ cached (geometryOf c) c b = sym h ∙ (λ j. ltb (finds j) (x .geometry-is z j .blocks)) in
+        orElse-next t (sharedRefusal c d m true b ch) _ (sym z ∙ x .refusal-is) (p ∙ ap (refuse 13) same) ∙ sym (as-evict c d m b ch)
 
-      pub located-missing : s .geometry .blocks ≤ at → Located c d m b ch (record { refusal = 13; geometry = s .geometry; at = 0 })
-      located-missing l =
-          record {
-            refusal-is = past-shared 13 false (le-ltb at (s .geometry .blocks) l) (refuse-failed 13 false refl);
-            geometry-is = λ k. absurd (omega arith);
-            at = λ k. absurd (omega arith);
-          }
+    pub located-found : at < s .geometry .blocks → Located c d m b ch (record { refusal = 0; geometry = s .geometry; at = at })
+    located-found l =
+        record {
+          refusal-is = past-shared 0 true (lt-ltb at (s .geometry .blocks) l) (refuse-passed 13 true refl);
+          geometry-is = λ k. x .geometry-is z;
+          at = λ k. finds;
+        }
+
+    pub located-missing : s .geometry .blocks ≤ at → Located c d m b ch (record { refusal = 13; geometry = s .geometry; at = 0 })
+    located-missing l =
+        record {
+          refusal-is = past-shared 13 false (le-ltb at (s .geometry .blocks) l) (refuse-failed 13 false refl);
+          geometry-is = λ k. absurd (omega arith);
+          at = λ k. absurd (omega arith);
+        }
 
 -- ---- what a call that is not refused has found
 
@@ -212,13 +230,12 @@ as-entry : (g : Geometry) (c : List ℕ) (b : ℕ) → cached g c b ≡ false �
 unfolding entryFound uncachedAt numberOf countBelow
 as-entry g c b h = rw h
 
-pub load-ready : (c d : List ℕ) (m : Map) (b : ℕ) (ch : List ℕ) → loadRefusal c d m b ch ≡ 0 → Ready (geometryOf c) c d m b ch
-unfolding loadRefusal
-load-ready c d m b ch z =
+pub load-ready : (c d : List ℕ) (m : Map) (t : List ℕ) (b : ℕ) (ch : List ℕ) → loadRefusal c d m t b ch ≡ 0 → Ready (geometryOf c) c d m b ch
+load-ready c d m t b ch z =
     let g : Geometry = geometryOf c in
-    let (first, own) = orElse-none (sharedRefusal c d m b ch) _ (sym (own-after c d m b ch _) ∙ z) in
+    let (first, own) = orElse-none (sharedRefusal c d m (isArranged t) b ch) _ (sym (as-load c d m b ch (isArranged t) t refl) ∙ z) in
     let (twelve, fourteen) = orElse-none (refuse 12 (not (cached g c b))) _ own in
-    let s : Shared g c d m b ch = shared c d m b ch first in
+    let s : Shared g c d m b ch = shared c d m (isArranged t) b ch first in
     let absent : cached g c b ≡ false = not-true _ (refuse-none 12 (not (cached g c b)) (omega arith) twelve) in
     let v = as-commit g c b (s .fitted) (s .whole) (refuse-none 14 (roomFor g c 1) (omega arith) fourteen) in
     record {
@@ -234,11 +251,11 @@ pub record Held (g : Geometry) (c d : List ℕ) (m : Map) (b : ℕ) (ch : List �
   pub current : currentOf g c b < g .blocks
 
 pub evict-held : (c d : List ℕ) (m : Map) (b : ℕ) (ch : List ℕ) → evictRefusal c d m b ch ≡ 0 → Held (geometryOf c) c d m b ch
-unfolding evictRefusal cached currentOf entriesFit goodEntryAt
+unfolding cached currentOf entriesFit goodEntryAt
 evict-held c d m b ch z =
     let g : Geometry = geometryOf c in
-    let (first, own) = orElse-none (sharedRefusal c d m b ch) _ (sym (own-after c d m b ch _) ∙ z) in
-    let s : Shared g c d m b ch = shared c d m b ch first in
+    let (first, own) = orElse-none (sharedRefusal c d m true b ch) _ (sym (as-evict c d m b ch) ∙ z) in
+    let s : Shared g c d m b ch = shared c d m true b ch first in
     let k : Limits g = limits g (s .fitted .good) in
     let here = ltb-true _ _ (refuse-none 13 (cached g c b) (omega arith) own) in
     let good = all-at (goodEntryAt g c) (g .blocks) (findEntry g c b) (s .whole .fits) here in
@@ -250,9 +267,19 @@ evict-held c d m b ch z =
 
 -- ---- what the calls go on with
 
-module _ (c d : List ℕ) (m : Map) (b : ℕ) (ch : List ℕ) (r : Room) (x : Roomed c d m b ch r) (z : r .refusal ≡ 0) where
+module _ (c d : List ℕ) (m : Map) (t : List ℕ) (b : ℕ) (ch : List ℕ) (r : Room) (x : Roomed c d m t b ch r) (z : r .refusal ≡ 0) where
   ready : Ready (geometryOf c) c d m b ch
-  ready = load-ready c d m b ch (sym (x .refusal-is) ∙ z)
+  ready = load-ready c d m t b ch (sym (x .refusal-is) ∙ z)
+
+  -- only an arranged table is let through, and the entry is one of its numbers
+  pub load-touches : (isArranged t ≡ true) × (r .entry < 128)
+  unfolding loadRefusal tableRefusal
+  load-touches =
+      let y = sym (x .refusal-is) ∙ z in
+      let sixteen = orElse-none (tableRefusal t) _ (orElse-none (mapRefusal c m) _ (orElse-none (pairRefusal c d) _ y .1) .1) .0 in (
+        refuse-none 16 (isArranged t) (omega arith) sixteen,
+        omega (arith, x .free z .entry, ready .entry, fitted-blocks (geometryOf c) c (ready .passed .fitted)),
+      )
 
   pub load-goes : Fitted (r .geometry) c × (length d ≡ diskLength (r .geometry)) × (b < r .geometry .disk) × (r .block < r .geometry .blocks)
       × (r .entry < r .geometry .blocks) × (blockSize (r .geometry) / 8 ≤ length ch)
@@ -284,19 +311,17 @@ module _ (c d : List ℕ) (m : Map) (b : ℕ) (ch : List ℕ) (r : Place) (x : L
     pub evict-few : e .current < 128
     evict-few = omega (arith, current-is, held .current, fitted-blocks (geometryOf c) c (held .passed .fitted))
 
-    pub evict-goes : Fitted (r .geometry) c × (length d ≡ diskLength (r .geometry)) × (b < r .geometry .disk)
-        × (r .at ≡ findEntry (r .geometry) c b) × (r .at < r .geometry .blocks) × (e ≡ entryAt (r .geometry) c (r .at))
-        × (e .current < r .geometry .blocks) × (blockSize (r .geometry) / 8 ≤ length ch)
-    evict-goes = (
-      evict-place .0,
-      held .passed .disk ∙ ap diskLength (sym q),
-      subst (λ (y : Geometry). b < y .disk) (sym q) (held .passed .inside),
-      x .at z ∙ ap (λ (y : Geometry). findEntry y c b) (sym q),
-      evict-place .1,
-      h,
-      omega (arith, current-is, held .current, ap (λ (y : Geometry). y .blocks) q),
-      subst (λ (y : Geometry). blockSize y / 8 ≤ length ch) (sym q) (held .passed .wide),
-    )
+    pub evict-goes : Leaving (r .geometry) c d b (r .at) e ch
+    evict-goes = record {
+      fitted = evict-place .0;
+      disk = held .passed .disk ∙ ap diskLength (sym q);
+      inside = subst (λ (y : Geometry). b < y .disk) (sym q) (held .passed .inside);
+      here = x .at z ∙ ap (λ (y : Geometry). findEntry y c b) (sym q);
+      below = evict-place .1;
+      is = h;
+      current = omega (arith, current-is, held .current, ap (λ (y : Geometry). y .blocks) q);
+      wide = subst (λ (y : Geometry). blockSize y / 8 ≤ length ch) (sym q) (held .passed .wide);
+    }
 
     -- evict's bit cleared gives the map of the card that its stores leave
     pub evict-freed : withoutBit m (e .current) ≡ mapOf (madeOn card (flat (evictRuns (geometryOf c) c b)) c)

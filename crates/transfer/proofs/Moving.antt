@@ -7,7 +7,7 @@ use mathlib.Core.Path.{_≡_, refl, sym, ap, subst, _∙_}
 use mathlib.Core.Logic.{⊎-elim}
 use native.Mathlib.Numerals.{add-one}
 use native.Mathlib.Omega.{arith}
-use lib.ListN.{length, length-append}
+use lib.ListN.{length, getD, length-append}
 use lib.Dec.{ltb}
 use borrow.Author.Tests.{eq-eqb, ne-eqb, not-true, not-false}
 use Rattle.protocol.specs.declared.Answer.{Answer}
@@ -16,12 +16,14 @@ use Rattle.protocol.specs.declared.Entry.{Entry as Fields}
 use Rattle.protocol.specs.declared.Geometry.{Geometry}
 use Rattle.protocol.specs.declared.Map.{Map}
 use Rattle.protocol.specs.declared.Stored.{Stored}
-use Rattle.protocol.specs.Layout.{goodGeometry, blockSize, entryPlace, blockPlace, diskPlace, blockAt, diskBlock, diskLength}
+use Rattle.protocol.specs.Layout.{goodGeometry, geometryOf, blockSize, entryPlace, blockPlace, diskPlace, blockAt, diskBlock, diskLength}
 use Rattle.protocol.specs.Entry.{FRESH, unused, entryOf, entryAt, isModified}
 use Rattle.protocol.specs.Ring.{findEntry, currentOf}
-use Rattle.protocol.specs.Store.{Medium, card, disk, Store, Run as Fenced, Work, madeOn, flat, made, units, words, sectors, entryStore, single, storesOf, afterOn}
+use Rattle.protocol.specs.Store.{Medium, card, disk, Store, Run as Fenced, Work, madeOn, flat, made, units, words, sectors, entryStore, single, storesOf, answerOf, afterOn}
 use Rattle.protocol.specs.Map.{mapOf, handedOn}
-use Rattle.protocol.specs.Load.{cleanEntry, loadRuns, loadWork, writeBack, evictRuns, evictWork}
+use Rattle.protocol.specs.Search.{unusedEntries}
+use Rattle.protocol.specs.Recency.{toFront, turned}
+use Rattle.protocol.specs.Load.{cleanEntry, loadRuns, loadWork, tableAfterLoad, writeBack, evictRuns, evictWork}
 use Rattle.protocol.proofs.Below.{below-or-above}
 use Rattle.protocol.proofs.Checks.{Limits, limits}
 use Rattle.protocol.proofs.Left.{load-map}
@@ -39,13 +41,13 @@ use Rattle.stores.proofs.Tells.{told-beside}
 use Rattle.transfer.specs.declared.Room.{Room}
 use Rattle.transfer.specs.declared.Place.{Place}
 use Rattle.transfer.specs.Examined.{Roomed, Located}
-use Rattle.transfer.specs.Moved.{loadRun, evictRun, evictCount, loadedRuns, Moved, Finished}
+use Rattle.transfer.specs.Moved.{loadRun, evictRun, evictCount, loadedRuns, Leaving, Both, Moved, Finished}
 use Rattle.transfer.proofs.Found.{evict-freed}
 
 -- ---- both media
 
 -- what a credit for all stores makes is what the allowance makes
-credit-made : (m : Medium) (rs : List Fenced) (ch : List ℕ) (n a k : ℕ) (xs ys : List ℕ) (r : ℕ) → n ≡ length (flat rs) → k ≡ min n a + 1
+pub credit-made : (m : Medium) (rs : List Fenced) (ch : List ℕ) (n a k : ℕ) (xs ys : List ℕ) (r : ℕ) → n ≡ length (flat rs) → k ≡ min n a + 1
     → Did m rs ch k xs ys r → ys ≡ madeOn m (made a ch rs) xs
 unfolding underCredit
 credit-made m rs ch n a k xs ys r e q x =
@@ -153,26 +155,25 @@ evict-short g e n good q = subst (λ (k : ℕ). k < 18446744073709551615) (sym q
     go true = let l : Limits g = limits g good in omega arith
     go false = omega arith
 
-module _ (g : Geometry) (c d : List ℕ) (b i k : ℕ) (e : Fields) (f : Fitted g c) (n : length d ≡ diskLength g) (l : b < g .disk) (h : i < g .blocks)
-    (m : e .current < g .blocks) (wide : blockSize g / 8 ≤ k) (s : ℕ) where
-  pub evict-first : (r : Run) → r ≡ evictRun g b i e 0 → Placed g r (length c) (length d) s k
+module _ (g : Geometry) (c d : List ℕ) (b i : ℕ) (e : Fields) (ch : List ℕ) (v : Leaving g c d b i e ch) (s : ℕ) where
+  pub evict-first : (r : Run) → r ≡ evictRun g b i e 0 → Placed g r (length c) (length d) s (length ch)
   unfolding evictRun
-  evict-first r q = subst (λ (x : Run). Placed g x (length c) (length d) s k) (sym q) (go (isModified e))
+  evict-first r q = subst (λ (x : Run). Placed g x (length c) (length d) s (length ch)) (sym q) (go (isModified e))
     where
-      go : (t : Bool) → Placed g (cond t (Sectors (diskPlace g b) (blockPlace g (e .current))) Nothing) (length c) (length d) s k
+      go : (t : Bool) → Placed g (cond t (Sectors (diskPlace g b) (blockPlace g (e .current))) Nothing) (length c) (length d) s (length ch)
       go true = (
-        omega (arith, in-disk g b l),
-        omega (arith, f .long, in-card g (block (e .current)) (omega arith) m, place-block g (e .current)),
-        omega arith,
+        omega (arith, v .disk, in-disk g b (v .inside)),
+        omega (arith, v .fitted .long, in-card g (block (e .current)) (omega arith) (v .current), place-block g (e .current)),
+        omega (arith, v .wide),
       )
       go false = tt
 
-  pub evict-last : (r : Run) (z o : ℕ) → r ≡ evictRun g b i e 1 → z ≡ length c → Placed g r z o s k
+  pub evict-last : (r : Run) (z o : ℕ) → r ≡ evictRun g b i e 1 → z ≡ length c → Placed g r z o s (length ch)
   unfolding evictRun
   evict-last r z o q w =
-      subst (λ (x : Run). Placed g x z o s k) (sym q) (
-        omega (arith, f .long, in-card g (entry i) (omega arith) h, place-entry g i),
-        entry-aligned g i _ (f .good) refl,
+      subst (λ (x : Run). Placed g x z o s (length ch)) (sym q) (
+        omega (arith, v .fitted .long, in-card g (entry i) (omega arith) (v .below), place-entry g i),
+        entry-aligned g i _ (v .fitted .good) refl,
       )
 
 module _ (g : Geometry) (c s : List ℕ) (b i : ℕ) (e : Fields) (here : i ≡ findEntry g c b) (is : e ≡ entryAt g c i) where
@@ -192,7 +193,7 @@ module _ (g : Geometry) (c s : List ℕ) (b i : ℕ) (e : Fields) (here : i ≡ 
   unfolding evictRun told entryStore
   last-told c₁ = ap (λ (x : ℕ). single (entryStore g x unused)) here
 
-  count-is : evictCount g e ≡ length (flat (evictRuns g c b))
+  pub count-is : evictCount g e ≡ length (flat (evictRuns g c b))
   unfolding evictCount evictRuns writeBack currentOf sectors
   count-is =
       go (isModified e)
@@ -208,21 +209,27 @@ module _ (g : Geometry) (c s : List ℕ) (b i : ℕ) (e : Fields) (here : i ≡ 
           ∙ sym (length-append (units disk 512 (blockSize g / 512) (diskPlace g b) (blockAt g c (e .current))) _)
       go false = unfold flat in unfold single in refl
 
-  pub evicted : (c₁ c₂ d d₁ d₂ ch : List ℕ) (a k l q n : ℕ) (u v : Run) (r : Answer) → n ≡ evictCount g e → k ≡ min n a + 1
-      → u ≡ evictRun g b i e 0 → v ≡ evictRun g b i e 1
+  pub taken-off : (c₁ c₂ d d₁ d₂ ch : List ℕ) (k l q : ℕ) (u v : Run) → u ≡ evictRun g b i e 0 → v ≡ evictRun g b i e 1
       → Did card (told g u s c) ch k c c₁ l × Did disk (told g u s c) ch k d d₁ l
       → Did card (told g v s c₁) ch l c₁ c₂ q × Did disk (told g v s c₁) ch l d₁ d₂ q
-      → r ≡ cond (ltb a n) Cut (Done n) → Moved (evictRuns g c b) ch a c c₂ d d₂ r
+      → Both (evictRuns g c b) ch k c c₂ d d₂ q
   unfolding evictRuns
-  evicted c₁ c₂ d d₁ d₂ ch a k l q n u v r w f e₀ e₁ x y z =
+  taken-off c₁ c₂ d d₁ d₂ ch k l q u v e₀ e₁ x y =
       let first : told g u s c ≡ writeBack g c b = ap (λ (j : Run). told g j s c) e₀ ∙ first-told in
       let last : told g v s c₁ ≡ single (entryStore g (findEntry g c b) unused) = ap (λ (j : Run). told g j s c₁) e₁ ∙ last-told c₁ in
-      moved n r (w ∙ count-is) f (did-then (did-same first (x .0)) (did-same last (y .0))) (did-then (did-same first (x .1)) (did-same last (y .1))) z
+      record {
+        card = did-then (did-same first (x .0)) (did-same last (y .0));
+        disk = did-then (did-same first (x .1)) (did-same last (y .1));
+      }
+
+  pub evicted : (c₂ d d₂ ch : List ℕ) (a k q n : ℕ) (r : Answer) → n ≡ evictCount g e → k ≡ min n a + 1 → Both (evictRuns g c b) ch k c c₂ d d₂ q
+      → r ≡ cond (ltb a n) Cut (Done n) → Moved (evictRuns g c b) ch a c c₂ d d₂ r
+  evicted c₂ d d₂ ch a k q n r w f x z = moved n r (w ∙ count-is) f (x .card) (x .disk) z
 
 -- ---- the calls
 
 module _ (w : Work) (a : ℕ) (m : Map) (c d : List ℕ) (s : ℕ) (e : s ≡ w .refusal) where
-  refused : (s ≡ 0 → ⊥) → Finished w a m c c d d (record { answer = Refused s; map = m })
+  pub refused : (s ≡ 0 → ⊥) → Finished w a m c c d d (record { answer = Refused s; map = m })
   refused h =
       record {
         answer = refused-answer w a s e h;
@@ -248,22 +255,33 @@ module _ (w : Work) (a : ℕ) (m : Map) (c d : List ℕ) (s : ℕ) (e : s ≡ w 
       after k xs = rw (← e, eq-eqb s 0 z)
 
 module _ (c d : List ℕ) (m : Map) (b : ℕ) (ch : List ℕ) (a : ℕ) where
-  module _ (r : Room) (x : Roomed c d m b ch r) where
-    pub load-refused : (r .refusal ≡ 0 → ⊥) → Finished (loadWork c d m b ch) a m c c d d (record { answer = Refused (r .refusal); map = m })
-    unfolding loadWork
-    load-refused h = refused (loadWork c d m b ch) a m c d (r .refusal) (x .refusal-is) h
+  module _ (t : List ℕ) (r : Room) (x : Roomed c d m t b ch r) where
+    -- the table is turned in step with the answer
+    table-is : (y : Answer) → y ≡ answerOf a (loadWork c d m t b ch) → r .entry ≡ getD (unusedEntries (geometryOf c) c) 0 0
+        → turned y t (toFront (r .entry) t) ≡ tableAfterLoad a c d m t b ch
+    unfolding tableAfterLoad
+    table-is y e q = λ i. turned (e i) t (toFront (q i) t)
+
+    pub load-refused : (r .refusal ≡ 0 → ⊥)
+        → Finished (loadWork c d m t b ch) a m c c d d (record { answer = Refused (r .refusal); map = m }) × (t ≡ tableAfterLoad a c d m t b ch)
+    unfolding loadWork tableAfterLoad turned
+    load-refused h =
+        let f = refused (loadWork c d m t b ch) a m c d (r .refusal) (x .refusal-is) h in
+        (f, ap (λ (y : Answer). turned y t (toFront (getD (unusedEntries (geometryOf c) c) 0 0) t)) (f .answer))
 
     pub load-finished : r .refusal ≡ 0 → (c′ : List ℕ) (y : Answer) (u : Stored)
         → Moved (loadedRuns (r .geometry) d b (r .block) (r .entry)) ch a c c′ d d y
-        → (u .answer ≡ y) × (u .map ≡ handedOn y m (r .map))
-        → Finished (loadWork c d m b ch) a m c c′ d d u
+        → (u .answer ≡ y) × (u .map ≡ handedOn y m (r .map)) → (t′ : List ℕ) → t′ ≡ turned y t (toFront (r .entry) t)
+        → Finished (loadWork c d m t b ch) a m c c′ d d u × (t′ ≡ tableAfterLoad a c d m t b ch)
     unfolding loadWork loadRuns cleanEntry
-    load-finished z c′ y u k h =
+    load-finished z c′ y u k h t′ g =
         let f = x .free z in
-        finished (loadWork c d m b ch) a m c d (r .refusal) (x .refusal-is) z c′ d y (r .map) u
+        let done =
+        finished (loadWork c d m t b ch) a m c d (r .refusal) (x .refusal-is) z c′ d y (r .map) u
         (subst (λ (rs : List Fenced). Moved rs ch a c c′ d d y) (λ t. loadedRuns (f .geometry-is t) d b (f .block t) (f .entry t)) k)
-        (f .map-is ∙ sym (load-map c d m b ch (sym (x .refusal-is) ∙ z)))
-        h
+        (f .map-is ∙ sym (load-map c d m t b ch (sym (x .refusal-is) ∙ z)))
+        h in
+        (done, g ∙ table-is y (sym (h .0) ∙ done .answer) (f .entry))
 
   module _ (r : Place) (x : Located c d m b ch r) where
     pub evict-refused : (r .refusal ≡ 0 → ⊥) → Finished (evictWork c d m b ch) a m c c d d (record { answer = Refused (r .refusal); map = m })

@@ -1,39 +1,31 @@
 -- What load and evict find before they store anything.
 use Prim.Native.Nat.{ℕ}
 use mathlib.Core.List.{List}
-use mathlib.Core.Bool.{not, _||_}
+use mathlib.Core.Bool.{Bool, not, _||_}
 use mathlib.Core.Path.{_≡_}
 use lib.ListN.{getD}
 use lib.Dec.{eqb}
 use Rattle.protocol.specs.declared.Geometry.{Geometry}
 use Rattle.protocol.specs.declared.Map.{Map}
 use Rattle.protocol.specs.Layout.{geometryOf}
-use Rattle.protocol.specs.Ring.{headOf, findEntry, cached}
-use Rattle.protocol.specs.Check.{refuse, _orElse_, cardRefusal, choiceRefusal}
+use Rattle.protocol.specs.Ring.{findEntry, cached}
+use Rattle.protocol.specs.Check.{refuse, _orElse_, choiceRefusal}
 use Rattle.protocol.specs.Search.{unusedEntries}
-use Rattle.protocol.specs.Map.{mapBy, isMarked, mapRefusal, freeCount}
+use Rattle.protocol.specs.Map.{mapBy, isMarked}
 use Rattle.protocol.specs.Commit.{newBlock, roomFor}
-use Rattle.protocol.specs.Load.{pairRefusal, blockRefusal, loadRefusal, evictRefusal}
-use Rattle.checks.specs.Passed.{Indexed}
-use Rattle.transfer.specs.declared.Basis.{Basis}
+use Rattle.protocol.specs.Load.{blockRefusal, loadRefusal, evictRefusal}
+use Rattle.plan.specs.declared.Basis.{Basis}
+use Rattle.plan.specs.Met.{metRefusal, Searchable}
 use Rattle.transfer.specs.declared.Room.{Room}
 use Rattle.transfer.specs.declared.Place.{Place}
 
--- the refusals that load and evict share: 1 to 7, 15, 17 and 10
-unfoldable pub sharedRefusal : List ℕ → List ℕ → Map → ℕ → List ℕ → ℕ
-sharedRefusal c d m b ch = pairRefusal c d orElse mapRefusal c m orElse choiceRefusal (geometryOf c) ch orElse blockRefusal (geometryOf c) b
-
--- what a search goes on from: a card that passed its checks, its Head, the index of its numbers, its map and how many blocks are free
-pub record Searchable (g : Geometry) (c : List ℕ) (h : ℕ) (xs : List ℕ) (m : Map) (free : ℕ) : Type 0 where
-  pub indexed : Indexed g c xs
-  pub whole : cardRefusal g c ≡ 0
-  pub head : h ≡ headOf c
-  pub map-is : m ≡ mapBy (isMarked g c)
-  pub free-is : free ≡ freeCount m
+-- the refusals that load and evict share: 1 to 7, 15, 16 where the table is not arranged, 17 and 10
+unfoldable pub sharedRefusal : List ℕ → List ℕ → Map → Bool → ℕ → List ℕ → ℕ
+sharedRefusal c d m arranged b ch = metRefusal c d m arranged orElse choiceRefusal (geometryOf c) ch orElse blockRefusal (geometryOf c) b
 
 -- what they found, and where none is given what a search goes on from
-pub record Examined (c d : List ℕ) (m : Map) (b : ℕ) (ch : List ℕ) (xs : List ℕ) (r : Basis) : Type 0 where
-  pub refusal-is : r .refusal ≡ sharedRefusal c d m b ch
+pub record Examined (c d : List ℕ) (m : Map) (arranged : Bool) (b : ℕ) (ch : List ℕ) (xs : List ℕ) (r : Basis) : Type 0 where
+  pub refusal-is : r .refusal ≡ sharedRefusal c d m arranged b ch
   pub geometry-is : r .refusal ≡ 0 → r .geometry ≡ geometryOf c
   pub searchable : r .refusal ≡ 0 → Searchable (r .geometry) c (r .head) xs m (r .free)
 
@@ -50,8 +42,8 @@ pub record Chosen (g : Geometry) (c : List ℕ) (b : ℕ) (r : Room) : Type 0 wh
   pub free : r .refusal ≡ 0 → Free g c r
 
 -- all of load's refusals, and where none is given its room
-pub record Roomed (c d : List ℕ) (m : Map) (b : ℕ) (ch : List ℕ) (r : Room) : Type 0 where
-  pub refusal-is : r .refusal ≡ loadRefusal c d m b ch
+pub record Roomed (c d : List ℕ) (m : Map) (t : List ℕ) (b : ℕ) (ch : List ℕ) (r : Room) : Type 0 where
+  pub refusal-is : r .refusal ≡ loadRefusal c d m t b ch
   pub free : r .refusal ≡ 0 → Free (geometryOf c) c r
 
 -- all of evict's refusals, and where none is given the place of the entry for b

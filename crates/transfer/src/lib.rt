@@ -1,4 +1,5 @@
 // Load and evict: a block copied from disk to card, and from card to disk.
+use plan::Basis;
 use protocol::Answer;
 use protocol::Entry;
 use protocol::FRESH;
@@ -8,77 +9,44 @@ use protocol::Stored;
 use stores::Run;
 ghost use mathlib.Core.Path.{_≡_};
 ghost use mathlib.Core.Bool.{true};
-ghost use Prim.Native.Nat.{_/_, _≤_, _<_};
+ghost use mathlib.Core.List.{List};
+ghost use Prim.Native.Nat.{ℕ, _/_, _≤_, _<_};
 ghost use lib.ListN.{length};
 ghost use Rattle.protocol.specs.Layout.{goodGeometry, blockSize, diskLength};
-ghost use Rattle.protocol.specs.Entry.{entryAt};
-ghost use Rattle.protocol.specs.Ring.{findEntry};
-ghost use Rattle.protocol.specs.Load.{loadWork, evictRuns, evictWork};
+ghost use Rattle.protocol.specs.Recency.{isArranged, toFront, turned};
+ghost use Rattle.protocol.specs.Load.{loadWork, tableAfterLoad, evictRuns, evictWork};
 ghost use Rattle.ring.specs.Fitted.{Fitted};
 ghost use Rattle.checks.specs.Chain.{Blank};
-ghost use Rattle.transfer.specs.Examined.{Searchable, Examined, Chosen, Roomed, Located};
-ghost use Rattle.transfer.specs.Moved.{loadRun, evictRun, evictCount, loadedRuns, Moved, Finished};
+ghost use Rattle.plan.specs.Met.{Searchable};
+ghost use Rattle.transfer.specs.Examined.{Examined, Chosen, Roomed, Located};
+ghost use Rattle.transfer.specs.Moved.{loadRun, evictRun, evictCount, loadedRuns, Leaving, Both, Moved, Finished};
 
-// What load and evict go on from: their refusal, and where there is none the card's geometry, its Head and how many data blocks are free.
-pub struct Basis {
-    pub refusal: u8,
-    pub geometry: Geometry,
-    pub head: u64,
-    pub free: u64,
-}
-
-fn stopped(g: Geometry, refusal: u8) -> Basis
-    ensures { λ r. ⌜ r .refusal ≡ refusal ⌝ }
-{
-    Basis {
-        refusal: refusal,
-        geometry: g,
-        head: 0,
-        free: 0,
-    }
-}
-
-// 1 to 7, 15, 17 and 10, and the index of the card's numbers, so that no search decodes the entries again.
+// 1 to 7, 15, 16 unless the table is arranged, 17 and 10, and the index of the card's numbers.
 fn examine(
     card: &[u8],
     disk: &[u8],
     map: Map,
+    arranged: bool,
     b: u64,
     choice: &[u8],
     index: &mut [u8; 640],
 ) -> Basis
     requires { ⌜ Blank (now index) ⌝ }
-    ensures { λ r. ⌜ Examined (now (card .entry)) (now (disk .entry)) map b (now (choice .entry)) (now (index .exit)) r ⌝ }
+    ensures { λ r. ⌜ Examined (now (card .entry)) (now (disk .entry)) map arranged b (now (choice .entry)) (now (index .exit)) r ⌝ }
 {
-    let f = ring::fit_of(card);
-    let g = f.geometry;
-    if f.refusal != 0 {
-        return stopped(g, f.refusal);
+    let x = plan::meet(card, disk, map, arranged, index);
+    if x.refusal != 0 {
+        return x;
     }
-    let other = ring::disk_refusal(g, disk);
-    if other != 0 {
-        return stopped(g, other);
-    }
-    let v = checks::examine(f, card, index);
-    if v.refusal != 0 {
-        return stopped(g, v.refusal);
-    }
-    if !freemap::same(map, v.map) {
-        return stopped(g, 15);
-    }
+    let g = x.geometry;
     let room = plan::choice_room(choice);
     if (room as u64) < codec::block_size(g) / 8 {
-        return stopped(g, 17);
+        return plan::stopped(g, 17);
     }
     if g.disk <= b {
-        return stopped(g, 10);
+        return plan::stopped(g, 10);
     }
-    Basis {
-        refusal: 0,
-        geometry: g,
-        head: f.head,
-        free: v.free,
-    }
+    x
 }
 
 // Where a load puts its block on a card of this geometry, with the map in which that is marked, or its refusal.
@@ -128,11 +96,11 @@ fn choose(x: Basis, card: &[u8], map: Map, index: &[u8; 640], b: u64) -> Room
     }
 }
 
-fn find_room(card: &[u8], disk: &[u8], map: Map, b: u64, choice: &[u8]) -> Room
-    ensures { λ r. ⌜ Roomed (now (card .entry)) (now (disk .entry)) map b (now (choice .entry)) r ⌝ }
+fn find_room(card: &[u8], disk: &[u8], map: Map, arranged: bool, b: u64, choice: &[u8]) -> Room
+    ensures { λ r. ⌜ ((t : List ℕ) → arranged ≡ isArranged t → Roomed (now (card .entry)) (now (disk .entry)) map t b (now (choice .entry)) r) ⌝ }
 {
     let mut index = [0u8; 640];
-    let x = examine(card, disk, map, b, choice, &mut index);
+    let x = examine(card, disk, map, arranged, b, choice, &mut index);
     if x.refusal != 0 {
         return no_room(x.geometry, x.refusal);
     }
@@ -182,11 +150,34 @@ fn make_load(
     stores::answer(count, allowance)
 }
 
-// Copies an uncached disk block into the first free data block, then stores the first unused entry for it, clean.
-pub fn load(card: &mut [u8], disk: &[u8], map: Map, b: u64, choice: &[u8], allowance: u64) -> Stored
-    ensures { λ r. ⌜ Finished (loadWork (now (card .entry)) (now (disk .entry)) map b (now (choice .entry))) allowance map (now (card .entry)) (now (card .exit)) (now (disk .entry)) (now (disk .exit)) r ⌝ }
+// The number x to the front of the table, once its call has answered done.
+fn touch_done(answer: Answer, table: &mut [u8], x: u8)
+    requires { ⌜ (isArranged (now table) ≡ true) × (x < 128) ⌝ }
+    ensures { λ _. ⌜ now (table .exit) ≡ turned answer (now (table .entry)) (toFront x (now (table .entry))) ⌝ }
 {
-    let room = find_room(card, disk, map, b, choice);
+    match answer {
+        Answer::Done(_) => recency::to_front(table, x),
+        Answer::Cut => {}
+        Answer::Refused(_) => {}
+    }
+}
+
+// Copies an uncached disk block into the first free data block, then stores the first unused entry for it, clean. Done moves that entry to the
+// front of the table.
+pub fn load(
+    card: &mut [u8],
+    disk: &[u8],
+    map: Map,
+    table: &mut [u8],
+    b: u64,
+    choice: &[u8],
+    allowance: u64,
+) -> Stored
+    ensures media { λ r. ⌜ Finished (loadWork (now (card .entry)) (now (disk .entry)) map (now (table .entry)) b (now (choice .entry))) allowance map (now (card .entry)) (now (card .exit)) (now (disk .entry)) (now (disk .exit)) r ⌝ }
+    ensures table { λ r. ⌜ now (table .exit) ≡ tableAfterLoad allowance (now (card .entry)) (now (disk .entry)) map (now (table .entry)) b (now (choice .entry)) ⌝ }
+{
+    let arranged = recency::is_arranged(table);
+    let room = find_room(card, disk, map, arranged, b, choice);
     if room.refusal != 0 {
         return Stored {
             answer: Answer::Refused(room.refusal),
@@ -195,6 +186,7 @@ pub fn load(card: &mut [u8], disk: &[u8], map: Map, b: u64, choice: &[u8], allow
     }
     let g = room.geometry;
     let answer = make_load(g, card, disk, b, room.block, room.entry, choice, allowance);
+    touch_done(answer, table, room.entry);
     stores::hand_on(answer, map, room.map)
 }
 
@@ -210,7 +202,7 @@ fn find_cached(card: &[u8], disk: &[u8], map: Map, b: u64, choice: &[u8]) -> Pla
     ensures { λ r. ⌜ Located (now (card .entry)) (now (disk .entry)) map b (now (choice .entry)) r ⌝ }
 {
     let mut index = [0u8; 640];
-    let x = examine(card, disk, map, b, choice, &mut index);
+    let x = examine(card, disk, map, true, b, choice, &mut index);
     let g = x.geometry;
     if x.refusal != 0 {
         return Place {
@@ -258,7 +250,7 @@ pub fn evict_run(g: Geometry, b: u64, entry: usize, e: Entry, at: usize) -> Run
 }
 
 // The count of the stores of an evict of the block whose entry is e.
-fn evict_count(g: Geometry, e: Entry) -> u64
+pub fn evict_count(g: Geometry, e: Entry) -> u64
     requires { ⌜ goodGeometry g ≡ true ⌝ }
     ensures { λ r. ⌜ r ≡ evictCount g e ⌝ }
 {
@@ -269,7 +261,28 @@ fn evict_count(g: Geometry, e: Entry) -> u64
     }
 }
 
-// Makes an evict's list. No run of it takes its bytes from elsewhere than the card.
+// Makes an evict's list under a credit, and hands on what is left of it. No run of it takes its bytes from elsewhere than the card.
+pub fn take_off(
+    g: Geometry,
+    card: &mut [u8],
+    disk: &mut [u8],
+    b: u64,
+    at: usize,
+    e: Entry,
+    choice: &[u8],
+    credit: u64,
+) -> u64
+    requires { ⌜ Leaving g (now card) (now disk) b at e (now choice) ⌝ }
+    ensures { λ r. ⌜ Both (evictRuns g (now (card .entry)) b) (now (choice .entry)) credit (now (card .entry)) (now (card .exit)) (now (disk .entry)) (now (disk .exit)) r ⌝ }
+{
+    let no_data = [0u8; 1];
+    let sectors = evict_run(g, b, at, e, 0);
+    let left = stores::make_run(g, card, disk, &no_data, sectors, choice, credit);
+    let last = evict_run(g, b, at, e, 1);
+    stores::make_run(g, card, disk, &no_data, last, choice, left)
+}
+
+// The same under an allowance, answered.
 fn make_evict(
     g: Geometry,
     card: &mut [u8],
@@ -280,16 +293,12 @@ fn make_evict(
     choice: &[u8],
     allowance: u64,
 ) -> Answer
-    requires { ⌜ Fitted g (now card) × (length (now disk) ≡ diskLength g) × (b < g .disk) × (at ≡ findEntry g (now card) b) × (at < g .blocks) × (e ≡ entryAt g (now card) at) × (e .current < g .blocks) × (blockSize g / 8 ≤ length (now choice)) ⌝ }
+    requires { ⌜ Leaving g (now card) (now disk) b at e (now choice) ⌝ }
     ensures { λ r. ⌜ Moved (evictRuns g (now (card .entry)) b) (now (choice .entry)) allowance (now (card .entry)) (now (card .exit)) (now (disk .entry)) (now (disk .exit)) r ⌝ }
 {
-    let no_data = [0u8; 1];
     let count = evict_count(g, e);
-    let sectors = evict_run(g, b, at, e, 0);
     let credit = stores::credit(count, allowance);
-    let left = stores::make_run(g, card, disk, &no_data, sectors, choice, credit);
-    let last = evict_run(g, b, at, e, 1);
-    stores::make_run(g, card, disk, &no_data, last, choice, left);
+    take_off(g, card, disk, b, at, e, choice, credit);
     stores::answer(count, allowance)
 }
 

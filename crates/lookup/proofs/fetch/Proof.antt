@@ -18,7 +18,7 @@ enum-known-at : tie.Need-enum-known-at
 enum-known-at c = search needs
 
 copy-out-requires : tie.Need-copy-out-requires
-copy-out-requires c κs = let a = c .before .before in card-part _ _ _ _ _ (sym (a .at .given .1) ∙ a .before .before .find .ensures)
+copy-out-requires c κs = let a = c .before .before in card-part _ _ _ _ _ _ (sym (a .at .given .1) ∙ a .before .before .find .ensures)
 
 enum-known-at-2 : tie.Need-enum-known-at-2
 enum-known-at-2 c = search needs
@@ -42,7 +42,7 @@ returns-4 : tie.Need-returns-4
 returns-4 c =
     let o = c .before .before .before in
     let a = o .before .before .before in
-    read-card _ _ _ _ _ _ _ _ (sym (a .at .given .1) ∙ a .before .before .find .ensures) (o .copy-out .ensures) (c .if2 .taken)
+    read-card _ _ _ _ _ _ _ _ _ (sym (a .at .given .1) ∙ a .before .before .find .ensures) (o .copy-out .ensures) (c .if2 .taken)
 
 same-length-2 : tie.Need-same-length-2
 same-length-2 c = search needs
@@ -51,7 +51,7 @@ returns-5 : tie.Need-returns-5
 returns-5 c =
     let o = c .before .before .before in
     let a = o .before .before .before in
-    read-card-short _ _ _ _ _ _ _ _ (sym (a .at .given .1) ∙ a .before .before .find .ensures) (o .copy-out .ensures) (c .if2 .left)
+    read-card-short _ _ _ _ _ _ _ _ _ (sym (a .at .given .1) ∙ a .before .before .find .ensures) (o .copy-out .ensures) (c .if2 .left)
 
 same-length-3 : tie.Need-same-length-3
 same-length-3 c = search needs

@@ -17,7 +17,7 @@ enum-known-at c = search needs
 
 add-result : tie.Need-add-result
 add-result c =
-    let h = card-part _ _ _ _ _ (sym (c .before .at .given .1) ∙ c .before .before .before .find .ensures) in
+    let h = card-part _ _ _ _ _ _ (sym (c .before .at .given .1) ∙ c .before .before .before .find .ensures) in
     record { fits = omega arith }
 
 sub-result : tie.Need-sub-result
@@ -27,7 +27,7 @@ part-result-start : tie.Need-part-result-start
 part-result-start c = search needs
 
 part-result-end : tie.Need-part-result-end
-part-result-end c = card-part _ _ _ _ _ (sym (c .before .at .given .1) ∙ c .before .before .before .find .ensures)
+part-result-end c = card-part _ _ _ _ _ _ (sym (c .before .at .given .1) ∙ c .before .before .before .find .ensures)
 
 enum-known-at-2 : tie.Need-enum-known-at-2
 enum-known-at-2 c = search needs
@@ -59,7 +59,7 @@ slice-aggregate-result-2 : tie.Need-slice-aggregate-result-2
 slice-aggregate-result-2 c = search needs
 
 returns : tie.Need-returns
-returns c = look-card _ _ _ _ _ (sym (c .before .before .at .given .1) ∙ c .before .before .before .before .find .ensures)
+returns c = look-card _ _ _ _ _ _ (sym (c .before .before .at .given .1) ∙ c .before .before .before .before .find .ensures)
 
 returns-2 : tie.Need-returns-2
 returns-2 c = look-disk _ _ _ _ _ (sym (c .before .before .at2 .given .1) ∙ c .before .before .before .before .find .ensures)

@@ -18,39 +18,41 @@ start-of c =
     (start-is _ _ _ _ (s .pre .0 .head) (c .search-start .ensures .0), c .search-start .ensures .1)
 
 search-start-requires : tie.Need-search-start-requires
-search-start-requires c κs = c .before .before .pre .0 .indexed .fitted .good
+search-start-requires c κs = c .before .before .pre .0 .fitted .good
 
 take-requires : tie.Need-take-requires
 take-requires c κs =
     let u = c .before in
     let s = u .before .before .before in
     let h = s .pre .0 in
-    let r = plan-ready _ _ (now (s .args .numbers)) (h .indexed .fitted .good) _ (h .map-is) (h .room) _ (start-of u) in
-    (r .0, r .1, s .pre .3, r .2)
+    let r = plan-ready _ _ (now (s .args .numbers)) (h .fitted .good) _ (h .map-is) (h .room) _ (start-of u) in
+    (r .0, r .1, s .pre .2, r .2)
 
-homes-of-requires : tie.Need-homes-of-requires
-homes-of-requires c κs =
-    let u = c .before .before .before .before in
+house-requires : tie.Need-house-requires
+house-requires c κs =
+    let u = c .before .before .before in
     let s = u .before .before .before in
     let h = s .pre .0 in
     let b = start-of u in
-    (h .indexed, b .0, b .1, h .numbers, h .unused, plan-few _ _ (now (s .args .numbers)) (h .indexed .fitted .good) _ (h .map-is) (h .room), s .pre .1, s .pre .2)
+    (h .fitted, b .0, b .1, plan-few _ _ (now (s .args .numbers)) (h .fitted .good) _ (h .map-is) (h .room), h .unused, s .pre .1 .long)
 
 release-requires : tie.Need-release-requires
 release-requires c κs =
-    let s = c .before .before .before .before .before .before .before .before .before in
+    let s = c .before .before .before .before .before .before .before in
     let h = s .pre .0 in
-    plan-few _ _ (now (s .args .numbers)) (h .indexed .fitted .good) _ (h .map-is) (h .room)
+    plan-few _ _ (now (s .args .numbers)) (h .fitted .good) _ (h .map-is) (h .room)
 
 returns : tie.Need-returns
 returns c =
-    let w = c .before .before in
-    let t = w .before .before .before in
+    let w = c .before in
+    let t = w .before .before in
     let u = t .before .before in
-    let h = u .before .before .before .pre .0 in
-    plan-made _ _ _ (h .indexed .fitted .good) _ (h .map-is) (h .room) _ (start-of u) _ _ _ _ _ (t .take .ensures) (w .homes-of .ensures) (c .release .ensures)
+    let s = u .before .before .before in
+    let h = s .pre .0 in
+    plan-made _ _ _ (h .fitted .good) _ (h .map-is) (h .room) _ (start-of u) _ _ _ _ _ _ (t .take .ensures) (s .pre .1) (w .house .ensures)
+    (c .release .ensures)
 
 pub plan-of-spec : {M : Type 1} → statement M
 plan-of-spec =
     tie.close
-    (tie.spec search-start-requires take-requires homes-of-requires release-requires returns)
+    (tie.spec search-start-requires take-requires house-requires release-requires returns)

@@ -15,7 +15,7 @@ find-requires : tie.Need-find-requires
 find-requires c κs =
     let e = c .before in
     let x = e .before .before .before .examine .ensures in
-    (x .searchable (e .if1 .left) .indexed, examined-key _ _ _ _ _ _ _ x (e .if1 .left))
+    (x .searchable (e .if1 .left) .indexed, examined-key _ _ _ _ _ _ _ _ x (e .if1 .left))
 
 returns-2 : tie.Need-returns-2
 returns-2 c =

@@ -11,20 +11,16 @@ no-room-requires : tie.Need-no-room-requires
 no-room-requires c κs = search needs
 
 returns : tie.Need-returns
-returns c =
-    let t = c .before in
-    roomed-refused _ _ _ _ _ _ _ (t .before .before .examine .ensures) _ (t .if1 .taken) (c .no-room .ensures)
+returns c t e = roomed-refused _ _ _ _ _ _ _ _ (c .before .before .before .examine .ensures) _ (c .before .if1 .taken) (c .no-room .ensures) t e
 
 choose-requires : tie.Need-choose-requires
 choose-requires c κs =
-    let e = c .before in
-    let x = e .before .before .examine .ensures in
-    (x .searchable (e .if1 .left), examined-inside _ _ _ _ _ _ _ x (e .if1 .left))
+    let x = c .before .before .before .examine .ensures in
+    let z = c .before .if1 .left in
+    (x .searchable z, examined-inside _ _ _ _ _ _ _ _ x z)
 
 returns-2 : tie.Need-returns-2
-returns-2 c =
-    let e = c .before .before in
-    roomed-chosen _ _ _ _ _ _ _ (e .before .before .examine .ensures) (e .if1 .left) _ (c .choose .ensures)
+returns-2 c t e = roomed-chosen _ _ _ _ _ _ _ _ (c .before .before .before .before .examine .ensures) (c .before .before .if1 .left) _ (c .choose .ensures) t e
 
 pub find-room-spec : {M : Type 1} → statement M
 find-room-spec =

@@ -9,13 +9,13 @@ use Rattle.service.proofs.files.find.Tie as tie
 add-block : tie.Need-add-block
 add-block c =
     let a = c .before .before .before in
-    let h = card-part-in _ _ _ _ _ (sym (a .at .given .1) ∙ a .before .before .find-in .ensures) in
+    let h = card-part-in _ _ _ _ _ _ (sym (a .at .given .1) ∙ a .before .before .find-in .ensures) in
     record { fits = omega arith }
 
 part-block-end : tie.Need-part-block-end
 part-block-end c =
     let a = c .before .before .before in
-    card-part-in _ _ _ _ _ (sym (a .at .given .1) ∙ a .before .before .find-in .ensures)
+    card-part-in _ _ _ _ _ _ (sym (a .at .given .1) ∙ a .before .before .find-in .ensures)
 
 from-disk-requires : tie.Need-from-disk-requires
 from-disk-requires c κs = let a = c .before in disk-part-in _ _ _ _ _ (sym (a .at2 .given .1) ∙ a .before .before .find-in .ensures)

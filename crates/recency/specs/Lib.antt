@@ -1,0 +1,2 @@
+-- What the functions on the table of recency are said to give.
+pub mod Moved
