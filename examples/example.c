@@ -1,4 +1,5 @@
-/* Formats a card, saves two blocks, loses the power in the next save, recovers, reads, is warned of a save without room and drains the card. */
+/* Formats a card, saves two blocks, loses the power in the next save, recovers, reads, is warned of a save without room, makes room and drains
+ * the card. */
 #include <inttypes.h>
 #include <stdio.h>
 #include <stdlib.h>
@@ -11,6 +12,7 @@ enum { K = 9, SLOTS = 8, DATA_BLOCKS = 4, DISK_BLOCKS = 16, BLOCK_BYTES = TINCA_
 static uint8_t card[TINCA_CARD_LENGTH(K, SLOTS, DATA_BLOCKS)];
 static uint8_t disk[TINCA_DISK_LENGTH(K, DISK_BLOCKS)];
 static uint64_t map[2];
+static uint8_t table[128]; /* of the entries, the most recently used first */
 
 /* Which stores of a block a power cut leaves, one byte for each of its words. It matters to cuts alone, in drills and tests: a station in
  * service passes zeros. */
@@ -29,7 +31,7 @@ static void told(const char *call, tinca_answer answer)
 static void show(uint64_t block)
 {
     uint8_t out[BLOCK_BYTES];
-    tinca_place place = tinca_read(card, sizeof card, disk, sizeof disk, block, out, sizeof out);
+    tinca_place place = tinca_read(card, sizeof card, disk, sizeof disk, table, sizeof table, block, out, sizeof out);
     if (place.kind == TINCA_REFUSED)
         printf("block %" PRIu64 ": refused with %" PRIu32 ": %s\n", block, place.refusal, tinca_refusal_text(place.refusal));
     else
@@ -55,6 +57,21 @@ static void make_map(void)
         printf("make map: refused with %" PRIu32 ": %s\n", made.refusal, tinca_refusal_text(made.refusal));
     map[0] = made.low;
     map[1] = made.high;
+}
+
+/* At start: it ascends. Reads from the card, loads and room-making saves then keep it in step with what is used. */
+static void make_table(void)
+{
+    size_t place;
+    for (place = 0; place < sizeof table; place++)
+        table[place] = (uint8_t)place;
+}
+
+/* Saves blocks also where the card is full: the least recently used others go to the disk first. */
+static void save_making_room(const char *save, const uint64_t *numbers, size_t count, const uint8_t *data)
+{
+    told(save, tinca_commit_making_room(card, sizeof card, disk, sizeof disk, map, 2, table, sizeof table, numbers, count, data,
+                                        count * BLOCK_BYTES, choice, sizeof choice, UINT64_MAX));
 }
 
 /* Tells what a save of two blocks would do, without a store: a warning in time where it would be refused. */
@@ -84,10 +101,13 @@ int main(void)
 {
     const uint64_t numbers[2] = {3, 5};
     const uint64_t twice[2] = {3, 3};
+    const uint64_t more[3] = {1, 2, 4};
     uint8_t data[2 * BLOCK_BYTES];
+    uint8_t more_data[3 * BLOCK_BYTES];
 
     told("format", tinca_format(K, SLOTS, DATA_BLOCKS, DISK_BLOCKS, card, sizeof card));
     make_map();
+    make_table();
     memset(data, 7, sizeof data);
     preview("preview of the first save", numbers, data);
     told("first save of 3 and 5",
@@ -115,11 +135,18 @@ int main(void)
     show(3);
     show(5);
 
-    told("load 9", tinca_load(card, sizeof card, disk, sizeof disk, map, 2, 9, choice, sizeof choice, UINT64_MAX));
+    told("load 9",
+         tinca_load(card, sizeof card, disk, sizeof disk, map, 2, table, sizeof table, 9, choice, sizeof choice, UINT64_MAX));
+    memset(data, 9, sizeof data);
     preview("preview of a third save", numbers, data);
+    save_making_room("third save of 3 and 5, block 9 goes", numbers, 2, data);
+    show(3);
+    memset(more_data, 6, sizeof more_data);
+    save_making_room("save of 1, 2 and 4, block 5 goes", more, 3, more_data);
     drain();
     state();
     show(3);
     show(5);
+    show(4);
     return EXIT_SUCCESS;
 }

@@ -1,4 +1,5 @@
-//! Formats a card, saves two blocks, loses the power in the next save, recovers, reads, is warned of a save without room and drains the card.
+//! Formats a card, saves two blocks, loses the power in the next save, recovers, reads, is warned of a save without room, makes room and
+//! drains the card.
 
 use tinca_tests::ffi::Library;
 use tinca_tests::{Answer, Cached, Calls, Place, State};
@@ -14,7 +15,7 @@ fn text(number: u32) -> &'static str {
     match number {
         7 => "the card is not settled and must be recovered first",
         11 => "a commit has the same number twice",
-        14 => "there are too few free data blocks",
+        14 => "there are too few free data blocks (a room-making commit: too few blocks outside it to evict)",
         _ => unreachable!(),
     }
 }
@@ -28,9 +29,9 @@ fn told(call: &str, answer: Answer) {
     }
 }
 
-fn show(card: &[u8], disk: &[u8], block: u64) {
+fn show(card: &[u8], disk: &[u8], table: &mut [u8], block: u64) {
     let mut out = [0; BLOCK_BYTES];
-    match Library.read(card, disk, block, &mut out) {
+    match Library.read(card, disk, table, block, &mut out) {
         Place::Card(..) => println!("block {block}: on the card, bytes {}", out[0]),
         Place::Disk(..) => println!("block {block}: on the disk, bytes {}", out[0]),
         Place::Refused(number) => println!("block {block}: refused with {number}: {}", text(number)),
@@ -73,37 +74,48 @@ fn main() {
     told("format", Library.format(9, 8, 4, 16, &mut card));
     // at start; done calls then keep it in step with the card, and refused ones leave it
     let mut map = Library.fresh_map(&card);
+    // at start it ascends; reads from the card, loads and room-making saves then keep it in step with what is used
+    let mut table: Vec<u8> = (0..128).collect();
     let mut first = [7; 2 * BLOCK_BYTES];
     preview("preview of the first save", &mut card, &mut map, &mut first);
     told("first save of 3 and 5", Library.commit(&mut card, &mut map, &[3, 5], &first, CHOICE, u64::MAX));
     println!("free data blocks: {}", Library.free_count(map[0], map[1]));
     told("evict 5", Library.evict(&mut card, &mut disk, &mut map, 5, CHOICE, u64::MAX));
-    show(&card, &disk, 3);
-    show(&card, &disk, 5);
+    show(&card, &disk, &mut table, 3);
+    show(&card, &disk, &mut table, 5);
 
     told("a save of 3 twice", Library.commit(&mut card, &mut map, &[3, 3], &[8; 2 * BLOCK_BYTES], CHOICE, u64::MAX));
-    let mut second = [8; 2 * BLOCK_BYTES];
+    let second = [8; 2 * BLOCK_BYTES];
     let cut = Library.commit(&mut card, &mut map, &[3, 5], &second, CHOICE, 136);
     told("second save, power lost before its last store", cut);
     state(&card);
-    show(&card, &disk, 3);
+    show(&card, &disk, &mut table, 3);
     // after a cut it is made again
     map = Library.fresh_map(&card);
     told("recover, power lost again", Library.recover(&mut card, &mut map, 1));
     map = Library.fresh_map(&card);
     told("recover", Library.recover(&mut card, &mut map, u64::MAX));
     state(&card);
-    show(&card, &disk, 3);
-    show(&card, &disk, 5);
+    show(&card, &disk, &mut table, 3);
+    show(&card, &disk, &mut table, 5);
 
     told("second save again", Library.commit(&mut card, &mut map, &[3, 5], &second, CHOICE, u64::MAX));
-    show(&card, &disk, 3);
-    show(&card, &disk, 5);
+    show(&card, &disk, &mut table, 3);
+    show(&card, &disk, &mut table, 5);
 
-    told("load 9", Library.load(&mut card, &disk, &mut map, 9, CHOICE, u64::MAX));
-    preview("preview of a third save", &mut card, &mut map, &mut second);
+    told("load 9", Library.load(&mut card, &disk, &mut map, &mut table, 9, CHOICE, u64::MAX));
+    let mut third = [9; 2 * BLOCK_BYTES];
+    preview("preview of a third save", &mut card, &mut map, &mut third);
+    // saves where the card is full: the least recently used others go to the disk first
+    let answer = Library.commit_making_room(&mut card, &mut disk, &mut map, &mut table, &[3, 5], &third, CHOICE, u64::MAX);
+    told("third save of 3 and 5, block 9 goes", answer);
+    show(&card, &disk, &mut table, 3);
+    let more = [6; 3 * BLOCK_BYTES];
+    let answer = Library.commit_making_room(&mut card, &mut disk, &mut map, &mut table, &[1, 2, 4], &more, CHOICE, u64::MAX);
+    told("save of 1, 2 and 4, block 5 goes", answer);
     drain(&mut card, &mut disk, &mut map, 4);
     state(&card);
-    show(&card, &disk, 3);
-    show(&card, &disk, 5);
+    show(&card, &disk, &mut table, 3);
+    show(&card, &disk, &mut table, 5);
+    show(&card, &disk, &mut table, 4);
 }

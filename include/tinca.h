@@ -1,8 +1,8 @@
 /*
  * tinca: a write-back cache card in front of a disk, proved against power cuts at every store.
  *
- * Promised. Commit, load, evict and recover each have a list of stores (docs/CARD.md): of an 8-byte word, a 16-byte entry or
- * a 512-byte disk sector each. The words of a data block are one run, and so are the sectors of a disk block; every other
+ * Promised. Both commits, load, evict and recover each have a list of stores (docs/CARD.md): of an 8-byte word, a 16-byte entry
+ * or a 512-byte disk sector each. The words of a data block are one run, and so are the sectors of a disk block; every other
  * store is a run by itself. Wherever that list stops between two runs, or inside one with any of its stores made and the
  * others not, a recovery that answers "done" leaves the card settled, and a settled card reads, byte for byte, as the last
  * commit that answered "done" left it. This holds over every list of calls from a formatted card, recoveries cut again and
@@ -47,15 +47,21 @@
  * Each storing call compares the map with the card and refuses a wrong one, with 15, before any store. So does the preview,
  * which leaves the map as it is.
  *
+ * The table. 128 bytes in the station's own memory: the numbers 0 to 127, each once, for the entries of these places, the most
+ * recently used first. At start it ascends: byte i is i. A room-making commit takes its victims from the table's end; a done one
+ * moves the entry of each of its blocks to the front, in turn, a done load and a read from the card that of theirs. No other call
+ * takes it, and one that is cut or refused leaves it as it was. Each call that takes it refuses any other row of bytes with 16,
+ * before any store. Nothing of the table stands on the card: a station that starts anew begins with one that ascends.
+ *
  * Slices. A pointer and a length in bytes, but for `map` and `numbers`, whose lengths count words of 64 bits, and `blocks`, whose
  * length counts numbers of 32 bits. A pointer may be null where its length is 0; a null with another length is used as an
  * address wherever its bytes are looked at, and nothing is promised. `map` and `numbers` are aligned as a uint64_t is, `blocks`
  * as a uint32_t. All others may lie at any address; a card that units must reach whole lies at a multiple of 16
  * (docs/ORDER.md). The outputs, `out` and `blocks`, are written where the call is not refused, and only then. Slices that a
- * call only reads may overlap. One that it writes (card, disk, map, out, blocks, where they are not const) may overlap no
+ * call only reads may overlap. One that it writes (card, disk, map, table, out, blocks, where they are not const) may overlap no
  * other: the proofs then say nothing of the bytes that it leaves.
  *
- * Threads. Nothing here locks or keeps anything between calls: one thread a card at a time, with its disk and its map.
+ * Threads. Nothing here locks or keeps anything between calls: one thread a card at a time, with its disk, map and table.
  * Different cards are independent.
  *
  * docs/CARD.md has the bytes of the card, each call's stores in order, and the rule on cuts. An install has these pages in
@@ -68,7 +74,7 @@
 #include <stdint.h>
 
 /* Of this header and the library beside it. The middle number grows where a call changes. */
-#define TINCA_VERSION "0.4.0"
+#define TINCA_VERSION "0.5.0"
 
 /* Lengths in bytes, as constants where their arguments are: of a block, of a card, of a disk. */
 #define TINCA_BLOCK_LENGTH(k) ((size_t)1 << (k))
@@ -94,8 +100,8 @@ enum {
     TINCA_REFUSED = 2
 };
 
-/* The field `refusal` of a refused answer. The lowest number whose condition holds is given, with 15 in the place between 7
- * and 8, and 17 in that between 9 and 10. */
+/* The field `refusal` of a refused answer. The lowest number whose condition holds is given, with 15 and then 16 in the place
+ * between 7 and 8, and 17 in that between 9 and 10. */
 enum {
     TINCA_BAD_HEADER = 1,
     TINCA_BAD_CARD_LENGTH = 2,
@@ -112,6 +118,7 @@ enum {
     TINCA_NOT_CACHED = 13,
     TINCA_NO_ROOM = 14,
     TINCA_WRONG_MAP = 15,
+    TINCA_BAD_TABLE = 16,
     TINCA_BAD_CHOICE = 17
 };
 
@@ -148,9 +155,11 @@ static inline const char *tinca_refusal_text(uint32_t number)
     case TINCA_NOT_CACHED:
         return "the block to evict is not cached";
     case TINCA_NO_ROOM:
-        return "there are too few free data blocks";
+        return "there are too few free data blocks (a room-making commit: too few blocks outside it to evict)";
     case TINCA_WRONG_MAP:
         return "the map is not the one that the card gives, or not of two words";
+    case TINCA_BAD_TABLE:
+        return "the table is not the numbers 0 to 127, each once, in 128 bytes";
     case TINCA_BAD_CHOICE:
         return "the choice has fewer than B/8 bytes, or a byte above 1";
     default:
@@ -232,9 +241,19 @@ tinca_answer tinca_commit(uint8_t *card, size_t card_len, uint64_t *map, size_t 
 tinca_answer tinca_preview(const uint8_t *card, size_t card_len, const uint64_t *map, size_t map_words, const uint64_t *numbers, size_t count,
                            const uint8_t *data, size_t data_len, uint32_t *blocks, size_t blocks_len);
 
-/* Caches a disk block. m = B/8 + 1. Done, cut, or refused with 1 to 7, 15, 17, 10, 12 or 14. */
-tinca_answer tinca_load(uint8_t *card, size_t card_len, const uint8_t *disk, size_t disk_len, uint64_t *map, size_t map_words, uint64_t block,
-                        const uint8_t *choice, size_t choice_len, uint64_t allowance);
+/* A commit that makes room: where `count` is more than the free data blocks, it first evicts as many blocks as are missing, each as
+ * tinca_evict does, the least recently used first and none of its own; then it is tinca_commit on the card so left. A cut in its
+ * evictions leaves every block as it reads. m is the evictions' counts and the commit's together. With c of its blocks cached
+ * already it is refused with 14 where `count` + c is above N, and only there. Done moves the entry of each block to the front of
+ * the table, in turn. Done, cut, or refused with 1 to 7, 15, 16, 8, 9, 17, 10, 11 or 14. */
+tinca_answer tinca_commit_making_room(uint8_t *card, size_t card_len, uint8_t *disk, size_t disk_len, uint64_t *map, size_t map_words,
+                                      uint8_t *table, size_t table_len, const uint64_t *numbers, size_t count, const uint8_t *data, size_t data_len,
+                                      const uint8_t *choice, size_t choice_len, uint64_t allowance);
+
+/* Caches a disk block. m = B/8 + 1. Done moves its entry to the front of the table. Done, cut, or refused with 1 to 7, 15, 16, 17,
+ * 10, 12 or 14. */
+tinca_answer tinca_load(uint8_t *card, size_t card_len, const uint8_t *disk, size_t disk_len, uint64_t *map, size_t map_words,
+                        uint8_t *table, size_t table_len, uint64_t block, const uint8_t *choice, size_t choice_len, uint64_t allowance);
 
 /* Writes a cached block to the disk if it is modified, and then drops it from the card. m = B/512 + 1 if modified, else 1.
  * Done, cut, or refused with 1 to 7, 15, 17, 10 or 13. */
@@ -246,10 +265,12 @@ tinca_answer tinca_evict(uint8_t *card, size_t card_len, uint8_t *disk, size_t d
  * on where it stopped. Done, cut, or refused with 1, 2, 4 to 6 or 15. */
 tinca_answer tinca_recover(uint8_t *card, size_t card_len, uint64_t *map, size_t map_words, uint64_t allowance);
 
-/* Copies a block to `out`, B bytes, and tells where it lies. Refused with 1 to 7, 9 or 10; `out` is then untouched. */
-tinca_place tinca_read(const uint8_t *card, size_t card_len, const uint8_t *disk, size_t disk_len, uint64_t block, uint8_t *out, size_t out_len);
+/* Copies a block to `out`, B bytes, and tells where it lies; where that is the card, its entry goes to the front of the table.
+ * Refused with 1 to 7, 16, 9 or 10; `out` is then untouched. */
+tinca_place tinca_read(const uint8_t *card, size_t card_len, const uint8_t *disk, size_t disk_len, uint8_t *table, size_t table_len,
+                       uint64_t block, uint8_t *out, size_t out_len);
 
-/* Tells where a block lies, without copying. Refused with 1 to 7 or 10. */
+/* Tells where a block lies, without copying, and is no use of it: it takes no table. Refused with 1 to 7 or 10. */
 tinca_place tinca_look(const uint8_t *card, size_t card_len, const uint8_t *disk, size_t disk_len, uint64_t block);
 
 /* The card's geometry and condition. Refused with 1, 2 or 4 to 6. */

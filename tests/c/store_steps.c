@@ -1,11 +1,13 @@
-/* Commit, load and recover, stopped after each machine instruction: every stop leaves whole units, in the order of the call's stores.
+/* Both commits, load and recover, stopped after each machine instruction: every stop leaves whole units, in the order of the call's stores.
  *
  *     store_steps           the library's calls; the first stop that leaves anything else ends it
  *     store_steps --count   the same to the end, with such stops counted
- *     store_steps --wrong   the same stores from a list: with each entry in two halves they must be reported, with each whole not
+ *     store_steps --wrong   the same stores from a list: with each entry in two halves, or a sector behind its entry, they must be reported,
+ *                           with each whole and in order not
  *
  * What a stop may leave: up to the data blocks the card is what some allowance leaves, no smaller one than at the stop before; and each
- * word of the data blocks is one that an allowance with those bytes leaves, so a block's words come in any order but before its entry.
+ * word of the data blocks is one that an allowance with those bytes leaves, so a block's words come in any order but before its entry. Each
+ * byte of the disk is one too: a sector may be in part, but not once the entry of its block is zeroed.
  */
 #include <signal.h>
 #include <stdio.h>
@@ -28,40 +30,48 @@ enum {
     ENTRIES = 128 + 8 * SLOTS,
     FRONT = ENTRIES + 16 * DATA_BLOCKS, /* up to the data blocks */
     LENGTH = FRONT + DATA_BLOCKS * BLOCK,
-    STORES = MOST * (BLOCK / 8 + 4) + 1
+    DISK = DISK_BLOCKS * BLOCK,
+    SAVING = BLOCK / 8 + 4,                 /* stores of a commit for each block, and one */
+    STORES = MOST * SAVING + 1 + MOST * 2 /* with evictions, of modified blocks */
 };
 
 typedef uint64_t word __attribute__((may_alias));
 typedef uint64_t pair __attribute__((may_alias, vector_size(16)));
 
-enum call { COMMIT, LOAD, RECOVER };
-enum stores { BY_LIBRARY, WHOLE, HALVES };
+enum call { COMMIT, ROOM, LOAD, RECOVER };
+enum stores { BY_LIBRARY, WHOLE, HALVES, LATE };
 
 typedef struct {
     const char *name;
     enum call call;
     size_t count;
-    uint64_t numbers[MOST]; /* of the commit, of the cut commit that is recovered; the first is loaded */
+    uint64_t numbers[MOST]; /* of either commit, of the cut commit that is recovered; the first is loaded */
 } subject;
 
-/* The set-up caches 1, 2 and 3 and leaves Head at the last slot. */
+/* The set-up saves 1, 2 and 3 and leaves Head at the last slot. Where room is to be made, it loads 4 to 8 besides and reads 1 and 2, so that
+ * 3, which is modified, is the least recently used block, and then come 4 and 5, which are clean. */
 static const subject subjects[] = {
     {"commit of a fresh block", COMMIT, 1, {9}},
     {"commit of a cached block", COMMIT, 1, {2}},
     {"commit of two fresh blocks", COMMIT, 2, {9, 12}},
     {"commit of two cached blocks", COMMIT, 2, {3, 1}},
     {"commit of three, one cached", COMMIT, 3, {9, 2, 12}},
+    {"room for one, a modified block goes", ROOM, 1, {9}},
+    {"room for two, a clean one goes too", ROOM, 2, {12, 9}},
+    {"room for three, one cached", ROOM, 3, {9, 2, 12}},
     {"load", LOAD, 1, {9}},
     {"recover after fresh blocks", RECOVER, 2, {9, 12}},
     {"recover after cached blocks", RECOVER, 2, {3, 1}},
     {"recover after three, one cached", RECOVER, 3, {9, 2, 12}},
 };
 
-static uint8_t *card, disk[DISK_BLOCKS * BLOCK], data[MOST * BLOCK], choice[BLOCK / 8];
+static uint8_t *card, *disk, table[128], data[MOST * BLOCK], choice[BLOCK / 8];
 static uint64_t map[2];
 static uint8_t left[STORES + 1][LENGTH] __attribute__((aligned(16))); /* the card that each allowance leaves */
+static uint8_t left_disk[STORES + 1][DISK];                           /* and the disk */
 static size_t last;           /* m: the allowance that leaves the whole call */
-static size_t places[STORES]; /* of the stores */
+static size_t places[STORES]; /* of the stores: on the card, or LENGTH and more on the disk */
+static uint64_t evicting;     /* how many of them come before those of the commit */
 static int counting;
 
 static void fail(const char *what)
@@ -94,11 +104,12 @@ static void make_map(const uint8_t *of)
 }
 
 /* The choice that makes exactly the first stores, as many as the allowance: ones up to where it ends in a block's words, then zeros. Between
- * two blocks of a commit stand three single stores. */
+ * two blocks of a commit stand three single stores; a block that is evicted has one sector. */
 static void choose(uint64_t allowance)
 {
+    const uint64_t saving = allowance < evicting ? 0 : allowance - evicting;
     for (size_t i = 0; i < sizeof choice; i++)
-        choice[i] = i < allowance % (sizeof choice + 3);
+        choice[i] = i < saving % (sizeof choice + 3);
 }
 
 static tinca_answer commit(uint8_t *to, size_t count, const uint64_t *numbers, uint64_t allowance)
@@ -111,17 +122,33 @@ static tinca_answer perform(const subject *s, uint8_t *to, uint64_t allowance)
 {
     if (s->call == COMMIT)
         return commit(to, s->count, s->numbers, allowance);
+    if (s->call == ROOM)
+        return tinca_commit_making_room(to, LENGTH, disk, DISK, map, 2, table, sizeof table, s->numbers, s->count, data, s->count * BLOCK,
+                                        choice, sizeof choice, allowance);
     if (s->call == LOAD)
-        return tinca_load(to, LENGTH, disk, sizeof disk, map, 2, s->numbers[0], choice, sizeof choice, allowance);
+        return tinca_load(to, LENGTH, disk, DISK, map, 2, table, sizeof table, s->numbers[0], choice, sizeof choice, allowance);
     return tinca_recover(to, LENGTH, map, 2, allowance);
 }
 
-/* The card before the call, into `left[0]`, and its map. */
+/* Fills a card, so that the next commit must make room. */
+static void load_and_read(uint8_t *to)
+{
+    uint8_t out[BLOCK];
+    for (uint64_t number = 4; number <= DATA_BLOCKS; number++)
+        demand(tinca_load(to, LENGTH, disk, DISK, map, 2, table, sizeof table, number, choice, sizeof choice, UINT64_MAX).kind == TINCA_DONE,
+               "a load of the set-up");
+    for (uint64_t number = 1; number <= 2; number++)
+        demand(tinca_read(to, LENGTH, disk, DISK, table, sizeof table, number, out, BLOCK).kind == TINCA_ON_CARD, "a read of the set-up");
+}
+
+/* The card before the call, into `left[0]`, its map and the table. */
 static void prepare(const subject *s, uint64_t cut)
 {
     uint8_t *const before = left[0];
-    fill(disk, sizeof disk, 14);
+    fill(disk, DISK, 14);
     fill(before, LENGTH, 15);
+    for (size_t i = 0; i < sizeof table; i++)
+        table[i] = (uint8_t)i;
     demand(tinca_format(K, SLOTS, DATA_BLOCKS, DISK_BLOCKS, before, LENGTH).kind == TINCA_DONE, "format");
     make_map(before);
     for (unsigned i = 0; i < SLOTS - 1; i++) {
@@ -129,55 +156,95 @@ static void prepare(const subject *s, uint64_t cut)
         fill(data, sizeof data, i);
         demand(commit(before, 1, &number, UINT64_MAX).kind == TINCA_DONE, "a commit of the set-up");
     }
+    if (s->call == ROOM)
+        load_and_read(before);
     fill(data, sizeof data, SLOTS - 1);
+    evicting = 0;
     choose(cut);
     if (s->call == RECOVER)
         demand(commit(before, s->count, s->numbers, cut).kind == TINCA_CUT, "the commit to recover from is not cut");
     make_map(before);
+    memcpy(left_disk[0], disk, DISK);
 }
 
-/* The cards that the call leaves with every allowance up to m, and where each store changes the one before. */
+/* The call from what was prepared, with an allowance: the map and the table are left as they were. */
+static tinca_answer attempt(const subject *s, uint8_t *to, uint64_t allowance)
+{
+    const uint64_t map_before[2] = {map[0], map[1]};
+    uint8_t table_before[sizeof table];
+    tinca_answer answer;
+    memcpy(table_before, table, sizeof table);
+    memcpy(to, left[0], LENGTH);
+    memcpy(disk, left_disk[0], DISK);
+    choose(allowance);
+    answer = perform(s, to, allowance);
+    memcpy(map, map_before, sizeof map);
+    memcpy(table, table_before, sizeof table);
+    return answer;
+}
+
+/* The first byte in which two parts differ, or their length. */
+static size_t first_difference(const uint8_t *a, const uint8_t *b, size_t length)
+{
+    size_t at = 0;
+    while (at < length && a[at] == b[at])
+        at++;
+    return at;
+}
+
+/* What the call leaves with every allowance up to m, and where each store changes what the one before left. */
 static void list(const subject *s)
 {
-    const uint64_t before[2] = {map[0], map[1]};
-    tinca_answer answer = {.kind = TINCA_CUT};
-    for (last = 0; answer.kind == TINCA_CUT; last++) {
-        demand(last <= STORES, "more stores than there is room for");
-        if (last > 0)
-            memcpy(left[last], left[0], LENGTH);
-        memcpy(map, before, sizeof map);
-        choose(last);
-        answer = perform(s, left[last], last);
+    tinca_answer answer = attempt(s, card, UINT64_MAX);
+    demand(answer.kind == TINCA_DONE && answer.stores <= STORES, "a call is not done, or has more stores than there is room for");
+    last = answer.stores;
+    evicting = s->call == ROOM ? last - (s->count * SAVING + 1) : 0;
+    for (size_t i = 1; i <= last; i++) {
+        answer = attempt(s, left[i], i);
+        demand(answer.kind == (i < last ? TINCA_CUT : TINCA_DONE), "a call of the list");
+        memcpy(left_disk[i], disk, DISK);
     }
-    last--;
-    memcpy(map, before, sizeof map);
-    demand(answer.kind == TINCA_DONE && answer.stores == last, "a call of the list");
     for (size_t i = 0; i < last; i++) {
-        size_t at = 0;
-        while (at < LENGTH - 1 && left[i][at] == left[i + 1][at])
-            at++;
-        places[i] = at - at % (at >= ENTRIES && at < FRONT ? 16 : 8);
+        const size_t at = first_difference(left[i], left[i + 1], LENGTH);
+        const size_t on_disk = first_difference(left_disk[i], left_disk[i + 1], DISK);
+        places[i] = at < LENGTH ? at - at % (at >= ENTRIES && at < FRONT ? 16 : 8) : LENGTH + on_disk - on_disk % BLOCK;
     }
 }
 
-/* The listed stores, one after the other, each entry by one instruction or by two. */
+/* One of the listed stores, an entry by one instruction or by two. */
+static void store(size_t i, enum stores how)
+{
+    const size_t at = places[i];
+    const uint8_t *const from = left[i + 1] + at;
+    if (at >= LENGTH + DISK)
+        return; /* of the bytes that were there */
+    if (at >= LENGTH) {
+        memcpy(disk + at - LENGTH, left_disk[i + 1] + at - LENGTH, BLOCK);
+    } else if (at < ENTRIES || at >= FRONT) {
+        *(volatile word *)(card + at) = *(const word *)from;
+    } else if (how != HALVES) {
+        *(volatile pair *)(card + at) = *(const pair *)from;
+    } else {
+        *(volatile word *)(card + at) = *(const word *)from;
+        *(volatile word *)(card + at + 8) = *(const word *)(from + 8);
+    }
+}
+
+/* The listed stores, one after the other; where sectors are late, each behind the entry that it should come before. */
 static void replay(enum stores how)
 {
     for (size_t i = 0; i < last; i++) {
-        const size_t at = places[i];
-        const uint8_t *const from = left[i + 1] + at;
-        if (at < ENTRIES || at >= FRONT) {
-            *(volatile word *)(card + at) = *(const word *)from;
-        } else if (how == WHOLE) {
-            *(volatile pair *)(card + at) = *(const pair *)from;
+        if (how == LATE && places[i] >= LENGTH) {
+            store(i + 1, how);
+            store(i, how);
+            i++;
         } else {
-            *(volatile word *)(card + at) = *(const word *)from;
-            *(volatile word *)(card + at + 8) = *(const word *)(from + 8);
+            store(i, how);
         }
     }
 }
 
-/* Whether the card is one that a stop may leave; `made` is the least allowance that it can be, at least that of the stop before. */
+/* Whether card and disk are what a stop may leave; `made` is the least allowance that it can be, at least that of the stop before. */
 static int is_whole(size_t *made)
 {
     size_t low = *made, high;
@@ -190,11 +257,14 @@ static int is_whole(size_t *made)
     for (size_t at = FRONT; at < LENGTH; at += 8)
         if (memcmp(card + at, left[low] + at, 8) && memcmp(card + at, left[high] + at, 8))
             return 0;
+    for (size_t at = 0; at < DISK; at++)
+        if (disk[at] != left_disk[low][at] && disk[at] != left_disk[high][at])
+            return 0;
     *made = low;
     return 1;
 }
 
-/* Makes the stores in a child that stops after each instruction; answers how many stops left another card than they may. */
+/* Makes the stores in a child that stops after each instruction; answers how many stops left something else than they may. */
 static long stepped(const subject *s, enum stores how, long *stops)
 {
     size_t made = 0;
@@ -202,6 +272,7 @@ static long stepped(const subject *s, enum stores how, long *stops)
     int status;
     pid_t child;
     memcpy(card, left[0], LENGTH);
+    memcpy(disk, left_disk[0], DISK);
     child = fork();
     if (child < 0)
         fail("fork");
@@ -229,6 +300,7 @@ static long stepped(const subject *s, enum stores how, long *stops)
     }
     demand(WIFEXITED(status) && WEXITSTATUS(status) == 0, "a call does not answer done");
     demand(memcmp(card, left[last], LENGTH) == 0, "a call leaves another card than its list");
+    demand(memcmp(disk, left_disk[last], DISK) == 0, "a call leaves another disk than its list");
     return wrong;
 }
 
@@ -255,16 +327,21 @@ int main(int count, char **words)
     int good = 1;
     counting = count == 2 && strcmp(words[1], "--count") == 0;
     card = mmap(NULL, LENGTH, PROT_READ | PROT_WRITE, MAP_SHARED | MAP_ANONYMOUS, -1, 0);
-    if (card == MAP_FAILED)
+    disk = mmap(NULL, DISK, PROT_READ | PROT_WRITE, MAP_SHARED | MAP_ANONYMOUS, -1, 0);
+    if (card == MAP_FAILED || disk == MAP_FAILED)
         fail("memory");
     for (size_t i = 0; i < sizeof subjects / sizeof *subjects; i++) {
         const subject *const s = &subjects[i];
         long stops = 0, wrong;
         if (wrong_too) {
             const long whole = all_stepped(s, WHOLE, &stops);
+            const long late = s->call == ROOM ? all_stepped(s, LATE, &stops) : 1;
             wrong = all_stepped(s, HALVES, &stops);
-            printf("%s: entries whole, %ld wrong stops; in halves, %ld\n", s->name, whole, wrong);
-            good &= whole == 0 && wrong > 0;
+            printf("%s: entries whole, %ld wrong stops; in halves, %ld", s->name, whole, wrong);
+            if (s->call == ROOM)
+                printf("; sectors late, %ld", late);
+            puts("");
+            good &= whole == 0 && wrong > 0 && late > 0;
             continue;
         }
         wrong = all_stepped(s, BY_LIBRARY, &stops);

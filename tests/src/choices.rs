@@ -107,7 +107,7 @@ mod tests {
     use super::*;
     use crate::drive::put;
     use crate::ffi::Library;
-    use crate::model::{Card, Model, Store};
+    use crate::model::{ascending, Card, Model, Store};
     use crate::{Answer, Calls, Geometry};
 
     const SMALL: Geometry = Geometry { k: 9, slots: 8, data_blocks: 4, disk_blocks: 6 };
@@ -194,7 +194,7 @@ mod tests {
         for calls in [&Model::default() as &dyn Calls, &Library] {
             for (k, last) in [(9, 0), (12, 7)] {
                 let (block, (mut card, mut disk, mut map)) = (1usize << k, saved(calls, k));
-                calls.load(&mut card, &disk, &mut map, 1, &zeros(block), u64::MAX);
+                calls.load(&mut card, &disk, &mut map, &mut ascending(), 1, &zeros(block), u64::MAX);
                 let mut cut = |number: u64, chosen: &[usize], allowance: u64| {
                     let (mut choice, mut card) = (zeros(block), card.clone());
                     chosen.iter().for_each(|store| choice[*store] = 1);
@@ -225,7 +225,7 @@ mod tests {
             let cut = |chosen: &[usize], allowance: u64| {
                 let (mut card, mut choice) = (card.clone(), vec![0; 100]);
                 chosen.iter().for_each(|store| choice[*store] = 1);
-                assert_eq!(calls.load(&mut card, &disk, &mut map.clone(), 5, &choice, allowance), Answer::Cut);
+                assert_eq!(calls.load(&mut card, &disk, &mut map.clone(), &mut ascending(), 5, &choice, allowance), Answer::Cut);
                 assert_eq!(Card::open(&card, None).unwrap().in_use().count(), 1);
                 units_with(&card[SMALL.block_at(1)..SMALL.block_at(2)], 8, 9)
             };
@@ -284,12 +284,12 @@ mod tests {
     fn where_load_and_evict_refuse_a_choice() {
         for calls in [&Model::default() as &dyn Calls, &Library] {
             let (mut card, mut disk, mut map) = saved(calls, 9);
-            calls.load(&mut card, &disk, &mut map, 1, &zeros(512), u64::MAX);
+            calls.load(&mut card, &disk, &mut map, &mut ascending(), 1, &zeros(512), u64::MAX);
             let before = (card.clone(), disk.clone());
             for (passes, choice, allowance) in tried() {
                 let refused = |right: u32, wrong: u32| Answer::Refused(if passes { right } else { wrong });
                 let mut load = |map: &[u64], disk: &[u8], number| {
-                    calls.load(&mut card, disk, &mut map.to_vec(), number, &choice, allowance)
+                    calls.load(&mut card, disk, &mut map.to_vec(), &mut ascending(), number, &choice, allowance)
                 };
                 assert_eq!(load(&[0; 2], &[], 5), refused(3, 3));
                 assert_eq!(load(&[0; 2], &disk, 99), refused(15, 15));
@@ -297,7 +297,7 @@ mod tests {
                 let mut evict = |map: &[u64], number| calls.evict(&mut card, &mut disk, &mut map.to_vec(), number, &choice, allowance);
                 assert_eq!(evict(&[0; 2], 99), refused(15, 15));
                 assert_eq!([99, 5].map(|number| evict(&map, number)), [refused(10, 17), refused(13, 17)]);
-                let answer = calls.load(&mut card.clone(), &disk, &mut map.clone(), 5, &choice, allowance);
+                let answer = calls.load(&mut card.clone(), &disk, &mut map.clone(), &mut ascending(), 5, &choice, allowance);
                 assert_eq!(answer == Answer::Refused(17), !passes);
                 for number in [1, 3] {
                     let answer = calls.evict(&mut card.clone(), &mut disk.clone(), &mut map.clone(), number, &choice, allowance);
@@ -333,7 +333,7 @@ mod tests {
                     let (mut card, mut disk, mut map, choice) = (card.clone(), disk.clone(), map, in_order(block, allowance as u64));
                     let answer = match call {
                         0 => calls.commit(&mut card, &mut map, &[5, 3], &data, &choice, allowance as u64),
-                        1 => calls.load(&mut card, &disk, &mut map, 5, &choice, allowance as u64),
+                        1 => calls.load(&mut card, &disk, &mut map, &mut ascending(), 5, &choice, allowance as u64),
                         _ => calls.evict(&mut card, &mut disk, &mut map, 3, &choice, allowance as u64),
                     };
                     assert_eq!(answer == Answer::Cut, allowance < list.len());

@@ -1,39 +1,57 @@
-//! Two implementations side by side: each call is made on both, then the answers and every byte of card, disk, output and map are
-//! compared. The map is handed on as a station does, and the calls that take one are also tried with wrong ones; so are those that take
-//! a choice. A preview is held to the commits of the same numbers and data.
+//! Two implementations side by side: each call is made on both, then the answers and every byte of card, disk, output, map and table are
+//! compared. Map and table are handed on as a station does, and the calls that take one are also tried with wrong ones; so are those that
+//! take a choice. A preview is held to the commits of the same numbers and data, and a commit that makes room to the evicts and the commit
+//! that it is made of.
 
 use crate::choices::{Pick, PICKS, WRONG_CHOICES};
-use crate::model::{commit_stores, in_order, map_of, zeros, Card, Model, MAP_BITS};
+use crate::model::{ascending, commit_stores, cut_run, in_order, map_of, zeros, Card, Model, Run, MAP_BITS, TABLE};
 use crate::random::{mix, Random};
+use crate::room::{cases, in_a_row, keeps_law, CASES};
+use crate::tables::{WrongTable, ORDERS, WRONG_TABLES};
 use crate::{Answer, Cached, Calls, FreeMap, Geometry, Place, State};
 use std::collections::HashMap;
 
-pub const CALLS: [&str; 12] =
-    ["format", "commit", "preview", "load", "evict", "recover", "read", "look", "state", "cached", "make map", "free count"];
+pub const CALLS: [&str; 13] = [
+    "format",
+    "commit",
+    "room-making commit",
+    "preview",
+    "load",
+    "evict",
+    "recover",
+    "read",
+    "look",
+    "state",
+    "cached",
+    "make map",
+    "free count",
+];
 
 /// The places of the calls in `CALLS`.
 const FORMAT: usize = 0;
 const COMMIT: usize = 1;
-const PREVIEW: usize = 2;
-const LOAD: usize = 3;
-const EVICT: usize = 4;
-const RECOVER: usize = 5;
-const READ: usize = 6;
-const LOOK: usize = 7;
-const STATE: usize = 8;
-const CACHED: usize = 9;
-const MAKE_MAP: usize = 10;
-const FREE_COUNT: usize = 11;
+const ROOM: usize = 2;
+const PREVIEW: usize = 3;
+const LOAD: usize = 4;
+const EVICT: usize = 5;
+const RECOVER: usize = 6;
+const READ: usize = 7;
+const LOOK: usize = 8;
+const STATE: usize = 9;
+const CACHED: usize = 10;
+const MAKE_MAP: usize = 11;
+const FREE_COUNT: usize = 12;
 
 /// The refusals that each call may give, in the order of `CALLS`; those of a call in the order in which it asks.
 pub const REFUSALS: [&[usize]; CALLS.len()] = [
     &[1, 2],
     &[1, 2, 4, 5, 6, 7, 15, 8, 9, 17, 10, 11, 14],
+    &[1, 2, 3, 4, 5, 6, 7, 15, 16, 8, 9, 17, 10, 11, 14],
     &[1, 2, 4, 5, 6, 7, 15, 8, 9, 10, 11, 14],
-    &[1, 2, 3, 4, 5, 6, 7, 15, 17, 10, 12, 14],
+    &[1, 2, 3, 4, 5, 6, 7, 15, 16, 17, 10, 12, 14],
     &[1, 2, 3, 4, 5, 6, 7, 15, 17, 10, 13],
     &[1, 2, 4, 5, 6, 15],
-    &[1, 2, 3, 4, 5, 6, 7, 9, 10],
+    &[1, 2, 3, 4, 5, 6, 7, 16, 9, 10],
     &[1, 2, 3, 4, 5, 6, 7, 10],
     &[1, 2, 4, 5, 6],
     &[1, 2, 4, 5, 6, 7],
@@ -44,8 +62,9 @@ pub const REFUSALS: [&[usize]; CALLS.len()] = [
 /// One more than the largest number of a refusal.
 const NUMBERS: usize = 18;
 
-const TAKE_A_MAP: [usize; 5] = [COMMIT, PREVIEW, LOAD, EVICT, RECOVER];
-const TAKE_A_CHOICE: [usize; 3] = [COMMIT, LOAD, EVICT];
+const TAKE_A_MAP: [usize; 6] = [COMMIT, ROOM, PREVIEW, LOAD, EVICT, RECOVER];
+const TAKE_A_TABLE: [usize; 3] = [ROOM, LOAD, READ];
+const TAKE_A_CHOICE: [usize; 4] = [COMMIT, ROOM, LOAD, EVICT];
 
 /// Format, preview, make map and free count have one kind of answer besides a refusal.
 fn has_second_kind(call: usize) -> bool {
@@ -170,6 +189,14 @@ pub struct Tally {
     /// The refusals that a call gives for something else than its choice, tried with a wrong one: those asked before 17 came all the
     /// same, those asked after it did not.
     pub beside: [[u64; NUMBERS]; CALLS.len()],
+    /// Of the wrong tables that a call refused with 16: how many of each kind, and the places at which a number stood that stands
+    /// elsewhere; and as above the refusals for something else, tried with a wrong table.
+    pub tables: [[u64; WRONG_TABLES.len()]; CALLS.len()],
+    pub places: [u128; CALLS.len()],
+    pub beside_table: [[u64; NUMBERS]; CALLS.len()],
+    /// What the commits that make room came upon, and how many of them were made once more of evicts and a commit.
+    pub cases: [u64; CASES.len()],
+    pub in_a_row: u64,
     /// Of the previews refused with 9: how many for each wrong output alone, and how many for the data alone.
     pub outputs: [u64; WRONG_OUTPUTS.len()],
     pub odd_data: u64,
@@ -193,22 +220,28 @@ impl Tally {
             more(&mut self.picks[call], &other.picks[call]);
             more(&mut self.choices[call], &other.choices[call]);
             more(&mut self.beside[call], &other.beside[call]);
+            more(&mut self.tables[call], &other.tables[call]);
+            more(&mut self.beside_table[call], &other.beside_table[call]);
             self.bits[call] |= other.bits[call];
+            self.places[call] |= other.places[call];
         }
         more(&mut self.outputs, &other.outputs);
+        more(&mut self.cases, &other.cases);
+        self.in_a_row += other.in_a_row;
         more(&mut self.foretold, &other.foretold);
         self.odd_data += other.odd_data;
     }
 
-    /// One line: calls, dones, cuts and those that a choice decides, previews, where blocks were found, conditions, entries told, maps
+    /// One line: calls, dones, those that made room, cuts and those that a choice decides, previews, where blocks were found, conditions, entries told, maps
     /// made, refusals by number.
     pub fn line(&self) -> String {
-        let stored = [FORMAT, COMMIT, LOAD, EVICT, RECOVER];
+        let stored = [FORMAT, COMMIT, ROOM, LOAD, EVICT, RECOVER];
         let mut line = format!(
-            "{} calls: {} done, {} cut ({} by a choice), {} previewed, {} on card, {} on disk, {} settled, {} unsettled, {} in use, {} unused, \
-             {} maps; refused",
+            "{} calls: {} done, {} of them with evictions, {} cut ({} by a choice), {} previewed, {} on card, {} on disk, {} settled, \
+             {} unsettled, {} in use, {} unused, {} maps; refused",
             self.calls(),
             stored.iter().map(|call| self.first[*call]).sum::<u64>(),
+            self.cases[0],
             stored.iter().map(|call| self.second[*call]).sum::<u64>(),
             self.picks.iter().flatten().sum::<u64>(),
             self.first[PREVIEW],
@@ -228,9 +261,10 @@ impl Tally {
     }
 
     /// Every answer that a call may give has occurred, and no other; each call that takes a map has refused every kind of wrong one
-    /// with 15, and preview every wrong output with 9; commits came out as they were foretold. Of the choices none is missing.
+    /// with 15, and preview every wrong output with 9; commits came out as they were foretold. Of choices and tables none is missing.
     pub fn complete(&self) -> Result<(), String> {
         self.complete_choices()?;
+        self.complete_tables()?;
         for call in 0..CALLS.len() {
             let name = CALLS[call];
             if self.first[call] == 0 {
@@ -279,6 +313,30 @@ impl Tally {
             if let Some(number) = REFUSALS[call].iter().find(|number| **number != 17 && self.beside[call][**number] == 0) {
                 return Err(format!("{name}: no wrong choice beside refusal {number}"));
             }
+        }
+        Ok(())
+    }
+
+    /// Each call that takes a table has refused every kind of wrong one with 16, with each place wrong once, and was given a wrong one
+    /// beside each of its other refusals. Commits that make room came upon all that they can.
+    fn complete_tables(&self) -> Result<(), String> {
+        for call in TAKE_A_TABLE {
+            let name = CALLS[call];
+            if let Some((wrong, _)) = WRONG_TABLES.iter().zip(self.tables[call]).find(|(_, count)| *count == 0) {
+                return Err(format!("{name}: no wrong table of the kind {wrong:?}"));
+            }
+            if let Some(place) = (0..TABLE).find(|place| self.places[call] >> place & 1 == 0) {
+                return Err(format!("{name}: no table with a number twice, once at place {place}"));
+            }
+            if let Some(number) = REFUSALS[call].iter().find(|number| **number != 16 && self.beside_table[call][**number] == 0) {
+                return Err(format!("{name}: no wrong table beside refusal {number}"));
+            }
+        }
+        if let Some((case, _)) = CASES.iter().zip(self.cases).find(|(_, count)| *count == 0) {
+            return Err(format!("{}: {case:?} never occurred", CALLS[ROOM]));
+        }
+        if self.in_a_row == 0 {
+            return Err(format!("{}: never made once more of evicts and a commit", CALLS[ROOM]));
         }
         Ok(())
     }
@@ -406,6 +464,7 @@ struct Lent<'l> {
     card: &'l mut [u8],
     disk: &'l mut [u8],
     map: &'l mut [u64],
+    table: &'l mut [u8],
     asked: &'l mut Asked,
     choice: &'l [u8],
 }
@@ -422,22 +481,27 @@ pub struct Pair<'a> {
     asked: [Asked; 2],
     /// Lent to both.
     choice: Buffer,
-    /// The station's map.
+    /// The station's map and its table.
     map: [Words<u64>; 2],
+    table: [Buffer; 2],
     /// The map is of another card than the one that is there, or of one before a cut.
     out_of_step: bool,
     /// The map as it was before the last storing call.
     stale: Vec<u64>,
-    /// How many wrong maps each call was tried with, and how many wrong choices.
+    /// How many wrong maps each call was tried with, how many wrong choices and how many wrong tables.
     turns: [usize; CALLS.len()],
     choice_turns: [usize; CALLS.len()],
+    table_turns: [usize; CALLS.len()],
+    reads: usize,
     pub tally: Tally,
 }
 
+/// Card and disk, and the table of their station.
 #[derive(Clone)]
 pub struct Snapshot {
     pub card: Vec<u8>,
     pub disk: Vec<u8>,
+    pub table: Vec<u8>,
 }
 
 impl<'a> Pair<'a> {
@@ -451,10 +515,13 @@ impl<'a> Pair<'a> {
             asked: [Asked::new(shift), Asked::new(shift)],
             choice: Buffer::new(&[], shift),
             map: [Words::new(&[0; 2], shift), Words::new(&[0; 2], shift)],
+            table: [Buffer::new(&ascending(), shift), Buffer::new(&ascending(), shift)],
             out_of_step: true,
             stale: vec![0; 2],
             turns: [shift; CALLS.len()],
             choice_turns: [shift; CALLS.len()],
+            table_turns: [shift; CALLS.len()],
+            reads: 0,
             tally: Tally::default(),
         }
     }
@@ -471,6 +538,10 @@ impl<'a> Pair<'a> {
         self.out[1].get()
     }
 
+    pub fn table(&self) -> &[u8] {
+        self.table[1].get()
+    }
+
     /// B, by the card's header; where that is refused, the smallest.
     fn block(&self) -> usize {
         Geometry::from_header(self.card()).map_or(512, |geometry| geometry.block())
@@ -481,8 +552,13 @@ impl<'a> Pair<'a> {
         self.map[1].set(map);
     }
 
+    pub fn set_table(&mut self, table: &[u8]) {
+        self.table[0].set(table);
+        self.table[1].set(table);
+    }
+
     pub fn snapshot(&self) -> Snapshot {
-        Snapshot { card: self.card().to_vec(), disk: self.disk().to_vec() }
+        Snapshot { card: self.card().to_vec(), disk: self.disk().to_vec(), table: self.table().to_vec() }
     }
 
     pub fn set(&mut self, to: &Snapshot) {
@@ -490,6 +566,7 @@ impl<'a> Pair<'a> {
             self.card[side].set(&to.card);
             self.disk[side].set(&to.disk);
         }
+        self.set_table(&to.table);
         self.out_of_step = true;
     }
 
@@ -513,6 +590,7 @@ impl<'a> Pair<'a> {
             .and_then(|_| if self.disk[0].length <= WHOLE_DISK { self.whole() } else { Ok(()) })
             .and_then(|_| same_bytes("output", &self.out[0], &self.out[1]))
             .and_then(|_| same_words("map", &self.map[0], &self.map[1]))
+            .and_then(|_| same_bytes("table", &self.table[0], &self.table[1]))
             .map_err(|difference| format!("{}: {difference}", what()))
     }
 
@@ -575,7 +653,7 @@ impl<'a> Pair<'a> {
         Ok(())
     }
 
-    /// A call with a wrong map, every third time with a wrong choice too: refused, and nothing changed.
+    /// A call with a wrong map, every third time with a wrong choice too, every third with a wrong table: refused, and nothing changed.
     fn try_wrong(&mut self, call: usize, run: &Call, what: &dyn Fn() -> String) -> Result<(), String> {
         let turn = self.turns[call];
         self.turns[call] += 1;
@@ -589,24 +667,32 @@ impl<'a> Pair<'a> {
         if tried == right && card.is_some() {
             return Ok(());
         }
-        let (choice, both_wrong) = (self.choice.get().to_vec(), turn % 3 == 2 && TAKE_A_CHOICE.contains(&call));
-        if both_wrong {
+        let (choice, choice_too) = (self.choice.get().to_vec(), turn % 3 == 2 && TAKE_A_CHOICE.contains(&call));
+        if choice_too {
             self.choice.set(&WRONG_CHOICES[turn % WRONG_CHOICES.len()].choice(turn, &choice, self.block()));
+        }
+        let table_too = turn % 3 == 1 && TAKE_A_TABLE.contains(&call);
+        let table = table_too.then(|| self.table().to_vec());
+        if let Some(table) = &table {
+            self.set_table(&WRONG_TABLES[turn % WRONG_TABLES.len()].table(turn, table));
         }
         self.set_map(&tried);
         match self.both(call, run, &|| format!("{} with a wrong map {tried:X?}", what()))? {
             Answer::Refused(15) => {
                 self.tally.wrongs[call][wrong as usize] += 1;
-                self.tally.beside[call][15] += u64::from(both_wrong);
+                self.tally.beside[call][15] += u64::from(choice_too);
+                self.tally.beside_table[call][15] += u64::from(table_too);
                 if wrong == Wrong::Bit {
                     self.tally.bits[call] |= 1 << Wrong::bit(turn);
                 }
             }
-            Answer::Refused(_) => {}
+            // nothing that is asked after 15
+            Answer::Refused(number) if self.place_of(call, number) < self.place_of(call, 15) => {}
             answer => return Err(format!("{}: {answer:?} with a wrong map {tried:X?}", what())),
         }
         self.set_map(&map);
         self.choice.set(&choice);
+        table.iter().for_each(|table| self.set_table(table));
         Ok(())
     }
 
@@ -628,21 +714,64 @@ impl<'a> Pair<'a> {
         }
     }
 
-    /// What is asked before 17 is answered with a wrong choice too; what is asked after it only with a right one, as `answer`.
-    fn is_in_order(&mut self, call: usize, with_wrong: u32, answer: Answer) -> Result<(), String> {
-        let place = |number: u32| REFUSALS[call].iter().position(|one| *one == number as usize);
-        let fits = match answer {
-            Answer::Refused(number) if place(number) < place(17) => with_wrong == number,
-            Answer::Refused(17) => false,
-            _ => with_wrong == 17,
-        };
-        if let Answer::Refused(number) = answer {
-            self.tally.beside[call][number as usize] += 1;
+    /// A storing call with a wrong table, every third time with a wrong choice too: refused, and nothing changed. Gives the refusal.
+    fn try_wrong_table(&mut self, call: usize, run: &Call, what: &dyn Fn() -> String) -> Result<u32, String> {
+        let turn = self.table_turns[call];
+        let (choice, choice_too) = (self.choice.get().to_vec(), turn % 3 == 2);
+        if choice_too {
+            self.choice.set(&WRONG_CHOICES[turn % WRONG_CHOICES.len()].choice(turn, &choice, self.block()));
         }
+        let (kind, right) = self.lend_wrong_table(call);
+        let answer = self.both(call, run, &|| format!("{} with a wrong table, {:?}", what(), WRONG_TABLES[kind]))?;
+        self.set_table(&right);
+        self.choice.set(&choice);
+        let Answer::Refused(number) = answer else {
+            return Err(format!("{}: {answer:?} with a wrong table, {:?}", what(), WRONG_TABLES[kind]));
+        };
+        self.count_wrong_table(call, turn, number);
+        if number == 16 && choice_too {
+            self.tally.beside[call][16] += 1;
+            self.tally.beside_table[call][17] += 1;
+        }
+        Ok(number)
+    }
+
+    /// Lends the wrong table of this turn. Gives its kind and the right one.
+    fn lend_wrong_table(&mut self, call: usize) -> (usize, Vec<u8>) {
+        let turn = self.table_turns[call];
+        self.table_turns[call] += 1;
+        let (kind, right) = (WrongTable::kind(turn), self.table().to_vec());
+        self.set_table(&WRONG_TABLES[kind].table(turn, &right));
+        (kind, right)
+    }
+
+    fn count_wrong_table(&mut self, call: usize, turn: usize, number: u32) {
+        let kind = WrongTable::kind(turn);
+        if number == 16 {
+            self.tally.tables[call][kind] += 1;
+            self.tally.places[call] |= u128::from(WRONG_TABLES[kind] == WrongTable::Twice) << WrongTable::place(turn);
+        }
+    }
+
+    /// When a call asks for a refusal's condition.
+    fn place_of(&self, call: usize, number: u32) -> Option<usize> {
+        REFUSALS[call].iter().position(|one| *one == number as usize)
+    }
+
+    /// What a call asks before `asked`, 16 or 17, it answers with a wrong table or choice too, as `with_wrong`; what it asks after that
+    /// only with a right one, as `refusal`.
+    fn is_in_order(&mut self, call: usize, asked: u32, with_wrong: u32, refusal: Option<u32>) -> Result<(), String> {
+        let fits = match refusal {
+            Some(number) if self.place_of(call, number) < self.place_of(call, asked) => with_wrong == number,
+            Some(number) => with_wrong == asked && number != asked,
+            None => with_wrong == asked,
+        };
+        let beside = if asked == 16 { &mut self.tally.beside_table } else { &mut self.tally.beside };
+        refusal.iter().for_each(|number| beside[call][*number as usize] += 1);
         if fits {
             Ok(())
         } else {
-            Err(format!("{answer:?}, but refused with {with_wrong} where the choice is wrong"))
+            Err(format!("refusal {refusal:?}, but {with_wrong} where {asked} holds"))
         }
     }
 
@@ -651,6 +780,7 @@ impl<'a> Pair<'a> {
             card: self.card[side].get_mut(),
             disk: self.disk[side].get_mut(),
             map: self.map[side].get_mut(),
+            table: self.table[side].get_mut(),
             asked: &mut self.asked[side],
             choice: self.choice.get(),
         };
@@ -666,15 +796,21 @@ impl<'a> Pair<'a> {
         Ok(answer)
     }
 
-    /// A storing call that takes a choice: with a wrong one first, then with this.
+    /// A storing call that takes a choice: with a wrong one first, and with a wrong table where it takes one, then with these.
     fn choosing(&mut self, call: usize, choice: &[u8], run: &Call, what: &dyn Fn() -> String) -> Result<Answer, String> {
         self.choice.set(choice);
         if self.out_of_step {
             self.make_again()?;
         }
-        let with_wrong = self.try_wrong_choice(call, run, what)?;
+        let mut refusals = vec![(17, self.try_wrong_choice(call, run, what)?)];
+        if TAKE_A_TABLE.contains(&call) {
+            refusals.push((16, self.try_wrong_table(call, run, what)?));
+        }
         let answer = self.storing(call, run, what)?;
-        self.is_in_order(call, with_wrong, answer).map_err(|difference| format!("{}: {difference}", what()))?;
+        let refusal = if let Answer::Refused(number) = answer { Some(number) } else { None };
+        for (asked, with_wrong) in refusals {
+            self.is_in_order(call, asked, with_wrong, refusal).map_err(|difference| format!("{}: {difference}", what()))?;
+        }
         Ok(answer)
     }
 
@@ -813,7 +949,7 @@ impl<'a> Pair<'a> {
 
     pub fn load(&mut self, block: u64, pick: Pick, allowance: u64) -> Result<Answer, String> {
         let what = || format!("load({block}, choice {pick:?}, allowance {allowance})");
-        let run: &Call = &|calls, lent| calls.load(lent.card, lent.disk, lent.map, block, lent.choice, allowance);
+        let run: &Call = &|calls, lent| calls.load(lent.card, lent.disk, lent.map, lent.table, block, lent.choice, allowance);
         let answer = self.choosing(LOAD, &self.picked(LOAD, pick, allowance), run, &what)?;
         self.count_cut(LOAD, pick, answer == Answer::Cut && allowance < self.block() as u64 / 8);
         Ok(answer)
@@ -831,18 +967,69 @@ impl<'a> Pair<'a> {
         let answer = self.choosing(EVICT, &self.picked(EVICT, pick, allowance), run, &what)?;
         let inside = allowance < self.block() as u64 / 512;
         self.count_cut(EVICT, pick, answer == Answer::Cut && inside && self.is_modified(block));
-        if self.disk[1].length > WHOLE_DISK {
-            // the block itself and a block's length to each side
-            let size = 1 << self.card[1].get()[5].min(12);
-            let middle = (block.min(1 << 20) as usize * size).min(self.disk[1].length);
-            for (from, to) in [(0, 2 * size), (middle.saturating_sub(size), middle + 2 * size)] {
-                let to = to.min(self.disk[1].length);
-                if self.disk[0].get()[from..to] != self.disk[1].get()[from..to] {
-                    return Err(format!("{}: disk differs from {from} to {to}", what()));
-                }
+        self.same_around(&[block]).map_err(|difference| format!("{}: {difference}", what()))?;
+        Ok(answer)
+    }
+
+    /// Of a long disk: these blocks with a block's length to each side, and the first ones, are the same.
+    fn same_around(&self, blocks: &[u64]) -> Result<(), String> {
+        let length = self.disk[1].length;
+        if length <= WHOLE_DISK {
+            return Ok(());
+        }
+        let size = 1 << self.card()[5].min(12);
+        let middles = blocks.iter().map(|block| (*block.min(&(1 << 20)) as usize * size).min(length));
+        for (from, to) in middles.map(|middle| (middle.saturating_sub(size), middle + 2 * size)).chain([(0, 2 * size)]) {
+            let to = to.min(length);
+            if self.disk[0].get()[from..to] != self.disk[1].get()[from..to] {
+                return Err(format!("disk differs from {from} to {to}"));
             }
         }
+        Ok(())
+    }
+
+    /// The choice that is picked for a commit that makes room: where the allowance ends is told by its runs.
+    fn picked_making_room(&self, pick: Pick, runs: &[Run], allowance: u64) -> Vec<u8> {
+        let (seed, block) = (self.choice_turns[ROOM] as u64, self.block());
+        match cut_run(runs, allowance) {
+            Some((run, within)) => pick.choice(seed, block, run.stores().len(), within),
+            None => pick.choice(seed, block, block / 8, allowance),
+        }
+    }
+
+    /// A commit that makes room. Every fourth that is done is made once more of evicts and a commit; 14 is held to its law.
+    pub fn commit_making_room(&mut self, numbers: &[u64], data: &[u8], pick: Pick, allowance: u64) -> Result<Answer, String> {
+        let what = || format!("room-making commit({numbers:?}, data of {}, choice {pick:?}, allowance {allowance})", data.len());
+        let card = Card::open_settled(self.card(), None).ok();
+        let table = self.table().to_vec();
+        let runs = Model::default().room_list(self.card(), self.disk().len(), &table, numbers, data).unwrap_or_default();
+        let before = (self.table_turns[ROOM] % 4 == 0 && self.disk().len() <= WHOLE_DISK).then(|| self.snapshot());
+        let run: &Call =
+            &|calls, lent| calls.commit_making_room(lent.card, lent.disk, lent.map, lent.table, numbers, data, lent.choice, allowance);
+        let answer = self.choosing(ROOM, &self.picked_making_room(pick, &runs, allowance), run, &what)?;
+        let unordered = matches!(cut_run(&runs, allowance), Some((Run::Unordered(_), _)));
+        self.count_cut(ROOM, pick, answer == Answer::Cut && unordered);
+        if let Some(card) = card {
+            let victims = Model::default().victims(&card, &table, numbers);
+            let victims: Vec<u64> = victims.iter().map(|index| card.entries[*index].unwrap().number).collect();
+            cases(&card, &table, numbers, allowance, answer).iter().for_each(|case| self.tally.cases[*case as usize] += 1);
+            let rules = keeps_law(&card, numbers, answer)
+                .and_then(|_| self.same_around(&victims))
+                .and_then(|_| before.map_or(Ok(()), |before| self.is_made_in_a_row(before, &victims, numbers, data, answer)));
+            rules.map_err(|difference| format!("{}: {difference}", what()))?;
+        }
         Ok(answer)
+    }
+
+    /// Evicts of the victims, as many as there are too few free data blocks, and then the commit leave what this call left.
+    fn is_made_in_a_row(&mut self, before: Snapshot, victims: &[u64], numbers: &[u64], data: &[u8], answer: Answer) -> Result<(), String> {
+        let Answer::Done(count) = answer else { return Ok(()) };
+        let (made, stores) = in_a_row(self.one, before, victims, numbers, data)?;
+        if made.card != self.card() || made.disk != self.disk() || stores != count {
+            return Err(format!("evicts and a commit leave something else, or their {stores} stores are not {count}"));
+        }
+        self.tally.in_a_row += 1;
+        Ok(())
     }
 
     pub fn recover(&mut self, allowance: u64) -> Result<Answer, String> {
@@ -864,7 +1051,25 @@ impl<'a> Pair<'a> {
         Ok(b)
     }
 
+    /// A read, every sixteenth time with a wrong table first.
     pub fn read(&mut self, block: u64, out_length: usize) -> Result<Place, String> {
+        let what = |table: &str| format!("read({block}, output of {out_length}){table}");
+        self.reads += 1;
+        if self.reads % 16 != 1 {
+            return self.read_once(block, out_length, || what(""));
+        }
+        let (turn, (_, right)) = (self.table_turns[READ], self.lend_wrong_table(READ));
+        let wrong = self.read_once(block, out_length, || what(" with a wrong table"))?;
+        self.set_table(&right);
+        let Place::Refused(with_wrong) = wrong else { return Err(format!("{}: {wrong:?}", what(" with a wrong table"))) };
+        self.count_wrong_table(READ, turn, with_wrong);
+        let place = self.read_once(block, out_length, || what(""))?;
+        let refusal = if let Place::Refused(number) = place { Some(number) } else { None };
+        self.is_in_order(READ, 16, with_wrong, refusal).map_err(|difference| format!("{}: {difference}", what("")))?;
+        Ok(place)
+    }
+
+    fn read_once(&mut self, block: u64, out_length: usize, what: impl Fn() -> String) -> Result<Place, String> {
         for side in 0..2 {
             if self.out[side].length != out_length {
                 self.out[side].set(&vec![0x5A; out_length]);
@@ -872,9 +1077,11 @@ impl<'a> Pair<'a> {
                 self.out[side].get_mut().fill(0x5A);
             }
         }
-        let a = self.one.read(self.card[0].get(), self.disk[0].get(), block, self.out[0].get_mut());
-        let b = self.other.read(self.card[1].get(), self.disk[1].get(), block, self.out[1].get_mut());
-        self.placed(READ, a, b, || format!("read({block}, output of {out_length})"))
+        let [a_table, b_table] = &mut self.table;
+        let [a_out, b_out] = &mut self.out;
+        let a = self.one.read(self.card[0].get(), self.disk[0].get(), a_table.get_mut(), block, a_out.get_mut());
+        let b = self.other.read(self.card[1].get(), self.disk[1].get(), b_table.get_mut(), block, b_out.get_mut());
+        self.placed(READ, a, b, what)
     }
 
     pub fn look(&mut self, block: u64) -> Result<Place, String> {
@@ -992,8 +1199,11 @@ fn settled(state: State) -> bool {
 #[derive(Clone, Debug)]
 pub enum Step {
     Commit(Vec<u64>, u64),
+    /// A commit that makes room.
+    Room(Vec<u64>, u64),
     Load(u64),
     Evict(u64),
+    Read(u64),
 }
 
 /// Saves over old and new blocks, round the ring, with loads and evicts of clean and modified blocks.
@@ -1040,17 +1250,24 @@ fn make(pair: &mut Pair, geometry: Geometry, step: &Step, pick: Pick, allowance:
             row.feed(numbers, &data, answer);
             Ok(answer)
         }
+        Step::Room(numbers, seed) => {
+            let data = data_of(*seed, numbers.len(), geometry.block());
+            let answer = pair.commit_making_room(numbers, &data, pick, allowance)?;
+            row.feed(numbers, &data, answer);
+            Ok(answer)
+        }
         Step::Load(block) => pair.load(*block, pick, allowance),
         Step::Evict(block) => pair.evict(*block, pick, allowance),
+        Step::Read(block) => pair.read(*block, geometry.block()).map(|_| Answer::Done(0)),
     }
 }
 
 /// The step in full, where the choice plays no part.
-fn make_in_full(pair: &mut Pair, geometry: Geometry, step: &Step, row: &mut Row) -> Result<u64, String> {
+pub fn make_in_full(pair: &mut Pair, geometry: Geometry, step: &Step, row: &mut Row) -> Result<u64, String> {
     done(make(pair, geometry, step, Pick::Zeros, u64::MAX, row)?)
 }
 
-fn done(answer: Answer) -> Result<u64, String> {
+pub fn done(answer: Answer) -> Result<u64, String> {
     match answer {
         Answer::Done(count) => Ok(count),
         other => Err(format!("done expected, answer {other:?}")),
@@ -1059,37 +1276,45 @@ fn done(answer: Answer) -> Result<u64, String> {
 
 /// Part a: at each step of the script every allowance from 0 to m, each with every kind of choice; after each of them a recovery at every
 /// allowance, after each cut one a second at every allowance, then one in full; then the row, the row once all is evicted, and the step
-/// once more.
-pub fn every_cut<'a>(one: &'a dyn Calls, other: &'a dyn Calls, geometry: Geometry, blocks: u64, stride: u64) -> Result<Tally, String> {
+/// once more. Inside the words of one block only every stride-th place is tried so, the others with one choice and no recovery.
+pub fn every_cut<'a>(
+    one: &'a dyn Calls,
+    other: &'a dyn Calls,
+    geometry: Geometry,
+    script: &[Step],
+    blocks: u64,
+    stride: u64,
+) -> Result<Tally, String> {
     let seed = 17;
     let mut card = vec![0; geometry.card_length()];
     Random(seed).fill(&mut card);
     let mut pair = Pair::new(one, other, &card, &first_disk(seed, geometry), 1);
     let mut row = Row::new(seed, geometry);
     done(pair.format(geometry.k, geometry.slots, geometry.data_blocks, geometry.disk_blocks)?)?;
-    for step in script() {
+    for step in script {
         let before = pair.snapshot();
-        let m = make_in_full(&mut pair, geometry, &step, &mut row.clone())?;
+        let m = make_in_full(&mut pair, geometry, step, &mut row.clone())?;
         let trailing = m.saturating_sub(4 * geometry.data_blocks + 8);
         for allowance in 0..=m {
-            // inside the words of one block only every stride-th place is followed up
-            if allowance > 3 && allowance < trailing && allowance % stride != 0 && allowance % (geometry.block() as u64 / 8) > 6 {
-                continue;
-            }
-            for pick in PICKS {
+            let inside = allowance > 3 && allowance < trailing && allowance % (geometry.block() as u64 / 8) > 6;
+            let followed_up = !inside || allowance % stride == 0;
+            let one_pick = [PICKS[allowance as usize % PICKS.len()]];
+            for pick in if followed_up { &PICKS[..] } else { &one_pick } {
                 pair.set(&before);
-                let mut after = row.clone();
-                let answer = make(&mut pair, geometry, &step, pick, allowance, &mut after)?;
-                if answer != (if allowance < m { Answer::Cut } else { Answer::Done(m) }) {
+                let (mut after, awaited) = (row.clone(), if allowance < m { Answer::Cut } else { Answer::Done(m) });
+                let answer = make(&mut pair, geometry, step, *pick, allowance, &mut after)?;
+                if answer != awaited {
                     return Err(format!("{step:?} of {m} stores, choice {pick:?}, allowance {allowance}: {answer:?}"));
                 }
                 as_left(&mut pair, geometry, blocks, &after)?;
-                every_recovery(&mut pair, blocks, &after)?;
-                goes_on(&mut pair, geometry, blocks, &step, answer, &mut after)?;
+                if followed_up {
+                    every_recovery(&mut pair, blocks, &after)?;
+                    goes_on(&mut pair, geometry, blocks, step, answer, &mut after)?;
+                }
             }
         }
         pair.set(&before);
-        make_in_full(&mut pair, geometry, &step, &mut row)?;
+        make_in_full(&mut pair, geometry, step, &mut row)?;
     }
     Ok(pair.tally)
 }
@@ -1178,7 +1403,7 @@ pub fn random_history<'a>(
             _ => random.below(6 * (block as u64 / 8 + 4) + 2),
         };
         let choice = random.pick(&PICKS);
-        match random.below(16) {
+        match random.below(19) {
             0..=5 => {
                 let largest = (geometry.slots - 1).min(geometry.data_blocks / 2).min(geometry.disk_blocks).max(1);
                 let n = match random.below(20) {
@@ -1223,10 +1448,16 @@ pub fn random_history<'a>(
             14 => {
                 pair.look(pick(&mut random))?;
             }
-            _ => {
+            15 => {
                 pair.state()?;
                 pair.listed(geometry.data_blocks)?;
             }
+            _ => save_making_room(&mut pair, &mut random, geometry, &pick, choice, &mut row)?,
+        }
+        if random.once_in(50) {
+            // the station's table, unlike card and disk, may be another one at any time
+            let table = random.pick(&ORDERS).table(random.next());
+            pair.set_table(&table);
         }
         let now = if turn % 4 == 0 { pair.state()? } else { continue };
         match now {
@@ -1256,18 +1487,50 @@ pub fn random_history<'a>(
     Ok(pair.tally)
 }
 
+/// A commit that makes room, of up to as many blocks as the card has, with some of them cached.
+fn save_making_room(
+    pair: &mut Pair,
+    random: &mut Random,
+    geometry: Geometry,
+    number: &dyn Fn(&mut Random) -> u64,
+    pick: Pick,
+    row: &mut Row,
+) -> Result<(), String> {
+    let largest = (geometry.slots - 1).min(geometry.data_blocks).min(geometry.disk_blocks);
+    let most = if random.once_in(3) { largest } else { largest.min(4) };
+    let n = 1 + random.below(most);
+    let mut numbers: Vec<u64> = Vec::new();
+    for _ in 0..2 * n {
+        let number = number(random);
+        if (numbers.len() as u64) < n && (!numbers.contains(&number) || random.once_in(40)) {
+            numbers.push(number);
+        }
+    }
+    let (data, words) = (data_of(random.next(), numbers.len(), geometry.block()), geometry.block() as u64 / 8);
+    let m = commit_stores(numbers.len() as u64, geometry.block() as u64) + numbers.len() as u64 * (words / 64 + 1);
+    let allowance = match random.below(6) {
+        0 => random.below(m),
+        1 => random.below(2 * n * (words / 64 + 1)),
+        2 => m - random.below(m.min(words)),
+        _ => u64::MAX,
+    };
+    let answer = pair.commit_making_room(&numbers, &data, pick, allowance)?;
+    row.feed(&numbers, &data, answer);
+    Ok(())
+}
+
 /// A card somewhere in a history, cut or not, made by the model alone.
 pub fn some_card(random: &mut Random, geometry: Geometry) -> Snapshot {
     let model = Model::default();
     let mut card = vec![0; geometry.card_length()];
     random.fill(&mut card);
-    let mut disk = first_disk(random.next(), geometry);
+    let (mut disk, mut table) = (first_disk(random.next(), geometry), ascending());
     model.format(geometry.k, geometry.slots, geometry.data_blocks, geometry.disk_blocks, &mut card);
     for _ in 0..random.below(12) {
         let (number, mut map) = (random.below(geometry.disk_blocks), map_of(&card));
         match random.below(4) {
             0 => {
-                model.load(&mut card, &disk, &mut map, number, &zeros(geometry.block()), u64::MAX);
+                model.load(&mut card, &disk, &mut map, &mut table, number, &zeros(geometry.block()), u64::MAX);
             }
             1 => {
                 model.evict(&mut card, &mut disk, &mut map, number, &zeros(geometry.block()), u64::MAX);
@@ -1278,11 +1541,15 @@ pub fn some_card(random: &mut Random, geometry: Geometry) -> Snapshot {
                 let m = (n * (geometry.block() / 8 + 4) + 1) as u64;
                 let allowance = if random.once_in(3) { m - random.below(2 * n as u64 + 4) } else { m };
                 let (data, choice) = (data_of(random.next(), n, geometry.block()), in_order(geometry.block(), allowance));
-                model.commit(&mut card, &mut map, &numbers, &data, &choice, allowance);
+                if random.once_in(3) {
+                    model.commit_making_room(&mut card, &mut disk, &mut map, &mut table, &numbers, &data, &choice, allowance);
+                } else {
+                    model.commit(&mut card, &mut map, &numbers, &data, &choice, allowance);
+                }
             }
         }
     }
-    Snapshot { card, disk }
+    Snapshot { card, disk, table }
 }
 
 /// A card that caches the first blocks of its disk, as many as asked.
@@ -1290,11 +1557,11 @@ fn loaded(geometry: Geometry, count: u64) -> Snapshot {
     let model = Model::default();
     let (mut card, disk) = (vec![0; geometry.card_length()], first_disk(count, geometry));
     model.format(geometry.k, geometry.slots, geometry.data_blocks, geometry.disk_blocks, &mut card);
-    let (mut map, choice) = (map_of(&card), zeros(geometry.block()));
+    let (mut map, mut table, choice) = (map_of(&card), ascending(), zeros(geometry.block()));
     for block in 0..count {
-        assert!(matches!(model.load(&mut card, &disk, &mut map, block, &choice, u64::MAX), Answer::Done(_)));
+        assert!(matches!(model.load(&mut card, &disk, &mut map, &mut table, block, &choice, u64::MAX), Answer::Done(_)));
     }
-    Snapshot { card, disk }
+    Snapshot { card, disk, table }
 }
 
 pub fn put(bytes: &mut [u8], at: usize, value: &[u8]) {
@@ -1393,7 +1660,7 @@ pub fn drawn(random: &mut Random, geometry: Geometry) -> Snapshot {
             put(&mut card, at + 12, &current.to_be_bytes());
         }
     }
-    Snapshot { card, disk: first_disk(random.next(), geometry) }
+    Snapshot { card, disk: first_disk(random.next(), geometry), table: ascending() }
 }
 
 /// Every call on one card and disk, each from the same bytes.
@@ -1414,12 +1681,14 @@ fn every_call(pair: &mut Pair, random: &mut Random, geometry: Geometry, from: &S
     pair.recover(allowance)?;
     pair.recover(u64::MAX)?;
     pair.set(from);
-    let n = random.below(4) as usize;
+    let n = random.below(5) as usize;
     let numbers: Vec<u64> = (0..n).map(|_| some(random)).collect();
     let data = data_of(random.next(), n, block);
     let allowance = if random.once_in(3) { random.below((n * (block / 8 + 4) + 2) as u64) } else { u64::MAX };
     pair.preview(&numbers, &data[if random.once_in(8) { n.min(1) } else { 0 }..], some_output(random))?;
     pair.foretold(&numbers, &data, random.pick(&PICKS), allowance)?;
+    pair.set(from);
+    pair.commit_making_room(&numbers, &data, random.pick(&PICKS), allowance)?;
     pair.set(from);
     let allowance = if random.once_in(3) { random.below(block as u64 / 8 + 2) } else { u64::MAX };
     pair.load(some(random), random.pick(&PICKS), allowance)?;
@@ -1440,7 +1709,7 @@ pub fn damaged<'a>(one: &'a dyn Calls, other: &'a dyn Calls, geometry: Geometry,
                 let length = random.pick(&[0, 5, 100, 127, 128, geometry.card_length()]);
                 let mut card = vec![0; length];
                 random.fill(&mut card);
-                Snapshot { card, disk: vec![0; geometry.disk_length()] }
+                Snapshot { card, disk: vec![0; geometry.disk_length()], table: ascending() }
             }
             _ => {
                 let mut from = some_card(&mut random, geometry);
@@ -1453,6 +1722,9 @@ pub fn damaged<'a>(one: &'a dyn Calls, other: &'a dyn Calls, geometry: Geometry,
         };
         if turn % 4 == 0 && turn % 12 == 0 {
             damage(&mut random, geometry, &mut from);
+        }
+        if random.once_in(2) {
+            from.table = random.pick(&ORDERS).table(random.next());
         }
         every_call(&mut pair, &mut random, geometry, &from)?;
     }
@@ -1489,6 +1761,7 @@ pub fn arguments<'a>(one: &'a dyn Calls, other: &'a dyn Calls, seed: u64) -> Res
                 pair.evict(number, pick, allowance)?;
                 pair.evict(number, pick, u64::MAX)?;
                 pair.foretold(&[number], &data_of(number, 1, block), pick, allowance)?;
+                pair.commit_making_room(&[number], &data_of(number, 1, block), pick, allowance)?;
                 pair.recover(allowance)?;
             }
             for count in counts {
@@ -1516,6 +1789,9 @@ pub fn arguments<'a>(one: &'a dyn Calls, other: &'a dyn Calls, seed: u64) -> Res
                         if random.once_in(2) {
                             pair.recover(u64::MAX)?;
                         }
+                        if random.once_in(3) {
+                            pair.commit_making_room(list, &data[..length], pick, allowance)?;
+                        }
                     }
                 }
             }
@@ -1526,6 +1802,7 @@ pub fn arguments<'a>(one: &'a dyn Calls, other: &'a dyn Calls, seed: u64) -> Res
                 pair.read(0, block)?;
                 pair.load(1, Pick::Zeros, u64::MAX)?;
                 pair.evict(1, Pick::Zeros, u64::MAX)?;
+                pair.commit_making_room(&[0], &data_of(0, 1, block), Pick::Zeros, u64::MAX)?;
             }
         }
         tally.add(&pair.tally);
@@ -1537,6 +1814,8 @@ pub fn arguments<'a>(one: &'a dyn Calls, other: &'a dyn Calls, seed: u64) -> Res
         let mut pair = Pair::new(one, other, &from.card, &from.disk, 4);
         for _ in 0..2 * WRONG_MAPS.len() {
             pair.foretold(&[5], &data_of(5, 1, geometry.block()), Pick::Zeros, u64::MAX)?;
+            pair.set(&from);
+            pair.commit_making_room(&[5], &data_of(5, 1, geometry.block()), Pick::Zeros, u64::MAX)?;
             pair.set(&from);
             pair.load(5, Pick::Zeros, u64::MAX)?;
             pair.set(&from);
@@ -1594,7 +1873,7 @@ pub fn arguments<'a>(one: &'a dyn Calls, other: &'a dyn Calls, seed: u64) -> Res
 }
 
 /// Every list of up to `most` of the numbers from 0 to `last`, repeats among them; and some as long as the ring.
-fn every_list(last: u64, most: u32, slots: u64) -> Vec<Vec<u64>> {
+pub fn every_list(last: u64, most: u32, slots: u64) -> Vec<Vec<u64>> {
     let mut lists: Vec<Vec<u64>> = Vec::new();
     for n in 0..=most {
         let digits = |code: u64| (0..n).map(|place| code / (last + 1).pow(place) % (last + 1)).collect();
@@ -1649,7 +1928,7 @@ fn every_save(pair: &mut Pair, from: &Snapshot, numbers: &[u64], data: &[u8], bl
 pub fn drill(calls: &dyn Calls) -> String {
     let mut printed = "allowance,commit,recovery,byte\n".to_string();
     for allowance in 64..=69 {
-        let (mut card, mut disk, mut out) = (vec![0; 2304], vec![0; 16 * 512], vec![0; 512]);
+        let (mut card, disk, mut out) = (vec![0; 2304], vec![0; 16 * 512], vec![0; 512]);
         calls.format(9, 8, 4, 16, &mut card);
         let FreeMap::Made(mut map) = calls.make_map(&card) else { return "no map of a fresh card".to_string() };
         let commit = match calls.commit(&mut card, &mut map, &[3], &[7; 512], &zeros(512), allowance) {
@@ -1662,7 +1941,7 @@ pub fn drill(calls: &dyn Calls) -> String {
             _ => "refused",
         };
         let Answer::Done(stores) = calls.recover(&mut card, &mut map, u64::MAX) else { return "recovery not done".to_string() };
-        calls.read(&card, &mut disk, 3, &mut out);
+        calls.read(&card, &disk, &mut ascending(), 3, &mut out);
         printed += &format!("{allowance},{commit},{stores},{}\n", out[0]);
     }
     printed
@@ -1675,6 +1954,7 @@ mod tests {
     use super::*;
     use crate::ffi::Library;
     use crate::model::*;
+    use crate::room::{every_room, room_script};
 
     const SMALL: Geometry = Geometry { k: 9, slots: 8, data_blocks: 4, disk_blocks: 6 };
     /// The choice of a call that is done, or cut behind a single store, at k 9.
@@ -1720,7 +2000,7 @@ mod tests {
 
     fn first_byte(card: &[u8], disk: &[u8]) -> u8 {
         let mut out = vec![1; SMALL.block()];
-        assert!(!matches!(Library.read(card, disk, 3, &mut out), Place::Refused(_)));
+        assert!(!matches!(Library.read(card, disk, &mut ascending(), 3, &mut out), Place::Refused(_)));
         out[0]
     }
 
@@ -1741,13 +2021,16 @@ mod tests {
     #[test]
     fn a_model_equals_itself() {
         let model = Model::default();
-        let mut tally = every_cut(&model, &model, SMALL, 6, 16).unwrap();
+        let mut tally = every_cut(&model, &model, SMALL, &script(), 6, 16).unwrap();
+        tally.add(&every_cut(&model, &model, SMALL, &room_script(), 6, 16).unwrap());
+        tally.add(&every_room(&model, &model, SMALL, &room_script(), 2).unwrap());
         tally.add(&random_history(&model, &model, SMALL, 2000, 1).unwrap());
         tally.add(&damaged(&model, &model, SMALL, 3000, 2).unwrap());
         tally.add(&arguments(&model, &model, 3).unwrap());
         tally.add(&every_preview(&model, &model, SMALL, 2).unwrap());
         tally.complete().unwrap();
         incomplete_is_reported(&tally);
+        incomplete_tables_are_reported(&tally);
     }
 
     /// A tally that lacks one thing is not complete; nor is one with an answer that a call does not give.
@@ -1787,17 +2070,39 @@ mod tests {
         reported(&|tally| tally.foretold[1] = 0);
     }
 
+    /// As above, of the tables and of what the commits that make room come upon.
+    fn incomplete_tables_are_reported(whole: &Tally) {
+        let reported = |change: &dyn Fn(&mut Tally)| {
+            let mut tally = whole.clone();
+            change(&mut tally);
+            assert!(tally.complete().is_err());
+        };
+        for call in TAKE_A_TABLE {
+            (0..WRONG_TABLES.len()).for_each(|wrong| reported(&|tally| tally.tables[call][wrong] = 0));
+            (0..TABLE).for_each(|place| reported(&|tally| tally.places[call] &= !(1 << place)));
+            for number in REFUSALS[call].iter().filter(|number| **number != 16) {
+                reported(&|tally| tally.beside_table[call][*number] = 0);
+            }
+        }
+        (0..CASES.len()).for_each(|case| reported(&|tally| tally.cases[case] = 0));
+        reported(&|tally| tally.in_a_row = 0);
+    }
+
+    /// The first part of the comparison that sees it.
     fn is_reported(slip: Slip) {
         let (right, wrong) = (Model::default(), Model { slip: Some(slip) });
-        let parts = [
-            every_cut(&right, &wrong, SMALL, 6, 16).is_err(),
-            random_history(&right, &wrong, SMALL, 4000, 5).is_err(),
-            damaged(&right, &wrong, SMALL, 4000, 6).is_err(),
-            arguments(&right, &wrong, 7).is_err(),
-            every_preview(&right, &wrong, SMALL, 2).is_err(),
+        let parts: [&dyn Fn() -> Result<Tally, String>; 7] = [
+            &|| random_history(&right, &wrong, SMALL, 4000, 5),
+            &|| every_cut(&right, &wrong, SMALL, &script(), 6, 16),
+            &|| every_cut(&right, &wrong, SMALL, &room_script(), 6, 16),
+            &|| every_room(&right, &wrong, SMALL, &room_script(), 2),
+            &|| damaged(&right, &wrong, SMALL, 4000, 6),
+            &|| every_preview(&right, &wrong, SMALL, 2),
+            &|| arguments(&right, &wrong, 7),
         ];
-        println!("{slip:?}: {parts:?}");
-        assert!(parts.iter().any(|reported| *reported), "{slip:?} is not reported");
+        let difference = parts.iter().find_map(|part| part().err());
+        println!("{slip:?}: {difference:?}");
+        assert!(difference.is_some(), "{slip:?} is not reported");
     }
 
     /// Every slip is reported by a part of the comparison. The longest test: half of the slips to each of two threads.
@@ -1814,7 +2119,7 @@ mod tests {
     fn a_difference_is_told_with_its_place() {
         let right = Model::default();
         let wrong = Model { slip: Some(Slip::FreshAtSwitch) };
-        let error = every_cut(&right, &wrong, SMALL, 6, 16).unwrap_err();
+        let error = every_cut(&right, &wrong, SMALL, &script(), 6, 16).unwrap_err();
         assert!(error.starts_with("commit([3], data of 512") && error.contains("card differs at byte"), "{error}");
     }
 
@@ -1832,7 +2137,7 @@ mod tests {
             Slip::ChosenWhenDone,
         ] {
             let wrong = Model { slip: Some(slip) };
-            assert!(every_cut(&wrong, &wrong, SMALL, 6, 16).is_err(), "{slip:?}");
+            assert!(every_cut(&wrong, &wrong, SMALL, &script(), 6, 16).is_err(), "{slip:?}");
         }
     }
 
@@ -1841,8 +2146,24 @@ mod tests {
     fn the_right_choice_sees_a_wrong_order() {
         for slip in [Slip::ChoiceBeforeLength, Slip::ChoiceAfterNumber, Slip::ChoiceAskedLast, Slip::ChoiceBeforeMap] {
             let wrong = Model { slip: Some(slip) };
-            let tally = arguments(&wrong, &wrong, 3);
-            assert!(tally.is_err() || tally.unwrap().complete().is_err(), "{slip:?}");
+            assert!(arguments(&wrong, &wrong, 3).is_err(), "{slip:?}");
+        }
+    }
+
+    /// As above, where 16 is asked at another place.
+    #[test]
+    fn the_right_table_sees_a_wrong_order() {
+        for slip in [
+            Slip::TableBeforeMap,
+            Slip::TableBeforeSettled,
+            Slip::TableAfterLength,
+            Slip::TableAskedLast,
+            Slip::ReadTableBeforeSettled,
+            Slip::ReadTableAfterLength,
+            Slip::ReadTableAskedLast,
+        ] {
+            let wrong = Model { slip: Some(slip) };
+            assert!(arguments(&wrong, &wrong, 3).is_err(), "{slip:?}");
         }
     }
 
@@ -1930,11 +2251,11 @@ mod tests {
         assert_eq!(model.commit_list(&card, &numbers[..2], &[1; 1024]).unwrap().len(), 137);
         // evict at k 12: 9 stores modified, 1 clean; load at k 9: 65
         let disk = vec![0; 16 * 512];
-        assert_eq!(model.load(&mut card, &disk, &mut map, 3, ZEROS, u64::MAX), Answer::Done(65));
+        assert_eq!(model.load(&mut card, &disk, &mut map, &mut ascending(), 3, ZEROS, u64::MAX), Answer::Done(65));
         let mut card = vec![0; Geometry { k: 12, slots: 8, data_blocks: 4, disk_blocks: 2 }.card_length()];
         model.format(12, 8, 4, 2, &mut card);
         let (mut disk, mut map, choice) = (vec![0; 2 * 4096], map_of(&card), zeros(4096));
-        model.load(&mut card, &disk, &mut map, 0, &choice, u64::MAX);
+        model.load(&mut card, &disk, &mut map, &mut ascending(), 0, &choice, u64::MAX);
         model.commit(&mut card, &mut map, &[1], &[5; 4096], &choice, u64::MAX);
         assert_eq!(model.evict(&mut card, &mut disk, &mut map, 0, &choice, u64::MAX), Answer::Done(1));
         assert_eq!(model.evict(&mut card, &mut disk, &mut map, 1, &choice, u64::MAX), Answer::Done(9));
@@ -1970,10 +2291,11 @@ mod tests {
         assert_eq!(model.commit(&mut card, &mut map, &[3], &[8; 512], ZEROS, u64::MAX), Answer::Done(69));
         assert_eq!(map, taken(0b0010));
         // at Head 2
-        assert_eq!(model.load(&mut card, &disk, &mut map, 5, ZEROS, u64::MAX), Answer::Done(65));
+        let mut table = ascending();
+        assert_eq!(model.load(&mut card, &disk, &mut map, &mut table, 5, ZEROS, u64::MAX), Answer::Done(65));
         assert_eq!(map, taken(0b0110));
         // refused: kept; cut behind the entry of data block 3: kept too, though the card gives another from then on
-        assert_eq!(model.load(&mut card, &disk, &mut map, 5, ZEROS, u64::MAX), Answer::Refused(12));
+        assert_eq!(model.load(&mut card, &disk, &mut map, &mut table, 5, ZEROS, u64::MAX), Answer::Refused(12));
         assert_eq!(map, taken(0b0110));
         assert_eq!(model.commit(&mut card, &mut map, &[3], &[9; 512], ZEROS, 65), Answer::Cut);
         assert_eq!(map, taken(0b0110));
@@ -1996,8 +2318,8 @@ mod tests {
         model.format(SMALL.k, SMALL.slots, SMALL.data_blocks, SMALL.disk_blocks, &mut card);
         let mut wrong = [0; 2];
         assert_eq!(model.commit(&mut card, &mut wrong, &[], &[], ZEROS, 0), Answer::Refused(15));
-        assert_eq!(model.load(&mut card, &disk, &mut wrong, 99, ZEROS, 0), Answer::Refused(15));
-        assert_eq!(model.load(&mut card, &[], &mut wrong, 99, ZEROS, 0), Answer::Refused(3));
+        assert_eq!(model.load(&mut card, &disk, &mut wrong, &mut [], 99, ZEROS, 0), Answer::Refused(15));
+        assert_eq!(model.load(&mut card, &[], &mut wrong, &mut [], 99, ZEROS, 0), Answer::Refused(3));
         assert_eq!(model.evict(&mut card, &mut disk, &mut wrong, 99, ZEROS, 0), Answer::Refused(15));
         assert_eq!(model.recover(&mut card, &mut wrong, 0), Answer::Refused(15));
         let mut map = model.fresh_map(&card);

@@ -78,6 +78,23 @@ extern "C" {
         blocks: *mut u32,
         blocks_len: usize,
     ) -> RawAnswer;
+    fn tinca_commit_making_room(
+        card: *mut u8,
+        card_len: usize,
+        disk: *mut u8,
+        disk_len: usize,
+        map: *mut u64,
+        map_words: usize,
+        table: *mut u8,
+        table_len: usize,
+        numbers: *const u64,
+        count: usize,
+        data: *const u8,
+        data_len: usize,
+        choice: *const u8,
+        choice_len: usize,
+        allowance: u64,
+    ) -> RawAnswer;
     fn tinca_load(
         card: *mut u8,
         card_len: usize,
@@ -85,6 +102,8 @@ extern "C" {
         disk_len: usize,
         map: *mut u64,
         map_words: usize,
+        table: *mut u8,
+        table_len: usize,
         block: u64,
         choice: *const u8,
         choice_len: usize,
@@ -108,6 +127,8 @@ extern "C" {
         card_len: usize,
         disk: *const u8,
         disk_len: usize,
+        table: *mut u8,
+        table_len: usize,
         block: u64,
         out: *mut u8,
         out_len: usize,
@@ -207,10 +228,43 @@ impl Calls for Library {
         })
     }
 
-    fn load(&self, card: &mut [u8], disk: &[u8], map: &mut [u64], block: u64, choice: &[u8], allowance: u64) -> Answer {
-        let (card_len, disk_len, words, choice_len) = (card.len(), disk.len(), map.len(), choice.len());
-        let (card, disk, map) = (lent_mut(card), lent(disk), lent_mut(map));
-        answer(unsafe { tinca_load(card, card_len, disk, disk_len, map, words, block, lent(choice), choice_len, allowance) })
+    fn commit_making_room(
+        &self,
+        card: &mut [u8],
+        disk: &mut [u8],
+        map: &mut [u64],
+        table: &mut [u8],
+        numbers: &[u64],
+        data: &[u8],
+        choice: &[u8],
+        allowance: u64,
+    ) -> Answer {
+        let (card_len, disk_len, words, table_len) = (card.len(), disk.len(), map.len(), table.len());
+        let (count, data_len, choice_len) = (numbers.len(), data.len(), choice.len());
+        let (card, disk, map, table) = (lent_mut(card), lent_mut(disk), lent_mut(map), lent_mut(table));
+        let (numbers, data, choice) = (lent(numbers), lent(data), lent(choice));
+        answer(unsafe {
+            tinca_commit_making_room(
+                card, card_len, disk, disk_len, map, words, table, table_len, numbers, count, data, data_len, choice, choice_len, allowance,
+            )
+        })
+    }
+
+    fn load(
+        &self,
+        card: &mut [u8],
+        disk: &[u8],
+        map: &mut [u64],
+        table: &mut [u8],
+        block: u64,
+        choice: &[u8],
+        allowance: u64,
+    ) -> Answer {
+        let (card_len, disk_len, words, table_len, choice_len) = (card.len(), disk.len(), map.len(), table.len(), choice.len());
+        let (card, disk, map, table) = (lent_mut(card), lent(disk), lent_mut(map), lent_mut(table));
+        answer(unsafe {
+            tinca_load(card, card_len, disk, disk_len, map, words, table, table_len, block, lent(choice), choice_len, allowance)
+        })
     }
 
     fn evict(&self, card: &mut [u8], disk: &mut [u8], map: &mut [u64], block: u64, choice: &[u8], allowance: u64) -> Answer {
@@ -224,9 +278,10 @@ impl Calls for Library {
         answer(unsafe { tinca_recover(lent_mut(card), card_len, lent_mut(map), words, allowance) })
     }
 
-    fn read(&self, card: &[u8], disk: &[u8], block: u64, out: &mut [u8]) -> Place {
-        let out_len = out.len();
-        place(unsafe { tinca_read(lent(card), card.len(), lent(disk), disk.len(), block, lent_mut(out), out_len) })
+    fn read(&self, card: &[u8], disk: &[u8], table: &mut [u8], block: u64, out: &mut [u8]) -> Place {
+        let (table_len, out_len) = (table.len(), out.len());
+        let (table, out) = (lent_mut(table), lent_mut(out));
+        place(unsafe { tinca_read(lent(card), card.len(), lent(disk), disk.len(), table, table_len, block, out, out_len) })
     }
 
     fn look(&self, card: &[u8], disk: &[u8], block: u64) -> Place {

@@ -1,9 +1,9 @@
 //! Cards somewhere in a history of saves, loads and evictions with power cuts among them, made by the model alone:
-//! larger saves than `drive` makes, cut around their entries and role switches, and recoveries that are cut
-//! themselves.
+//! larger saves than `drive` makes, with room made for some of them, cut around their entries and role switches, and
+//! recoveries that are cut themselves.
 
 use crate::drive::{data_of, first_disk, Snapshot};
-use crate::model::{commit_stores, map_of, zeros, Card, Model};
+use crate::model::{ascending, commit_stores, map_of, stores_of, zeros, Card, Model};
 use crate::random::Random;
 use crate::{Answer, Calls, Geometry};
 
@@ -27,11 +27,9 @@ fn cached(random: &mut Random, geometry: Geometry, card: &[u8]) -> u64 {
     }
 }
 
-/// Some different blocks, at most `most`, and fewer where the card has no room for them. Two times in three one of
-/// them is cached.
+/// Some different blocks, at most `most`. Two times in three one of them is cached.
 fn some_numbers(random: &mut Random, geometry: Geometry, card: &[u8], most: u64) -> Vec<u64> {
-    let free = Card::open(card, None).unwrap().free_blocks().len() as u64;
-    let most = most.min(free).min(geometry.slots - 1).min(geometry.disk_blocks);
+    let most = most.min(geometry.slots - 1).min(geometry.disk_blocks);
     if most == 0 {
         return Vec::new();
     }
@@ -51,8 +49,13 @@ fn some_choice(seed: u64, geometry: Geometry) -> Vec<u8> {
     (0..geometry.block() / 8).map(|_| random.below(2) as u8).collect()
 }
 
+/// As many blocks as there is room for; one time in three the save makes room itself.
 fn save(random: &mut Random, geometry: Geometry, at: &mut Snapshot, most: u64, cut: bool) {
-    let numbers = some_numbers(random, geometry, &at.card, most);
+    if random.once_in(3) {
+        return save_making_room(random, geometry, at, most, cut);
+    }
+    let free = Card::open(&at.card, None).unwrap().free_blocks().len() as u64;
+    let numbers = some_numbers(random, geometry, &at.card, most.min(free));
     let n = numbers.len() as u64;
     if n == 0 {
         return;
@@ -62,6 +65,24 @@ fn save(random: &mut Random, geometry: Geometry, at: &mut Snapshot, most: u64, c
     let data = data_of(seed, n as usize, geometry.block());
     let mut map = map_of(&at.card);
     Model::default().commit(&mut at.card, &mut map, &numbers, &data, &some_choice(seed, geometry), allowance);
+}
+
+/// As many blocks as there can be victims for. A cut falls behind the evictions.
+fn save_making_room(random: &mut Random, geometry: Geometry, at: &mut Snapshot, most: u64, cut: bool) {
+    let card = Card::open(&at.card, None).unwrap();
+    let mut numbers = some_numbers(random, geometry, &at.card, most);
+    let cached = |numbers: &[u64]| numbers.iter().filter(|number| card.entry_for(**number).is_some()).count();
+    while (numbers.len() + cached(&numbers)) as u64 > geometry.data_blocks {
+        numbers.pop();
+    }
+    let (n, seed) = (numbers.len() as u64, random.next());
+    let data = data_of(seed, n as usize, geometry.block());
+    let Snapshot { card, disk, table } = at;
+    let runs = Model::default().room_list(card, disk.len(), table, &numbers, &data).unwrap();
+    let evicting = stores_of(&runs).len() as u64 - commit_stores(n, geometry.block() as u64);
+    let allowance = if cut { evicting + cut_place(random, geometry, n) } else { u64::MAX };
+    let (mut map, choice) = (map_of(card), some_choice(seed, geometry));
+    Model::default().commit_making_room(card, disk, &mut map, table, &numbers, &data, &choice, allowance);
 }
 
 /// Recovers in full, or is cut again a few times before.
@@ -79,7 +100,7 @@ fn step(random: &mut Random, geometry: Geometry, at: &mut Snapshot, most: u64) {
     let (model, number) = (Model::default(), random.below(geometry.disk_blocks));
     let (mut map, choice) = (map_of(&at.card), zeros(geometry.block()));
     match random.below(6) {
-        0 => drop(model.load(&mut at.card, &at.disk, &mut map, number, &choice, u64::MAX)),
+        0 => drop(model.load(&mut at.card, &at.disk, &mut map, &mut at.table, number, &choice, u64::MAX)),
         1 | 2 => {
             let number = cached(random, geometry, &at.card);
             model.evict(&mut at.card, &mut at.disk, &mut map, number, &choice, u64::MAX);
@@ -99,7 +120,7 @@ pub fn history(random: &mut Random, geometry: Geometry, most: u64) -> Snapshot {
     let (k, slots, data_blocks, disk_blocks) =
         (geometry.k, geometry.slots, geometry.data_blocks, geometry.disk_blocks);
     assert_eq!(Model::default().format(k, slots, data_blocks, disk_blocks, &mut card), Answer::Done(0));
-    let mut at = Snapshot { card, disk: first_disk(random.next(), geometry) };
+    let mut at = Snapshot { card, disk: first_disk(random.next(), geometry), table: ascending() };
     for _ in 0..random.below(16) {
         step(random, geometry, &mut at, most);
     }

@@ -8,10 +8,12 @@ pub mod histories;
 pub mod mapped;
 pub mod model;
 pub mod random;
+pub mod room;
 pub mod scratch;
 pub mod shown;
 pub mod stages;
 pub mod stores_log;
+pub mod tables;
 
 pub use model::{Answer, Cached, FreeMap, Geometry, Place, State};
 
@@ -21,10 +23,22 @@ pub trait Calls {
     fn commit(&self, card: &mut [u8], map: &mut [u64], numbers: &[u64], data: &[u8], choice: &[u8], allowance: u64) -> Answer;
     /// In the header all but `blocks` is const. Here all is lent for writing, so that a preview that writes to it is seen.
     fn preview(&self, card: &mut [u8], map: &mut [u64], numbers: &mut [u64], data: &mut [u8], blocks: &mut [u32]) -> Answer;
-    fn load(&self, card: &mut [u8], disk: &[u8], map: &mut [u64], block: u64, choice: &[u8], allowance: u64) -> Answer;
+    fn commit_making_room(
+        &self,
+        card: &mut [u8],
+        disk: &mut [u8],
+        map: &mut [u64],
+        table: &mut [u8],
+        numbers: &[u64],
+        data: &[u8],
+        choice: &[u8],
+        allowance: u64,
+    ) -> Answer;
+    fn load(&self, card: &mut [u8], disk: &[u8], map: &mut [u64], table: &mut [u8], block: u64, choice: &[u8], allowance: u64)
+        -> Answer;
     fn evict(&self, card: &mut [u8], disk: &mut [u8], map: &mut [u64], block: u64, choice: &[u8], allowance: u64) -> Answer;
     fn recover(&self, card: &mut [u8], map: &mut [u64], allowance: u64) -> Answer;
-    fn read(&self, card: &[u8], disk: &[u8], block: u64, out: &mut [u8]) -> Place;
+    fn read(&self, card: &[u8], disk: &[u8], table: &mut [u8], block: u64, out: &mut [u8]) -> Place;
     fn look(&self, card: &[u8], disk: &[u8], block: u64) -> Place;
     fn state(&self, card: &[u8]) -> State;
     fn cached(&self, card: &[u8], place: u64) -> Cached;

@@ -1,63 +1,125 @@
 //! Drives library and model side by side. One line for each part; the first difference ends the run with status 1.
 
 use std::time::Instant;
-use tinca_tests::drive::{arguments, damaged, drill, every_cut, every_preview, random_history, Tally, DRILL};
+use tinca_tests::drive::{arguments, damaged, drill, every_cut, every_preview, random_history, script, Tally, DRILL};
 use tinca_tests::ffi::Library;
 use tinca_tests::model::Model;
+use tinca_tests::room::{crowded, every_room, room_script, wide_room_script};
 use tinca_tests::Geometry;
 
 fn geometry(k: u64, slots: u64, data_blocks: u64, disk_blocks: u64) -> Geometry {
     Geometry { k, slots, data_blocks, disk_blocks }
 }
 
-fn run() -> Result<Tally, String> {
-    let (library, model) = (Library, Model::default());
-    let mut total = Tally::default();
-    let mut part = |name: &str, run: &dyn Fn() -> Result<Tally, String>| -> Result<(), String> {
+/// The parts that were run, added up.
+#[derive(Default)]
+struct Parts {
+    total: Tally,
+}
+
+type Part<'p> = &'p dyn Fn(&Library, &Model) -> Result<Tally, String>;
+
+impl Parts {
+    fn run(&mut self, name: &str, part: Part) -> Result<(), String> {
         let start = Instant::now();
-        let tally = run().map_err(|difference| format!("{name}: {difference}"))?;
+        let tally = part(&Library, &Model::default()).map_err(|difference| format!("{name}: {difference}"))?;
         println!("{name}: {} ({:.1} s)", tally.line(), start.elapsed().as_secs_f64());
-        total.add(&tally);
+        self.total.add(&tally);
         Ok(())
-    };
-    if drill(&library) != DRILL {
-        return Err(format!("drill: the library prints\n{}", drill(&library)));
     }
-    part("a every cut, k 9", &|| every_cut(&library, &model, geometry(9, 8, 4, 16), 6, 1))?;
-    part("a every cut, k 12", &|| every_cut(&library, &model, geometry(12, 8, 4, 6), 6, 1))?;
-    for (k, slots, data_blocks, disk_blocks, histories, calls) in [
-        (9, 8, 4, 16, 60, 4000),
-        (9, 8, 4, 1, 10, 1000),
-        (9, 8, 4, 3, 20, 2000),
-        (10, 16, 8, 20, 10, 2000),
-        (11, 24, 12, 40, 10, 1000),
-        (12, 8, 4, 5, 10, 1000),
-        (9, 256, 60, 150, 2, 2000),
-        (9, 256, 64, 150, 2, 2000),
-        (9, 256, 68, 150, 2, 2000),
-        (9, 8, 128, 300, 2, 3000),
-        (9, 256, 128, 300, 2, 3000),
-        (9, 64, 32, 65_536, 1, 4000),
-        (12, 256, 128, 65_536, 1, 3000),
-    ] {
-        let name = format!("b histories, k {k} S {slots} N {data_blocks} D {disk_blocks}");
-        part(&name, &|| {
-            let mut tally = Tally::default();
-            for history in 0..histories {
-                let seed = 1000 * k + 100 * slots + history;
-                tally.add(&random_history(&library, &model, geometry(k, slots, data_blocks, disk_blocks), calls, seed)?);
-            }
-            Ok(tally)
-        })?;
+
+    fn cuts(&mut self) -> Result<(), String> {
+        self.run("a every cut, k 9", &|library, model| every_cut(library, model, geometry(9, 8, 4, 16), &script(), 6, 1))?;
+        self.run("a every cut, k 12", &|library, model| every_cut(library, model, geometry(12, 8, 4, 6), &script(), 6, 1))?;
+        for (name, geometry, script, blocks, stride) in [
+            ("N 4", geometry(9, 8, 4, 16), room_script(), 6, 1),
+            ("N 8", geometry(9, 8, 8, 16), wide_room_script(), 10, 8),
+            ("k 12", geometry(12, 8, 4, 6), room_script(), 6, 127),
+        ] {
+            let name = format!("a every cut making room, {name}");
+            self.run(&name, &|library, model| every_cut(library, model, geometry, &script, blocks, stride))?;
+        }
+        Ok(())
     }
-    for (k, slots, data_blocks, disk_blocks, cards) in [(9, 8, 4, 16, 30_000), (9, 8, 4, 3, 20_000), (10, 16, 8, 5, 5_000), (12, 256, 128, 200, 300)] {
-        let name = format!("c damaged cards, k {k} S {slots} N {data_blocks} D {disk_blocks}");
-        part(&name, &|| damaged(&library, &model, geometry(k, slots, data_blocks, disk_blocks), cards, 77 + k))?;
+
+    fn histories(&mut self) -> Result<(), String> {
+        for (k, slots, data_blocks, disk_blocks, histories, calls) in [
+            (9, 8, 4, 16, 60, 4000),
+            (9, 8, 4, 1, 10, 1000),
+            (9, 8, 4, 3, 20, 2000),
+            (10, 16, 8, 20, 10, 2000),
+            (11, 24, 12, 40, 10, 1000),
+            (12, 8, 4, 5, 10, 1000),
+            (9, 256, 60, 150, 2, 2000),
+            (9, 256, 64, 150, 2, 2000),
+            (9, 256, 68, 150, 2, 2000),
+            (9, 8, 128, 300, 2, 3000),
+            (9, 256, 128, 300, 2, 3000),
+            (9, 64, 32, 65_536, 1, 4000),
+            (12, 256, 128, 65_536, 1, 3000),
+        ] {
+            let name = format!("b histories, k {k} S {slots} N {data_blocks} D {disk_blocks}");
+            self.run(&name, &|library, model| {
+                let mut tally = Tally::default();
+                for history in 0..histories {
+                    let seed = 1000 * k + 100 * slots + history;
+                    tally.add(&random_history(library, model, geometry(k, slots, data_blocks, disk_blocks), calls, seed)?);
+                }
+                Ok(tally)
+            })?;
+        }
+        Ok(())
     }
-    part("d arguments", &|| arguments(&library, &model, 5))?;
-    part("e previews, k 9", &|| every_preview(&library, &model, geometry(9, 8, 4, 6), 3))?;
-    part("e previews, k 12", &|| every_preview(&library, &model, geometry(12, 8, 8, 6), 2))?;
-    Ok(total)
+
+    fn cards(&mut self) -> Result<(), String> {
+        for (k, slots, data_blocks, disk_blocks, cards) in
+            [(9, 8, 4, 16, 30_000), (9, 8, 4, 3, 20_000), (10, 16, 8, 5, 5_000), (12, 256, 128, 200, 300)]
+        {
+            let name = format!("c damaged cards, k {k} S {slots} N {data_blocks} D {disk_blocks}");
+            let geometry = geometry(k, slots, data_blocks, disk_blocks);
+            self.run(&name, &|library, model| damaged(library, model, geometry, cards, 77 + k))?;
+        }
+        self.run("d arguments", &|library, model| arguments(library, model, 5))
+    }
+
+    fn lists(&mut self) -> Result<(), String> {
+        self.run("e previews, k 9", &|library, model| every_preview(library, model, geometry(9, 8, 4, 6), 3))?;
+        self.run("e previews, k 12", &|library, model| every_preview(library, model, geometry(12, 8, 8, 6), 2))?;
+        self.run("f every room, N 4", &|library, model| every_room(library, model, geometry(9, 8, 4, 6), &room_script(), 3))?;
+        self.run("f every room, N 8", &|library, model| every_room(library, model, geometry(9, 8, 8, 10), &wide_room_script(), 2))
+    }
+
+    fn crowded_cards(&mut self) -> Result<(), String> {
+        for (k, slots, data_blocks, disk_blocks, calls) in [
+            (9, 8, 4, 16, 15_000),
+            (9, 16, 8, 20, 8_000),
+            (9, 8, 128, 300, 1_000),
+            (9, 256, 60, 150, 1_000),
+            (9, 256, 64, 150, 1_000),
+            (9, 256, 68, 150, 1_000),
+            (9, 256, 128, 300, 1_000),
+            (11, 24, 12, 40, 1_000),
+            (12, 256, 128, 200, 300),
+        ] {
+            let name = format!("g crowded cards, k {k} S {slots} N {data_blocks} D {disk_blocks}");
+            let geometry = geometry(k, slots, data_blocks, disk_blocks);
+            self.run(&name, &|library, model| crowded(library, model, geometry, calls, 91 + k + data_blocks))?;
+        }
+        Ok(())
+    }
+}
+
+fn run() -> Result<Tally, String> {
+    if drill(&Library) != DRILL {
+        return Err(format!("drill: the library prints\n{}", drill(&Library)));
+    }
+    let mut parts = Parts::default();
+    parts.cuts()?;
+    parts.histories()?;
+    parts.cards()?;
+    parts.lists()?;
+    parts.crowded_cards()?;
+    Ok(parts.total)
 }
 
 fn main() {

@@ -1,5 +1,6 @@
 //! Files in memory, and what station and killer both know of them.
 
+use crate::model::TABLE;
 use crate::random::{mix, Random};
 use std::fs::OpenOptions;
 use std::io;
@@ -88,10 +89,13 @@ pub const BEGUN: usize = 1 + GROUPS as usize;
 pub const CALL: usize = BEGUN + 1;
 pub const ARGUMENT: usize = BEGUN + 2;
 pub const NOTES: usize = 8 * (BEGUN + 3);
+/// What a call found: card, disk and the station's table.
+pub const BEFORE: usize = CARD + DISK + TABLE;
 pub const COMMIT: u64 = 1;
 pub const LOAD: u64 = 2;
 pub const EVICT: u64 = 3;
 pub const PREVIEW: u64 = 4;
+pub const ROOM: u64 = 5;
 
 /// What a save writes.
 pub fn saved(sequence: u64, group: u64) -> Vec<u8> {

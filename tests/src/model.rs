@@ -236,6 +236,48 @@ fn clear_bit(map: &mut [u64; 2], bit: usize) {
     map[bit / 64] &= !(1 << (bit % 64));
 }
 
+/// The numbers of the recency table: one for each entry that a card can have.
+pub const TABLE: usize = 128;
+
+/// The table of a station that starts.
+pub fn ascending() -> Vec<u8> {
+    (0..TABLE as u8).collect()
+}
+
+/// The entries that a list stores, by their places: those that it zeroes, and those that it puts a block in.
+#[derive(Clone, Debug, Default)]
+struct Stored {
+    zeroed: Vec<usize>,
+    put: Vec<usize>,
+}
+
+impl Stored {
+    fn of(card: &[u8], list: &Result<Vec<Run>, u32>) -> Stored {
+        let (Ok(geometry), Ok(runs)) = (Geometry::from_header(card), list) else { return Stored::default() };
+        let mut stored = Stored::default();
+        for store in stores_of(runs) {
+            let Store::Entry(at, bytes) = store else { continue };
+            let entries = if bytes == [0; 16] { &mut stored.zeroed } else { &mut stored.put };
+            entries.push((at - geometry.entry_at(0)) / 16);
+        }
+        stored
+    }
+}
+
+/// What a commit of either kind is asked to save.
+#[derive(Clone, Copy)]
+struct Save<'s> {
+    numbers: &'s [u64],
+    data: &'s [u8],
+    choice: &'s [u8],
+}
+
+/// Where the blocks of a commit can go: free data blocks and unused entries, in the order of the search.
+struct Homes {
+    blocks: Vec<usize>,
+    entries: Vec<usize>,
+}
+
 /// The map that a card gives. A card that is refused gives none: then no bit is set, and no call looks at it.
 pub fn map_of(card: &[u8]) -> [u64; 2] {
     Card::open(card, None).map_or([0; 2], |card| card.map())
@@ -418,6 +460,24 @@ pub fn stores_of(runs: &[Run]) -> Vec<Store> {
     runs.iter().flat_map(|run| run.stores().to_vec()).collect()
 }
 
+/// The run that an allowance ends in, and how many of its stores are within it. None where it covers all of them.
+pub fn cut_run(runs: &[Run], allowance: u64) -> Option<(&Run, u64)> {
+    let mut left = allowance;
+    for run in runs {
+        let length = run.stores().len() as u64;
+        if left < length {
+            return Some((run, left));
+        }
+        left -= length;
+    }
+    None
+}
+
+/// The first of the checks whose condition holds.
+fn lowest(checks: &[(u32, bool)]) -> Result<(), u32> {
+    checks.iter().find(|(_, holds)| *holds).map_or(Ok(()), |(number, _)| Err(*number))
+}
+
 /// What a wrong program might do. The comparison must see each of them.
 #[derive(Clone, Copy, Debug, PartialEq, Eq)]
 pub enum Slip {
@@ -536,9 +596,70 @@ pub enum Slip {
     AnyByteTaken,
     /// Bytes past B/8 are not looked at.
     BytesPastTaken,
+    /// Room is made by the most recently used blocks, or by the entries in their order, whatever the table says.
+    MostRecentVictim,
+    VictimsByPlace,
+    /// A block of the commit itself may be evicted.
+    OwnBlockEvicted,
+    /// 14 is asked of all cached blocks; where the others do not suffice, the commit's own go too.
+    OwnBlocksCounted,
+    /// 14 is asked as in the commit that makes no room.
+    RoomAsPlain,
+    OneVictimMore,
+    /// Room is made for the numbers that are not cached.
+    MissingUncached,
+    /// Done has the count of the commit's stores alone.
+    EvictionsUncounted,
+    /// The evictions' stores come after the commit's.
+    EvictionsLast,
+    /// The search for data blocks, or that for entries, sees the card as at the start: what was evicted is found last.
+    BlocksAtStart,
+    EntriesAtStart,
+    CleanVictimWritten,
+    /// A victim's sectors are single stores.
+    VictimSectorsSingle,
+    /// The disk's length, or the table, is asked for only where a block must be evicted.
+    DiskAskedForVictims,
+    TableAskedForVictims,
+    /// A commit that makes room, a load or a read moves entries though it is cut or refused.
+    RoomMovedOnCut,
+    LoadMovedOnCut,
+    RoomMovedOnRefusal,
+    LoadMovedOnRefusal,
+    ReadMovedOnRefusal,
+    /// 16 is asked before 15, before 7, behind 9 (load: behind 17), or after all.
+    TableBeforeMap,
+    TableBeforeSettled,
+    TableAfterLength,
+    TableAskedLast,
+    /// The same of read alone: before 7, behind 9, or after all.
+    ReadTableBeforeSettled,
+    ReadTableAfterLength,
+    ReadTableAskedLast,
+    NumberTwiceTaken,
+    /// Any 128 different numbers are taken.
+    NumberAboveTaken,
+    /// A longer table is taken by its first 128 numbers.
+    LongTableTaken,
+    /// The numbers from N on are not looked at, nor how many there are.
+    TableOfEntriesTaken,
+    /// A done commit moves its blocks in reverse, or those alone that were not cached, or none where nothing was evicted.
+    MovedBackward,
+    NewBlocksMoved,
+    MovedIfEvicted,
+    /// The entry of an evicted block goes to the end of the table.
+    EvictedToBack,
+    /// A read from the disk makes the least recently used number the first.
+    DiskReadMoves,
+    CardReadStays,
+    LoadStays,
+    /// The numbers of the table stand for data blocks.
+    TableOfDataBlocks,
+    /// An entry changes places with the first one, and the others do not move up.
+    SwappedToFront,
 }
 
-pub const SLIPS: [Slip; 76] = [
+pub const SLIPS: [Slip; 116] = [
     Slip::CleanUndo,
     Slip::FreshAtSwitch,
     Slip::FreshAtUndo,
@@ -615,6 +736,46 @@ pub const SLIPS: [Slip; 76] = [
     Slip::LongChoiceRefused,
     Slip::AnyByteTaken,
     Slip::BytesPastTaken,
+    Slip::MostRecentVictim,
+    Slip::VictimsByPlace,
+    Slip::OwnBlockEvicted,
+    Slip::OwnBlocksCounted,
+    Slip::RoomAsPlain,
+    Slip::OneVictimMore,
+    Slip::MissingUncached,
+    Slip::EvictionsUncounted,
+    Slip::EvictionsLast,
+    Slip::BlocksAtStart,
+    Slip::EntriesAtStart,
+    Slip::CleanVictimWritten,
+    Slip::VictimSectorsSingle,
+    Slip::DiskAskedForVictims,
+    Slip::TableAskedForVictims,
+    Slip::RoomMovedOnCut,
+    Slip::LoadMovedOnCut,
+    Slip::RoomMovedOnRefusal,
+    Slip::LoadMovedOnRefusal,
+    Slip::ReadMovedOnRefusal,
+    Slip::TableBeforeMap,
+    Slip::TableBeforeSettled,
+    Slip::TableAfterLength,
+    Slip::TableAskedLast,
+    Slip::ReadTableBeforeSettled,
+    Slip::ReadTableAfterLength,
+    Slip::ReadTableAskedLast,
+    Slip::NumberTwiceTaken,
+    Slip::NumberAboveTaken,
+    Slip::LongTableTaken,
+    Slip::TableOfEntriesTaken,
+    Slip::MovedBackward,
+    Slip::NewBlocksMoved,
+    Slip::MovedIfEvicted,
+    Slip::EvictedToBack,
+    Slip::DiskReadMoves,
+    Slip::CardReadStays,
+    Slip::LoadStays,
+    Slip::TableOfDataBlocks,
+    Slip::SwappedToFront,
 ];
 
 /// The model; with a slip, a deliberately wrong one.
@@ -676,6 +837,33 @@ impl Model {
         Ok(card)
     }
 
+    /// Checks 1 to 7 and 15 of a call that takes a table besides. 16 is the first of those that follow.
+    fn check_lent(&self, bytes: &[u8], disk_length: Option<usize>, map: &[u64], table: &[u8], choice: &[u8]) -> Result<Card, u32> {
+        let early = match self.slip {
+            Some(Slip::TableBeforeSettled) => Some(Card::open(bytes, disk_length)?),
+            Some(Slip::TableBeforeMap) => Some(Card::open_settled(bytes, disk_length)?),
+            _ => None,
+        };
+        match early {
+            Some(card) if self.is_bad(table, card.geometry.data_blocks) => Err(16),
+            _ => self.check_settled(bytes, disk_length, map, choice),
+        }
+    }
+
+    /// Whether check 16 holds of the table: it is not the numbers 0 to 127, each once.
+    fn is_bad(&self, table: &[u8], data_blocks: u64) -> bool {
+        let mut times = [0; 256];
+        table.iter().for_each(|number| times[*number as usize] += 1);
+        let (below, above) = times.split_at(TABLE);
+        match self.slip {
+            Some(Slip::NumberTwiceTaken) => table.len() != TABLE || above.iter().any(|times| *times > 0),
+            Some(Slip::NumberAboveTaken) => table.len() != TABLE || times.iter().any(|times| *times > 1),
+            Some(Slip::LongTableTaken) if table.len() > TABLE => self.is_bad(&table[..TABLE], data_blocks),
+            Some(Slip::TableOfEntriesTaken) => below[..data_blocks as usize].iter().any(|times| *times != 1),
+            _ => table.len() != TABLE || below.iter().any(|times| *times != 1),
+        }
+    }
+
     /// The choice as the call sees it.
     fn looked_at<'c>(&self, choice: &'c [u8], allowance: u64) -> &'c [u8] {
         if allowance == u64::MAX && self.slips(Slip::ChoiceAskedIfCut) {
@@ -706,106 +894,223 @@ impl Model {
 
     /// The first of the checks, in the order in which they are made, whose condition holds.
     fn first_refusal(&self, mut checks: Vec<(u32, bool)>) -> Result<(), u32> {
+        let place = |checks: &[(u32, bool)], number: u32| checks.iter().position(|check| check.0 == number);
+        let last = checks.len() - 1;
         // 17 stands between 9, where the call asks it, and 10
-        let from = checks.iter().position(|(number, _)| *number == 17).unwrap();
-        let to = match self.slip {
-            Some(Slip::ChoiceBeforeLength) => from.saturating_sub(1),
-            Some(Slip::ChoiceAfterNumber) => from + 1,
-            Some(Slip::ChoiceAskedLast) => checks.len() - 1,
-            _ => from,
-        };
-        let choice = checks.remove(from);
-        checks.insert(to, choice);
-        checks.iter().find(|(_, holds)| *holds).map_or(Ok(()), |(number, _)| Err(*number))
+        if let Some(from) = place(&checks, 17) {
+            let to = match self.slip {
+                Some(Slip::ChoiceBeforeLength) => from.saturating_sub(1),
+                Some(Slip::ChoiceAfterNumber) => from + 1,
+                Some(Slip::ChoiceAskedLast) => last,
+                _ => from,
+            };
+            let choice = checks.remove(from);
+            checks.insert(to, choice);
+        }
+        // 16, where the call takes a table, stands before all of them
+        if let Some(from) = place(&checks, 16) {
+            let to = match self.slip {
+                Some(Slip::TableAfterLength) => place(&checks, 9).or(place(&checks, 17)).unwrap(),
+                Some(Slip::TableAskedLast) => last,
+                _ => from,
+            };
+            let table = checks.remove(from);
+            checks.insert(to, table);
+        }
+        lowest(&checks)
     }
 
     /// The stores of a commit that is given the card's map and a choice that is none of 17's.
     pub fn commit_list(&self, bytes: &[u8], numbers: &[u64], data: &[u8]) -> Result<Vec<Store>, u32> {
         let card = Card::open_settled(bytes, None)?;
-        self.commit_runs(&card, numbers, data, &zeros(card.geometry.block())).map(|runs| stores_of(&runs))
+        let choice = zeros(card.geometry.block());
+        self.commit_runs(&card, Save { numbers, data, choice: &choice }).map(|runs| stores_of(&runs))
     }
 
-    /// As above, of a load.
+    /// As above, the runs of a commit that makes room.
+    pub fn room_list(&self, bytes: &[u8], disk_length: usize, table: &[u8], numbers: &[u64], data: &[u8]) -> Result<Vec<Run>, u32> {
+        let card = Card::open_settled(bytes, Some(disk_length))?;
+        let choice = zeros(card.geometry.block());
+        self.room_runs(&card, bytes, table, Save { numbers, data, choice: &choice })
+    }
+
+    /// The stores of a load, with any table.
     pub fn load_list(&self, bytes: &[u8], disk: &[u8], number: u64) -> Result<Vec<Store>, u32> {
         let card = Card::open_settled(bytes, Some(disk.len()))?;
-        self.load_runs(&card, disk, number, &zeros(card.geometry.block())).map(|runs| stores_of(&runs))
+        self.load_runs(&card, disk, &ascending(), number, &zeros(card.geometry.block())).map(|runs| stores_of(&runs))
     }
 
-    /// As above, of an evict.
+    /// The stores of an evict.
     pub fn evict_list(&self, bytes: &[u8], disk_length: usize, number: u64) -> Result<Vec<Store>, u32> {
         let card = Card::open_settled(bytes, Some(disk_length))?;
         self.evict_runs(&card, bytes, number, &zeros(card.geometry.block())).map(|runs| stores_of(&runs))
     }
 
     /// The runs of a commit, or which of its own checks refuses it.
-    fn commit_runs(&self, card: &Card, numbers: &[u64], data: &[u8], choice: &[u8]) -> Result<Vec<Run>, u32> {
-        let geometry = card.geometry;
-        let n = numbers.len();
-        let searched = if self.slips(Slip::SearchFromZero) { Card { head: 0, ..card.clone() } } else { card.clone() };
-        let mut free = searched.free_blocks();
-        if self.slips(Slip::OldBlockGivenOut) {
-            let old = numbers.first().and_then(|number| card.entry_for(*number));
-            free.extend(old.map(|entry| card.entries[entry].unwrap().current as usize));
-        }
+    fn commit_runs(&self, card: &Card, save: Save) -> Result<Vec<Run>, u32> {
+        let homes = self.homes(card, save.numbers);
+        self.check_save(card, save, false, save.numbers.len() > homes.blocks.len())?;
+        Ok(self.saving_runs(card, homes, save))
+    }
+
+    /// The checks that both commits make of what they are to save; `bad_table` and `no_room` are 16 and 14.
+    fn check_save(&self, card: &Card, save: Save, bad_table: bool, no_room: bool) -> Result<(), u32> {
+        let (geometry, numbers, n) = (card.geometry, save.numbers, save.numbers.len());
         let repeats = (0..n).any(|i| numbers[..i].contains(&numbers[i]));
         self.first_refusal(vec![
+            (16, bad_table),
             (8, n == 0 || n as u64 > geometry.slots - 1),
-            (9, data.len() != n * geometry.block()),
-            (17, self.is_wrong(choice, geometry.block() / 8)),
+            (9, save.data.len() != n * geometry.block()),
+            (17, self.is_wrong(save.choice, geometry.block() / 8)),
             (10, numbers.iter().any(|number| *number >= geometry.disk_blocks)),
             (11, repeats && !self.slips(Slip::RepeatsLetBy)),
-            (14, n > free.len()),
-        ])?;
-        let mut unused = searched.unused_entries().into_iter();
-        let mut head = card.head;
-        let mut runs = Vec::new();
-        let mut written = Vec::new();
-        for (i, number) in numbers.iter().enumerate() {
-            let block = &data[i * geometry.block()..(i + 1) * geometry.block()];
-            let current = free[i] as u32;
+            (14, no_room),
+        ])
+    }
+
+    /// The searches of a commit.
+    fn homes(&self, card: &Card, numbers: &[u64]) -> Homes {
+        let searched = if self.slips(Slip::SearchFromZero) { Card { head: 0, ..card.clone() } } else { card.clone() };
+        let mut blocks = searched.free_blocks();
+        if self.slips(Slip::OldBlockGivenOut) {
+            let old = numbers.first().and_then(|number| card.entry_for(*number));
+            blocks.extend(old.map(|entry| card.entries[entry].unwrap().current as usize));
+        }
+        Homes { blocks, entries: searched.unused_entries() }
+    }
+
+    /// The runs of a commit that passed its checks.
+    fn saving_runs(&self, card: &Card, homes: Homes, save: Save) -> Vec<Run> {
+        let geometry = card.geometry;
+        let (mut unused, mut head) = (homes.entries.into_iter(), card.head);
+        let (mut runs, mut written) = (Vec::new(), Vec::new());
+        let blocks = save.data.chunks_exact(geometry.block()).zip(homes.blocks);
+        for (i, (number, (block, home))) in save.numbers.iter().zip(blocks).enumerate() {
             let (index, previous) = match card.entry_for(*number) {
                 Some(index) => (index, Some(card.entries[index].unwrap().current)),
                 None => (unused.next().unwrap(), None),
             };
-            let entry = Entry { modified: true, log_role: true, number: *number, previous, current };
+            let entry = Entry { modified: true, log_role: true, number: *number, previous, current: home as u32 };
             written.push((index, entry));
-            if self.slips(Slip::HeadAlone) && i > 0 {
-                head = (head + 1) % geometry.slots;
-                runs.push(Run::Single(Store::Word(64, head.to_be_bytes())));
-                continue;
-            }
-            runs.push(Run::words(geometry.block_at(current), block));
-            runs.push(Run::Single(Store::Entry(geometry.entry_at(index), write_entry(Some(entry)))));
-            runs.push(Run::Single(Store::Word(geometry.slot_at(head), number.to_be_bytes())));
-            if self.slips(Slip::SlotBeforeEntry) {
-                let last = runs.len() - 1;
-                runs.swap(last, last - 1);
+            if i == 0 || !self.slips(Slip::HeadAlone) {
+                runs.extend(self.logging_runs(geometry, block, index, entry, head));
             }
             head = (head + 1) % geometry.slots;
             runs.push(Run::Single(Store::Word(64, head.to_be_bytes())));
         }
-        let tail = Run::Single(Store::Word(72, head.to_be_bytes()));
-        if self.slips(Slip::TailFirst) {
-            runs.push(tail.clone());
+        let switches = written.into_iter().map(|(index, entry)| {
+            let switched = switched(entry);
+            let previous = if self.slips(Slip::FreshAtSwitch) { None } else { switched.previous };
+            Run::Single(Store::Entry(geometry.entry_at(index), write_entry(Some(Entry { previous, ..switched }))))
+        });
+        let (mut last, tail) = (switches.collect::<Vec<Run>>(), Run::Single(Store::Word(72, head.to_be_bytes())));
+        last.insert(if self.slips(Slip::TailFirst) { 0 } else { last.len() }, tail);
+        [runs, last].concat()
+    }
+
+    /// What a commit stores of one block, but for Head.
+    fn logging_runs(&self, geometry: Geometry, block: &[u8], index: usize, entry: Entry, head: u64) -> Vec<Run> {
+        let mut runs = vec![
+            Run::words(geometry.block_at(entry.current), block),
+            Run::Single(Store::Entry(geometry.entry_at(index), write_entry(Some(entry)))),
+            Run::Single(Store::Word(geometry.slot_at(head), entry.number.to_be_bytes())),
+        ];
+        if self.slips(Slip::SlotBeforeEntry) {
+            runs.swap(1, 2);
         }
-        for (index, entry) in written {
-            let mut entry = switched(entry);
-            if self.slips(Slip::FreshAtSwitch) {
-                entry.previous = None;
+        runs
+    }
+
+    /// How many data blocks are missing.
+    fn missing(&self, card: &Card, numbers: &[u64]) -> usize {
+        let wanted = match self.slip {
+            Some(Slip::MissingUncached) => numbers.iter().filter(|number| card.entry_for(**number).is_none()).count(),
+            _ => numbers.len(),
+        };
+        wanted.saturating_sub(card.free_blocks().len())
+    }
+
+    /// The entries that can be evicted to make room, in the order in which they go: those in use whose number is not in the commit, the
+    /// least recently used first.
+    pub fn victims(&self, card: &Card, table: &[u8], numbers: &[u64]) -> Vec<usize> {
+        let with_current = |block: u8| card.entries.iter().position(|entry| entry.is_some_and(|entry| entry.current == block as u32));
+        let order: Vec<usize> = match self.slip {
+            Some(Slip::MostRecentVictim) => table.iter().map(|number| *number as usize).collect(),
+            Some(Slip::VictimsByPlace) => (0..card.entries.len()).collect(),
+            Some(Slip::TableOfDataBlocks) => table.iter().rev().filter_map(|number| with_current(*number)).collect(),
+            _ => table.iter().rev().map(|number| *number as usize).collect(),
+        };
+        let (mut own, mut others) = (Vec::new(), Vec::new());
+        for index in order {
+            let Some(entry) = card.entries.get(index).copied().flatten() else { continue };
+            let is_own = numbers.contains(&entry.number) && !self.slips(Slip::OwnBlockEvicted);
+            let victims = if is_own { &mut own } else { &mut others };
+            // twice only in a table that a wrong model takes
+            if !victims.contains(&index) {
+                victims.push(index);
             }
-            runs.push(Run::Single(Store::Entry(geometry.entry_at(index), write_entry(Some(entry)))));
         }
-        if !self.slips(Slip::TailFirst) {
-            runs.push(tail);
+        if self.slips(Slip::OwnBlocksCounted) {
+            others.extend(own);
         }
-        Ok(runs)
+        others
+    }
+
+    /// The runs of a commit that makes room, or which of its own checks refuses it: those of the evictions, then those of a commit on the
+    /// card that they leave.
+    fn room_runs(&self, card: &Card, bytes: &[u8], table: &[u8], save: Save) -> Result<Vec<Run>, u32> {
+        let (mut victims, missing) = (self.victims(card, table, save.numbers), self.missing(card, save.numbers));
+        let asked = missing > 0 || !self.slips(Slip::TableAskedForVictims);
+        let no_room = match self.slip {
+            Some(Slip::RoomAsPlain) => missing > 0,
+            Some(Slip::MissingUncached) => save.numbers.len() > card.free_blocks().len() + missing,
+            Some(Slip::OwnBlockEvicted) => Model::default().victims(card, table, save.numbers).len() < missing,
+            _ => victims.len() < missing,
+        };
+        self.check_save(card, save, asked && self.is_bad(table, card.geometry.data_blocks), no_room)?;
+        victims.truncate(if missing > 0 && self.slips(Slip::OneVictimMore) { missing + 1 } else { missing });
+        let (mut left, mut evictions) = (card.clone(), Vec::new());
+        for victim in &victims {
+            evictions.extend(self.victim_runs(&left, bytes, *victim));
+            left.entries[*victim] = None;
+        }
+        let mut homes = self.homes(&left, save.numbers);
+        match self.slip {
+            Some(Slip::BlocksAtStart) => homes.blocks = self.homes_at_start(card, &victims).blocks,
+            Some(Slip::EntriesAtStart) => homes.entries = self.homes_at_start(card, &victims).entries,
+            _ => {}
+        }
+        let saving = self.saving_runs(&left, homes, save);
+        Ok(if self.slips(Slip::EvictionsLast) { [saving, evictions] } else { [evictions, saving] }.concat())
+    }
+
+    /// What a search finds that does not see the evictions, and behind it what they left.
+    fn homes_at_start(&self, card: &Card, victims: &[usize]) -> Homes {
+        let mut homes = self.homes(card, &[]);
+        homes.blocks.extend(victims.iter().map(|victim| card.entries[*victim].unwrap().current as usize));
+        homes.entries.extend(victims);
+        homes
+    }
+
+    /// The eviction of a victim, as evict makes it.
+    fn victim_runs(&self, card: &Card, bytes: &[u8], victim: usize) -> Vec<Run> {
+        let mut card = card.clone();
+        if let (Some(Slip::CleanVictimWritten), Some(entry)) = (self.slip, &mut card.entries[victim]) {
+            entry.modified = true;
+        }
+        let runs = self.eviction_runs(&card, bytes, victim);
+        match self.slip {
+            Some(Slip::VictimSectorsSingle) => stores_of(&runs).into_iter().map(Run::Single).collect(),
+            _ => runs,
+        }
     }
 
     /// The runs of a load, or which of its own checks refuses it.
-    fn load_runs(&self, card: &Card, disk: &[u8], number: u64, choice: &[u8]) -> Result<Vec<Run>, u32> {
+    fn load_runs(&self, card: &Card, disk: &[u8], table: &[u8], number: u64, choice: &[u8]) -> Result<Vec<Run>, u32> {
         let geometry = card.geometry;
         let free = card.free_blocks();
         self.first_refusal(vec![
+            (16, self.is_bad(table, geometry.data_blocks)),
             (17, self.is_wrong(choice, geometry.block() / 8)),
             (10, number >= geometry.disk_blocks),
             (12, card.entry_for(number).is_some()),
@@ -831,14 +1136,19 @@ impl Model {
             _ => self.is_wrong(choice, geometry.block() / 8),
         };
         self.first_refusal(vec![(17, wrong), (10, number >= geometry.disk_blocks), (13, found.is_none())])?;
-        let (index, entry) = found.unwrap();
+        Ok(self.eviction_runs(card, bytes, found.unwrap().0))
+    }
+
+    /// The runs with which an entry in use is evicted.
+    fn eviction_runs(&self, card: &Card, bytes: &[u8], index: usize) -> Vec<Run> {
+        let (geometry, entry) = (card.geometry, card.entries[index].unwrap());
         let mut runs = vec![Run::Single(Store::Entry(geometry.entry_at(index), write_entry(None)))];
         if entry.modified {
             let at = geometry.block_at(entry.current);
-            let sectors = Run::sectors(number as usize * geometry.block(), &bytes[at..at + geometry.block()]);
+            let sectors = Run::sectors(entry.number as usize * geometry.block(), &bytes[at..at + geometry.block()]);
             runs.insert(if self.slips(Slip::ZeroBeforeSectors) { 1 } else { 0 }, sectors);
         }
-        Ok(runs)
+        runs
     }
 
     pub fn recover_list(&self, bytes: &[u8]) -> Result<Vec<Store>, u32> {
@@ -1020,15 +1330,22 @@ impl Model {
         told
     }
 
-    fn place(&self, card: &[u8], disk: &[u8], block: u64, out_length: Option<usize>) -> Result<Place, u32> {
+    /// Where a block lies. A read gives its table and the length of its output, which look does not have.
+    fn place(&self, card: &[u8], disk: &[u8], block: u64, read: Option<(&[u8], usize)>) -> Result<Place, u32> {
+        let is_bad = |card: &Card| read.is_some_and(|(table, _)| self.is_bad(table, card.geometry.data_blocks));
+        if self.slips(Slip::ReadTableBeforeSettled) && is_bad(&Card::open(card, Some(disk.len()))?) {
+            return Err(16);
+        }
         let opened = Card::open_settled(card, Some(disk.len()))?;
         let geometry = opened.geometry;
-        if out_length.is_some_and(|length| length != geometry.block()) {
-            return Err(9);
-        }
-        if block >= geometry.disk_blocks {
-            return Err(10);
-        }
+        let table = (16, is_bad(&opened));
+        let length = (9, read.is_some_and(|(_, length)| length != geometry.block()));
+        let number = (10, block >= geometry.disk_blocks);
+        lowest(&match self.slip {
+            Some(Slip::ReadTableAfterLength) => [length, table, number],
+            Some(Slip::ReadTableAskedLast) => [length, number, table],
+            _ => [table, length, number],
+        })?;
         Ok(match opened.entry_for(block) {
             Some(index) => {
                 let current = opened.entries[index].unwrap().current;
@@ -1036,6 +1353,50 @@ impl Model {
             }
             None => Place::Disk(block * geometry.block() as u64, geometry.block() as u64),
         })
+    }
+
+    /// What stands in the table for these blocks, those of them that are cached: their entries' places.
+    fn stands_for(&self, card: &[u8], numbers: &[u64]) -> Vec<usize> {
+        let Ok(card) = Card::decoded(card, None) else { return vec![] };
+        let places = numbers.iter().filter_map(|number| card.entry_for(*number));
+        match self.slip {
+            Some(Slip::TableOfDataBlocks) => places.map(|index| card.entries[index].unwrap().current as usize).collect(),
+            _ => places.collect(),
+        }
+    }
+
+    /// Numbers go to the front of the table, one after the other; the others keep their order.
+    fn move_to_front(&self, table: &mut [u8], moved: &[usize]) {
+        for number in moved {
+            let Some(place) = table.iter().position(|one| *one as usize == *number) else { continue };
+            match self.slip {
+                Some(Slip::SwappedToFront) => table.swap(0, place),
+                _ => table[..=place].rotate_right(1),
+            }
+        }
+    }
+
+    /// What a storing call leaves in its table: done, the entries of its blocks are at the front, the last block's first; cut or refused,
+    /// it is what it was, but for these two slips.
+    fn hand_table_on(&self, table: &mut [u8], card: &[u8], numbers: &[u64], answer: Answer, stored: &Stored, [cut, refused]: [Slip; 2]) {
+        let moved = match answer {
+            Answer::Done(_) => self.stands_for(card, numbers),
+            Answer::Cut if self.slips(cut) => stored.put.clone(),
+            Answer::Refused(_) if self.slips(refused) => self.stands_for(card, numbers),
+            _ => vec![],
+        };
+        self.move_to_front(table, &moved);
+    }
+
+    /// The blocks that a done commit moves, in their order: all of its own.
+    fn moving(&self, card: &[u8], numbers: &[u64], stored: &Stored) -> Vec<u64> {
+        let is_new = |number: &&u64| Card::decoded(card, None).is_ok_and(|card| card.entry_for(**number).is_none());
+        match self.slip {
+            Some(Slip::MovedBackward) => numbers.iter().rev().copied().collect(),
+            Some(Slip::NewBlocksMoved) => numbers.iter().filter(is_new).copied().collect(),
+            Some(Slip::MovedIfEvicted) if stored.zeroed.is_empty() => vec![],
+            _ => numbers.to_vec(),
+        }
     }
 }
 
@@ -1058,7 +1419,8 @@ impl Calls for Model {
 
     fn commit(&self, card: &mut [u8], map: &mut [u64], numbers: &[u64], data: &[u8], choice: &[u8], allowance: u64) -> Answer {
         let choice = self.looked_at(choice, allowance);
-        let list = self.check_settled(card, None, map, choice).and_then(|opened| self.commit_runs(&opened, numbers, data, choice));
+        let save = Save { numbers, data, choice };
+        let list = self.check_settled(card, None, map, choice).and_then(|opened| self.commit_runs(&opened, save));
         let before = map.to_vec();
         let answer = self.make(list, choice, allowance, card, &mut [], map);
         if self.slips(Slip::OldBlocksStayTaken) {
@@ -1090,11 +1452,57 @@ impl Calls for Model {
         answer
     }
 
-    fn load(&self, card: &mut [u8], disk: &[u8], map: &mut [u64], block: u64, choice: &[u8], allowance: u64) -> Answer {
+    fn commit_making_room(
+        &self,
+        card: &mut [u8],
+        disk: &mut [u8],
+        map: &mut [u64],
+        table: &mut [u8],
+        numbers: &[u64],
+        data: &[u8],
+        choice: &[u8],
+        allowance: u64,
+    ) -> Answer {
         let choice = self.looked_at(choice, allowance);
-        let checked = self.check_settled(card, Some(disk.len()), map, choice);
-        let list = checked.and_then(|opened| self.load_runs(&opened, disk, block, choice));
-        self.make(list, choice, allowance, card, &mut [], map)
+        let has_room = |bytes: &[u8]| Card::open(bytes, None).is_ok_and(|card| self.missing(&card, numbers) == 0);
+        let disk_length = if self.slips(Slip::DiskAskedForVictims) && has_room(card) { None } else { Some(disk.len()) };
+        let checked = self.check_lent(card, disk_length, map, table, choice);
+        let list = checked.and_then(|opened| self.room_runs(&opened, card, table, Save { numbers, data, choice }));
+        let stored = Stored::of(card, &list);
+        let moving = self.moving(card, numbers, &stored);
+        let answer = self.make(list, choice, allowance, card, disk, map);
+        if let (Answer::Done(_), Some(Slip::EvictedToBack)) = (answer, self.slip) {
+            for victim in &stored.zeroed {
+                let place = table.iter().position(|number| *number as usize == *victim).unwrap();
+                table[place..].rotate_left(1);
+            }
+        }
+        self.hand_table_on(table, card, &moving, answer, &stored, [Slip::RoomMovedOnCut, Slip::RoomMovedOnRefusal]);
+        match answer {
+            Answer::Done(_) if self.slips(Slip::EvictionsUncounted) => Answer::Done(commit_stores(numbers.len() as u64, 1 << card[5])),
+            _ => answer,
+        }
+    }
+
+    fn load(
+        &self,
+        card: &mut [u8],
+        disk: &[u8],
+        map: &mut [u64],
+        table: &mut [u8],
+        block: u64,
+        choice: &[u8],
+        allowance: u64,
+    ) -> Answer {
+        let choice = self.looked_at(choice, allowance);
+        let checked = self.check_lent(card, Some(disk.len()), map, table, choice);
+        let list = checked.and_then(|opened| self.load_runs(&opened, disk, table, block, choice));
+        let stored = Stored::of(card, &list);
+        let answer = self.make(list, choice, allowance, card, &mut [], map);
+        if !self.slips(Slip::LoadStays) {
+            self.hand_table_on(table, card, &[block], answer, &stored, [Slip::LoadMovedOnCut, Slip::LoadMovedOnRefusal]);
+        }
+        answer
     }
 
     fn evict(&self, card: &mut [u8], disk: &mut [u8], map: &mut [u64], block: u64, choice: &[u8], allowance: u64) -> Answer {
@@ -1128,23 +1536,33 @@ impl Calls for Model {
         answer
     }
 
-    fn read(&self, card: &[u8], disk: &[u8], block: u64, out: &mut [u8]) -> Place {
-        match self.place(card, disk, block, Some(out.len())) {
-            Ok(place) => {
-                match place {
-                    Place::Card(at, length) => out.copy_from_slice(&card[at as usize..(at + length) as usize]),
-                    Place::Disk(at, length) => out.copy_from_slice(&disk[at as usize..(at + length) as usize]),
-                    _ => unreachable!(),
-                }
-                place
-            }
+    fn read(&self, card: &[u8], disk: &[u8], table: &mut [u8], block: u64, out: &mut [u8]) -> Place {
+        let place = match self.place(card, disk, block, Some((table, out.len()))) {
+            Ok(place) => place,
             Err(number) => {
                 if self.slips(Slip::ReadTouchesOnRefusal) {
                     out.fill(0);
                 }
                 Place::Refused(number)
             }
+        };
+        match place {
+            Place::Card(at, length) => out.copy_from_slice(&card[at as usize..(at + length) as usize]),
+            Place::Disk(at, length) => out.copy_from_slice(&disk[at as usize..(at + length) as usize]),
+            _ => {}
         }
+        let moves = match place {
+            Place::Card(..) => !self.slips(Slip::CardReadStays),
+            Place::Refused(_) => self.slips(Slip::ReadMovedOnRefusal),
+            _ => false,
+        };
+        if moves {
+            self.move_to_front(table, &self.stands_for(card, &[block]));
+        }
+        if let (Place::Disk(..), Some(Slip::DiskReadMoves)) = (place, self.slip) {
+            table.rotate_right(1);
+        }
+        place
     }
 
     fn look(&self, card: &[u8], disk: &[u8], block: u64) -> Place {

@@ -1,7 +1,7 @@
 //! A save in stages, from the model alone: the card after each kind of store, and what a recovery gives from there. The
 //! words that name a store are made from its bytes. All that the picture of a save says is asserted here.
 
-use crate::model::{commit_stores, in_order, switched, undone, window_slots, write_entry, zeros, Card, Entry, Model, Store};
+use crate::model::{ascending, commit_stores, in_order, switched, undone, window_slots, write_entry, zeros, Card, Entry, Model, Store};
 use crate::{Answer, Calls, Geometry, Place};
 use std::ops::Range;
 
@@ -149,7 +149,7 @@ fn recovered(model: &Model, card: &[u8]) -> (Vec<Store>, Vec<Reading>) {
     assert_eq!(model.recover(&mut card, &mut map, u64::MAX), Answer::Done(stores.len() as u64));
     let read = |number| {
         let mut out = vec![0; BLOCK];
-        let on_card = match model.read(&card, &disk(), number, &mut out) {
+        let on_card = match model.read(&card, &disk(), &mut ascending(), number, &mut out) {
             Place::Card(..) => true,
             Place::Disk(..) => false,
             other => panic!("block {number} is not read: {other:?}"),

@@ -380,7 +380,7 @@ impl Desk {
             self.lists(at, random.below(3))?;
             self.previews(&at.card, &[random.below(3)])?;
         }
-        let recovered = Snapshot { card: after(&at.card, &list), disk: at.disk.clone() };
+        let recovered = Snapshot { card: after(&at.card, &list), ..at.clone() };
         self.saves(random, &recovered.card)?;
         self.blocks(random, &recovered)
     }
@@ -403,7 +403,7 @@ impl Desk {
         for length in [LARGEST, LARGEST + 1, LARGEST + 2, 2 * LARGEST] {
             let mut card = at.card.clone();
             card.resize(length, random.next() as u8);
-            self.damaged(&Snapshot { card, disk: at.disk.clone() })?;
+            self.damaged(&Snapshot { card, ..at.clone() })?;
         }
         Ok(())
     }

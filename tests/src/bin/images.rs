@@ -5,7 +5,7 @@
 
 use std::path::Path;
 use tinca_tests::drive::put;
-use tinca_tests::model::{commit_stores, in_order, map_of, zeros, Model};
+use tinca_tests::model::{ascending, commit_stores, in_order, map_of, zeros, Model};
 use tinca_tests::{Answer, Calls, Geometry};
 
 const SMALL: Geometry = Geometry { k: 9, slots: 8, data_blocks: 4, disk_blocks: 16 };
@@ -46,8 +46,8 @@ fn save(card: &mut [u8], name: &str, numbers: &[u64], allowance: u64) {
 }
 
 fn load(card: &mut [u8], number: u64) {
-    let mut map = map_of(card);
-    assert_eq!(Model::default().load(card, &disk(), &mut map, number, &zeros(BLOCK), u64::MAX), Answer::Done(65));
+    let (mut map, mut table) = (map_of(card), ascending());
+    assert_eq!(Model::default().load(card, &disk(), &mut map, &mut table, number, &zeros(BLOCK), u64::MAX), Answer::Done(65));
 }
 
 fn recover(card: &[u8], allowance: u64, answer: Answer) -> Vec<u8> {

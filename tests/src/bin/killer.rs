@@ -18,7 +18,7 @@ use std::process::{Child, Command, Stdio};
 use std::time::{Duration, Instant};
 use tinca_tests::ffi::Library;
 use tinca_tests::mapped::*;
-use tinca_tests::model::{Model, Store};
+use tinca_tests::model::{ascending, stores_of, Model, Store};
 use tinca_tests::random::Random;
 use tinca_tests::scratch::{option, Folder};
 use tinca_tests::{Answer, Calls, Place, State};
@@ -30,7 +30,7 @@ fn saves(library: &Library, card: &[u8], disk: &[u8]) -> Result<Vec<u64>, String
         let mut sequences = Vec::new();
         for number in numbers(group) {
             let mut out = [0; BLOCK];
-            match library.read(card, disk, number, &mut out) {
+            match library.read(card, disk, &mut ascending(), number, &mut out) {
                 Place::Card(..) | Place::Disk(..) => sequences.push(sequence_of(&out, number)?),
                 other => return Err(format!("read of block {number}: {other:?}")),
             }
@@ -88,11 +88,11 @@ fn run(kills: u64, seed: u64) -> Result<String, String> {
     let station = std::env::current_exe().map_err(|error| error.to_string())?.with_file_name("station");
     let open = |name: &str, length| Mapped::open(&folder.0.join(name), length).map_err(|error| error.to_string());
     let (mut card, mut disk, mut notes) = (open("card", CARD)?, open("disk", DISK)?, open("notes", NOTES)?);
-    let before = open("before", CARD + DISK)?;
+    let before = open("before", BEFORE)?;
     let (library, model) = (Library, Model::default());
     let units = std::env::args().any(|word| word == "--units");
     let as_left = std::env::args().any(|word| word == "--as-left");
-    let (mut inside, mut between, mut previewing, mut half) = (0, 0, 0, [0u64; 6]);
+    let (mut inside, mut between, mut previewing, mut making_room, mut half) = (0, 0, 0, 0, [0u64; 6]);
     let start = Instant::now();
     let (mut unsettled, mut undone_stores, mut newer, mut acknowledged_last, mut undoable_most) = (0, 0, 0, 0, 0);
     let mut left_to_station = 0;
@@ -127,24 +127,29 @@ fn run(kills: u64, seed: u64) -> Result<String, String> {
         }
         stop(&mut child);
         // how far did the call under way come?
-        let (was, disk_was) = before.bytes().split_at(CARD);
+        let (media_was, table_was) = before.bytes().split_at(CARD + DISK);
+        let (was, disk_was) = media_was.split_at(CARD);
         let argument = notes.number(ARGUMENT);
         let call = notes.number(CALL);
         let list = match call {
             PREVIEW => Ok(vec![]),
             COMMIT => model.commit_list(was, &numbers(argument), &saved(notes.number(BEGUN), argument)),
+            ROOM => {
+                let data = saved(notes.number(BEGUN), argument);
+                model.room_list(was, DISK, table_was, &numbers(argument), &data).map(|runs| stores_of(&runs))
+            }
             LOAD => model.load_list(was, disk_was, argument),
             EVICT => model.evict_list(was, DISK, argument),
             _ => Err(0),
         };
         if let Ok(list) = list {
             let found = [card.bytes(), disk.bytes()].concat();
-            let (made, torn) = how_far(&list, before.bytes(), &found).map_err(|error| format!("kill {kill}: {error}"))?;
-            if call == PREVIEW {
-                previewing += 1;
-            } else {
-                inside += 1;
+            let (made, torn) = how_far(&list, media_was, &found).map_err(|error| format!("kill {kill}: {error}"))?;
+            match call {
+                PREVIEW => previewing += 1,
+                _ => inside += 1,
             }
+            making_room += u64::from(call == ROOM);
             between += (made > 0 && made < list.len()) as u64;
             if torn {
                 half[kind(&list[made])] += 1;
@@ -202,10 +207,10 @@ fn run(kills: u64, seed: u64) -> Result<String, String> {
     }
     let torn: Vec<String> = KINDS.iter().zip(half).map(|(kind, count)| format!("{kind} {count}")).collect();
     Ok(format!(
-        "{kills} kills in {:.1} s: {acknowledged_last} saves acknowledged; {inside} kills in a storing call, {between} between its first store and its \
-         last, each after exactly the first stores of its list; {previewing} in a preview, without a store; units half made: {}; {unsettled} cards \
-         unsettled (at most {undoable_most} entries to undo, {left_to_station} left to the station), {undone_stores} stores of recoveries, {newer} \
-         whole saves not yet noted; no save torn or lost",
+        "{kills} kills in {:.1} s: {acknowledged_last} saves acknowledged; {inside} kills in a storing call, {making_room} of them in one that \
+         makes room, {between} between its first store and its last, each after exactly the first stores of its list; {previewing} in a \
+         preview, without a store; units half made: {}; {unsettled} cards unsettled (at most {undoable_most} entries to undo, \
+         {left_to_station} left to the station), {undone_stores} stores of recoveries, {newer} whole saves not yet noted; no save torn or lost",
         start.elapsed().as_secs_f64(),
         torn.join(", ")
     ))

@@ -1,6 +1,6 @@
-//! A station on mapped files: saves without end, with evicts and loads between, and notes each save that was answered with done. A
-//! preview tells it when to make room. Before each storing call and preview it copies card and disk aside and notes the call, so that
-//! `killer`, which starts and kills it, can tell how far the call came.
+//! A station on mapped files: saves without end, with evicts, loads and reads between, and notes each save that was answered with done. Some
+//! saves make room themselves; for the others a preview tells when to make it. Before each storing call and preview it copies card, disk and
+//! table aside and notes the call, so that `killer`, which starts and kills it, can tell how far the call came.
 //!
 //!     station FOLDER SEED [format] [units]
 //!
@@ -10,15 +10,17 @@
 use std::path::Path;
 use tinca_tests::ffi::Library;
 use tinca_tests::mapped::*;
-use tinca_tests::model::in_order;
+use tinca_tests::model::{ascending, commit_stores, in_order, zeros};
 use tinca_tests::random::Random;
-use tinca_tests::{Answer, Calls, State};
+use tinca_tests::{Answer, Calls, Place, State};
 
 struct Station {
     card: Mapped,
     disk: Mapped,
     /// Made when the station starts, then as each call leaves it.
     map: [u64; 2],
+    /// Ascends when the station starts, then as each use leaves it.
+    table: Vec<u8>,
     notes: Mapped,
     before: Mapped,
     units: bool,
@@ -44,46 +46,73 @@ fn put_unit(_: &mut [u8], _: usize, _: &[u8]) {
     panic!("no 16-byte store is known for this processor");
 }
 
+/// What a storing call is lent, and the choice and allowance that it is given.
+struct Lent<'l> {
+    card: &'l mut [u8],
+    disk: &'l mut [u8],
+    map: &'l mut [u64],
+    table: &'l mut [u8],
+    choice: &'l [u8],
+    allowance: u64,
+}
+
+/// A storing call.
+type Call<'c> = &'c dyn Fn(Lent) -> Answer;
+
 impl Station {
     fn note(&mut self, call: u64, argument: u64) {
         self.before.bytes_mut()[..CARD].copy_from_slice(self.card.bytes());
-        self.before.bytes_mut()[CARD..].copy_from_slice(self.disk.bytes());
+        self.before.bytes_mut()[CARD..CARD + DISK].copy_from_slice(self.disk.bytes());
+        self.before.bytes_mut()[CARD + DISK..].copy_from_slice(&self.table);
         self.notes.set_number(ARGUMENT, argument);
         self.notes.set_number(CALL, call);
     }
 
-    fn noted(&mut self, call: u64, argument: u64, run: impl Fn(&mut [u8], &mut [u8], &mut [u64], u64) -> Answer) -> Answer {
+    fn noted(&mut self, call: u64, argument: u64, run: Call) -> Answer {
         self.note(call, argument);
         let answer = if self.units {
-            self.by_units(run)
+            // what a save stores itself comes last, behind the evictions where it makes room
+            let saving = if call == ROOM { commit_stores(SIZES[argument as usize], BLOCK as u64) } else { u64::MAX };
+            self.by_units(run, saving)
         } else {
-            run(self.card.bytes_mut(), self.disk.bytes_mut(), &mut self.map, u64::MAX)
+            let (card, disk) = (self.card.bytes_mut(), self.disk.bytes_mut());
+            run(Lent { card, disk, map: &mut self.map, table: &mut self.table, choice: &zeros(BLOCK), allowance: u64::MAX })
         };
         self.notes.set_number(CALL, 0);
         answer
     }
 
-    /// Each call of smaller allowance is cut, and gets the map that the card gave before; the station goes on with the done one's.
-    fn by_units(&mut self, run: impl Fn(&mut [u8], &mut [u8], &mut [u64], u64) -> Answer) -> Answer {
-        let (card, disk, map) = (self.card.bytes().to_vec(), self.disk.bytes().to_vec(), self.map);
-        let answer = run(&mut card.clone(), &mut disk.clone(), &mut self.map, u64::MAX);
+    /// Each call of smaller allowance is cut, and gets the map that the card gave before and the table of before; the station goes on with
+    /// the done one's. `saving` counts the last stores that a run of words is among; before them each run is one store.
+    fn by_units(&mut self, run: Call, saving: u64) -> Answer {
+        let (card, disk, map, table) = (self.card.bytes().to_vec(), self.disk.bytes().to_vec(), self.map, self.table.clone());
+        let (map_on, table_on) = (&mut self.map, &mut self.table);
+        let (mut to_card, mut to_disk, choice) = (card.clone(), disk.clone(), zeros(BLOCK));
+        let answer = run(Lent { card: &mut to_card, disk: &mut to_disk, map: map_on, table: table_on, choice: &choice, allowance: u64::MAX });
         let Answer::Done(count) = answer else { return answer };
-        let entries = 128 + 8 * SLOTS as usize;
-        let blocks = entries + 16 * DATA_BLOCKS as usize;
+        let evicting = count.saturating_sub(saving);
         for allowance in 1..=count {
-            let (mut card, mut disk) = (card.clone(), disk.clone());
-            run(&mut card, &mut disk, &mut map.clone(), allowance);
-            if let Some(place) = (0..CARD).find(|place| card[*place] != self.card.bytes()[*place]) {
-                let size = if (entries..blocks).contains(&place) { 16 } else { 8 };
-                let at = place / size * size;
-                put_unit(self.card.bytes_mut(), at, &card[at..at + size]);
-            } else if let Some(place) = (0..DISK).find(|place| disk[*place] != self.disk.bytes()[*place]) {
-                let at = place / 512 * 512;
-                self.disk.bytes_mut()[at..at + 512].copy_from_slice(&disk[at..at + 512]);
-            }
+            let (mut card, mut disk, mut map, mut table) = (card.clone(), disk.clone(), map, table.clone());
+            let choice = if allowance < evicting { zeros(BLOCK) } else { in_order(BLOCK, allowance - evicting) };
+            run(Lent { card: &mut card, disk: &mut disk, map: &mut map, table: &mut table, choice: &choice, allowance });
+            self.hand_over(&card, &disk);
             assert!(self.card.bytes() == card && self.disk.bytes() == disk, "more than one unit");
         }
         answer
+    }
+
+    /// Stores the unit in which the mapped card or disk differs from these.
+    fn hand_over(&mut self, card: &[u8], disk: &[u8]) {
+        let entries = 128 + 8 * SLOTS as usize;
+        let blocks = entries + 16 * DATA_BLOCKS as usize;
+        if let Some(place) = (0..CARD).find(|place| card[*place] != self.card.bytes()[*place]) {
+            let size = if (entries..blocks).contains(&place) { 16 } else { 8 };
+            let at = place / size * size;
+            put_unit(self.card.bytes_mut(), at, &card[at..at + size]);
+        } else if let Some(place) = (0..DISK).find(|place| disk[*place] != self.disk.bytes()[*place]) {
+            let at = place / 512 * 512;
+            self.disk.bytes_mut()[at..at + 512].copy_from_slice(&disk[at..at + 512]);
+        }
     }
 
     /// Straight on the mapped card, by units too: a preview has none.
@@ -104,24 +133,54 @@ impl Station {
                 other => break other,
             }
         };
-        let answer = self.noted(COMMIT, group, |card, _, map, allowance| {
-            Library.commit(card, map, &numbers, &data, &in_order(BLOCK, allowance), allowance)
-        });
+        let answer =
+            self.noted(COMMIT, group, &|lent| Library.commit(lent.card, lent.map, &numbers, &data, lent.choice, lent.allowance));
         assert!(matches!(answer, Answer::Done(_)) && answer == foretold, "commit {answer:?}, preview {foretold:?}");
     }
 
-    fn evict(&mut self, block: u64) {
-        let answer = self.noted(EVICT, block, |card, disk, map, allowance| {
-            Library.evict(card, disk, map, block, &in_order(BLOCK, allowance), allowance)
+    fn save_making_room(&mut self, sequence: u64, group: u64) {
+        let (numbers, data) = (numbers(group), saved(sequence, group));
+        let answer = self.noted(ROOM, group, &|lent| {
+            Library.commit_making_room(lent.card, lent.disk, lent.map, lent.table, &numbers, &data, lent.choice, lent.allowance)
         });
+        assert!(matches!(answer, Answer::Done(_)), "room-making commit {answer:?}");
+    }
+
+    fn evict(&mut self, block: u64) {
+        let answer =
+            self.noted(EVICT, block, &|lent| Library.evict(lent.card, lent.disk, lent.map, block, lent.choice, lent.allowance));
         assert!(matches!(answer, Answer::Done(_) | Answer::Refused(13)), "evict {answer:?}");
     }
 
     fn load(&mut self, block: u64) {
-        let answer = self.noted(LOAD, block, |card, disk, map, allowance| {
-            Library.load(card, disk, map, block, &in_order(BLOCK, allowance), allowance)
+        let answer = self.noted(LOAD, block, &|lent| {
+            Library.load(lent.card, lent.disk, lent.map, lent.table, block, lent.choice, lent.allowance)
         });
         assert!(matches!(answer, Answer::Done(_) | Answer::Refused(12 | 14)), "load {answer:?}");
+    }
+
+    /// One save of either kind, and at times another call.
+    fn turn(&mut self, random: &mut Random, sequence: u64) {
+        let group = random.below(GROUPS);
+        self.notes.set_number(BEGUN, sequence);
+        if random.once_in(2) {
+            self.save_making_room(sequence, group);
+        } else {
+            self.save(random, sequence, group);
+        }
+        self.notes.set_number(1 + group as usize, sequence);
+        self.notes.set_number(ACKNOWLEDGED, sequence);
+        match random.below(6) {
+            0 => self.evict(random.below(DISK_BLOCKS)),
+            1 | 2 => self.load(random.below(DISK_BLOCKS)),
+            3 => self.read(random.below(DISK_BLOCKS)),
+            _ => {}
+        }
+    }
+
+    fn read(&mut self, block: u64) {
+        let place = Library.read(self.card.bytes(), self.disk.bytes(), &mut self.table, block, &mut [0; BLOCK]);
+        assert!(matches!(place, Place::Card(..) | Place::Disk(..)), "read {place:?}");
     }
 }
 
@@ -138,8 +197,9 @@ fn main() {
         card: open("card", CARD),
         disk: open("disk", DISK),
         map: [0; 2],
+        table: ascending(),
         notes: open("notes", NOTES),
-        before: open("before", CARD + DISK),
+        before: open("before", BEFORE),
         units: says("units"),
     };
     if says("format") {
@@ -149,18 +209,6 @@ fn main() {
     station.map = Library.fresh_map(station.card.bytes());
     assert!(matches!(Library.recover(station.card.bytes_mut(), &mut station.map, u64::MAX), Answer::Done(_)));
     assert!(matches!(Library.state(station.card.bytes()), State::Settled { .. }));
-    let mut sequence = station.notes.number(ACKNOWLEDGED).max(station.notes.number(BEGUN));
-    loop {
-        sequence += 1;
-        let group = random.below(GROUPS);
-        station.notes.set_number(BEGUN, sequence);
-        station.save(&mut random, sequence, group);
-        station.notes.set_number(1 + group as usize, sequence);
-        station.notes.set_number(ACKNOWLEDGED, sequence);
-        match random.below(4) {
-            0 => station.evict(random.below(DISK_BLOCKS)),
-            1 => station.load(random.below(DISK_BLOCKS)),
-            _ => {}
-        }
-    }
+    let first = station.notes.number(ACKNOWLEDGED).max(station.notes.number(BEGUN)) + 1;
+    (first..).for_each(|sequence| station.turn(&mut random, sequence));
 }
