@@ -13,10 +13,12 @@ struct Station {
     k: u64,
     card: Vec<u8>,
     map: [u64; 2],
+    table: [u8; 128],
     disk: Vec<u8>,
     numbers: Vec<u64>,
     data: Vec<u8>,
     turn: usize,
+    at: usize,
 }
 
 impl Station {
@@ -24,7 +26,7 @@ impl Station {
         let card = formatted(k, 256, data_blocks, 65_536);
         let map = map_of(&card).unwrap();
         let (disk, data) = (vec![0; 65_536 << k], vec![7; 16 << k]);
-        let mut station = Station { k, card, map, disk, numbers, data, turn: 0 };
+        let mut station = Station { k, card, map, table: ascending(), disk, numbers, data, turn: 0, at: 0 };
         (0..station.numbers.len()).for_each(|_| station.commit(1));
         station.turn = 0;
         station
@@ -78,7 +80,67 @@ impl Station {
         let (card, disk, map) = (&mut self.card, &self.disk, self.map.as_mut_ptr());
         let (length, disk_length, choice) = (card.len(), disk.len(), zeros(self.k));
         let (card, disk, words) = (card.as_mut_ptr(), disk.as_ptr(), choice.len());
-        done(unsafe { tinca_load(card, length, disk, disk_length, map, 2, block, choice.as_ptr(), words, ALL) });
+        let (table, choice) = (self.table.as_mut_ptr(), choice.as_ptr());
+        done(unsafe { tinca_load(card, length, disk, disk_length, map, 2, table, 128, block, choice, words, ALL) });
+    }
+
+    /// The room-making commit.
+    fn save(&mut self, numbers: &[u64]) {
+        let (card, disk, map, table) = (&mut self.card, &mut self.disk, &mut self.map, &mut self.table);
+        let (choice, data) = (zeros(self.k), &self.data[..numbers.len() << self.k]);
+        done(unsafe {
+            tinca_commit_making_room(
+                card.as_mut_ptr(),
+                card.len(),
+                disk.as_mut_ptr(),
+                disk.len(),
+                map.as_mut_ptr(),
+                2,
+                table.as_mut_ptr(),
+                128,
+                numbers.as_ptr(),
+                numbers.len(),
+                data.as_ptr(),
+                data.len(),
+                choice.as_ptr(),
+                choice.len(),
+                ALL,
+            )
+        });
+    }
+
+    /// The next n of 256 numbers in turn: on a card that holds the 128 before them none is cached.
+    fn following(&mut self, n: usize) -> Vec<u64> {
+        let from = self.at;
+        self.at += n;
+        (from..from + n).map(|i| 2000 + i as u64 % 256).collect()
+    }
+
+    /// A full card: 128 blocks saved, or loaded.
+    fn fill(&mut self, modified: bool) {
+        (0..self.numbers.len()).for_each(|i| self.evict(self.numbers[i]));
+        for _ in 0..128 {
+            let numbers = self.following(1);
+            if modified {
+                self.save(&numbers);
+            } else {
+                self.load(numbers[0]);
+            }
+        }
+    }
+
+    /// A save that evicts as many modified blocks as it has.
+    fn save_over(&mut self, n: usize) {
+        let numbers = self.following(n);
+        self.save(&numbers);
+    }
+
+    /// A save that evicts as many clean blocks; then its own go, and clean ones come in their stead.
+    fn save_clean(&mut self, n: usize) {
+        let own: Vec<u64> = (0..n as u64).map(|i| UNCACHED + i).collect();
+        self.save(&own);
+        own.iter().for_each(|block| self.evict(*block));
+        self.following(n).iter().for_each(|block| self.load(*block));
     }
 
     fn evict(&mut self, block: u64) {
@@ -91,8 +153,8 @@ impl Station {
     /// Whether the disk, and not the card, had the block.
     fn read(&mut self, block: u64) -> bool {
         let (card, disk, mut out) = (&self.card, &self.disk, vec![0; 1 << self.k]);
-        let (from, to) = ((card.as_ptr(), card.len()), (out.as_mut_ptr(), out.len()));
-        let place = unsafe { tinca_read(from.0, from.1, disk.as_ptr(), disk.len(), block, to.0, to.1) };
+        let (from, to, table) = ((card.as_ptr(), card.len()), (out.as_mut_ptr(), out.len()), self.table.as_mut_ptr());
+        let place = unsafe { tinca_read(from.0, from.1, disk.as_ptr(), disk.len(), table, 128, block, to.0, to.1) };
         assert_eq!(place.refusal, 0);
         black_box(out);
         place.kind == 1
@@ -113,12 +175,13 @@ impl Station {
 
 type Round = Box<dyn Fn(&mut Station)>;
 
-/// What a round does, and of which function in it the instructions count.
+/// What a round does, what is done once before, and of which function in the rounds the instructions count.
 struct Row {
     symbol: &'static str,
     k: u64,
     data_blocks: u64,
     random: bool,
+    before: Round,
     round: Round,
 }
 
@@ -140,6 +203,7 @@ impl Row {
 
     fn run(&self, rounds: usize) {
         let mut station = Station::new(self.k, self.data_blocks, self.numbers());
+        (self.before)(&mut station);
         (0..rounds).for_each(|_| (self.round)(&mut station));
     }
 }
@@ -147,7 +211,7 @@ impl Row {
 /// The rows of commit: their names, and each of the library and unproved.
 fn commits() -> Vec<(String, [Row; 2])> {
     let row = |name: &str, k: u64, data_blocks: u64, n: usize, random: bool| {
-        let of = |symbol, round| Row { symbol, k, data_blocks, random, round };
+        let of = |symbol, round| Row { symbol, k, data_blocks, random, before: Box::new(|_| {}), round };
         let library = of("tinca_commit", Box::new(move |station: &mut Station| station.commit(n)) as Round);
         let unproved =
             of("unproved_commit", Box::new(move |station: &mut Station| station.unproved_commit(n)) as Round);
@@ -165,7 +229,7 @@ fn commits() -> Vec<(String, [Row; 2])> {
 /// The rows of the other calls, each at both sizes of a block.
 fn others() -> Vec<(String, [Row; 2])> {
     let row = |name: &str, symbol, round: fn(&mut Station)| {
-        let of = |k| Row { symbol, k, data_blocks: 128, random: false, round: Box::new(round) };
+        let of = |k| Row { symbol, k, data_blocks: 128, random: false, before: Box::new(|_| {}), round: Box::new(round) };
         (name.to_string(), [of(9), of(12)])
     };
     let load_evict = |station: &mut Station| {
@@ -198,8 +262,22 @@ fn others() -> Vec<(String, [Row; 2])> {
     ]
 }
 
+/// The rows of the room-making commit, each at both sizes of a block.
+fn rooms() -> Vec<(String, [Row; 2])> {
+    let row = |n: usize, modified: bool| {
+        let of = |k| {
+            let round: Round =
+                if modified { Box::new(move |station| station.save_over(n)) } else { Box::new(move |station| station.save_clean(n)) };
+            let before = Box::new(move |station: &mut Station| station.fill(modified));
+            Row { symbol: "tinca_commit_making_room", k, data_blocks: 128, random: false, before, round }
+        };
+        (format!("save of {n}, evicts {n} {}", if modified { "modified" } else { "clean" }), [of(9), of(12)])
+    };
+    [1, 4, 16].into_iter().flat_map(|n| [row(n, false), row(n, true)]).collect()
+}
+
 fn rows() -> Vec<(String, [Row; 2])> {
-    commits().into_iter().chain(others()).collect()
+    commits().into_iter().chain(others()).chain(rooms()).collect()
 }
 
 /// Instructions of the row's function in that many rounds and the set-up.

@@ -80,6 +80,23 @@ extern "C" {
         blocks: *mut u32,
         blocks_length: usize,
     ) -> RawAnswer;
+    fn tinca_commit_making_room(
+        card: *mut u8,
+        length: usize,
+        disk: *mut u8,
+        disk_length: usize,
+        map: *mut u64,
+        map_words: usize,
+        table: *mut u8,
+        table_length: usize,
+        numbers: *const u64,
+        count: usize,
+        data: *const u8,
+        data_length: usize,
+        choice: *const u8,
+        choice_length: usize,
+        allowance: u64,
+    ) -> RawAnswer;
     fn tinca_load(
         card: *mut u8,
         length: usize,
@@ -87,6 +104,8 @@ extern "C" {
         disk_length: usize,
         map: *mut u64,
         map_words: usize,
+        table: *mut u8,
+        table_length: usize,
         block: u64,
         choice: *const u8,
         choice_length: usize,
@@ -110,6 +129,8 @@ extern "C" {
         length: usize,
         disk: *const u8,
         disk_length: usize,
+        table: *mut u8,
+        table_length: usize,
         block: u64,
         out: *mut u8,
         out_length: usize,
@@ -120,6 +141,11 @@ extern "C" {
 }
 
 const ALL: u64 = u64::MAX;
+
+/// The table of a station that starts.
+fn ascending() -> [u8; 128] {
+    std::array::from_fn(|place| place as u8)
+}
 
 /// The choice of a station in service: zeros, as many as are asked for.
 fn zeros(k: u64) -> &'static [u8] {
@@ -342,8 +368,8 @@ fn others(k: u64, rounds: usize) -> Vec<(&'static str, f64)> {
     for number in &numbers {
         disk[*number as usize * block..][..block].fill(9);
     }
-    let mut out = vec![0u8; block];
-    let (card, disk, map) = (card.as_mut_ptr(), disk.as_mut_ptr(), words.as_mut_ptr());
+    let (mut out, mut table) = (vec![0u8; block], ascending());
+    let (card, disk, map, table) = (card.as_mut_ptr(), disk.as_mut_ptr(), words.as_mut_ptr(), table.as_mut_ptr());
     let (choice, words) = (zeros(k).as_ptr(), zeros(k).len());
     let mut times = vec![Vec::new(); 11];
     let mut time = |index: usize, run: &mut dyn FnMut(usize)| {
@@ -357,17 +383,20 @@ fn others(k: u64, rounds: usize) -> Vec<(&'static str, f64)> {
     let before = unsafe { std::slice::from_raw_parts(card, length) }.to_vec();
     for _ in 0..rounds {
         let evict = &mut |turn: usize| done(unsafe { tinca_evict(card, length, disk, disk_length, map, 2, rest[turn], choice, words, ALL) });
-        time(0, &mut |turn| done(unsafe { tinca_load(card, length, disk, disk_length, map, 2, rest[turn], choice, words, ALL) }));
+        let load = &mut |turn: usize| {
+            done(unsafe { tinca_load(card, length, disk, disk_length, map, 2, table, 128, rest[turn], choice, words, ALL) });
+        };
+        time(0, load);
         time(1, evict);
         done(unsafe { tinca_commit(card, length, map, 2, rest.as_ptr(), 32, data.as_ptr(), data.len(), choice, words, ALL) });
         time(2, evict);
         time(3, &mut |turn| {
-            let place = unsafe { tinca_read(card, length, disk, disk_length, cached[turn], out.as_mut_ptr(), block) };
+            let place = unsafe { tinca_read(card, length, disk, disk_length, table, 128, cached[turn], out.as_mut_ptr(), block) };
             assert_eq!((place.kind, place.refusal, place.length), (0, 0, block as u64));
             black_box(place.offset);
         });
         time(4, &mut |turn| {
-            let place = unsafe { tinca_read(card, length, disk, disk_length, rest[turn], out.as_mut_ptr(), block) };
+            let place = unsafe { tinca_read(card, length, disk, disk_length, table, 128, rest[turn], out.as_mut_ptr(), block) };
             assert_eq!(place.kind, 1);
         });
         time(5, &mut |_| done(unsafe { tinca_recover(card, length, map, 2, ALL) }));
@@ -423,6 +452,115 @@ fn others(k: u64, rounds: usize) -> Vec<(&'static str, f64)> {
     names.into_iter().zip(times.into_iter().map(median)).collect()
 }
 
+/// A full card over its disk, with what the station keeps beside it.
+#[derive(Clone)]
+struct Full {
+    k: u64,
+    card: Vec<u8>,
+    disk: Vec<u8>,
+    map: [u64; 2],
+    table: [u8; 128],
+}
+
+impl Full {
+    /// N 128, the numbers cached in their order, modified or as loaded.
+    fn new(k: u64, numbers: &[u64], modified: bool) -> Full {
+        let saved = if modified { numbers } else { &[] };
+        let (card, map) = filled(k, 256, 128, saved);
+        let mut full = Full { k, card, disk: vec![0; 65_536 << k], map, table: ascending() };
+        numbers.iter().filter(|_| !modified).for_each(|number| full.load(*number));
+        full
+    }
+
+    fn load(&mut self, block: u64) {
+        let (card, disk, choice) = (&mut self.card, &self.disk, zeros(self.k));
+        let (length, map, table) = (card.len(), self.map.as_mut_ptr(), self.table.as_mut_ptr());
+        let (card, choice, words) = (card.as_mut_ptr(), choice.as_ptr(), choice.len());
+        done(unsafe { tinca_load(card, length, disk.as_ptr(), disk.len(), map, 2, table, 128, block, choice, words, ALL) });
+    }
+
+    fn evict(&mut self, block: u64) {
+        let (card, disk, choice) = (&mut self.card, &mut self.disk, zeros(self.k));
+        let (length, disk_length, map) = (card.len(), disk.len(), self.map.as_mut_ptr());
+        let (card, disk) = (card.as_mut_ptr(), disk.as_mut_ptr());
+        done(unsafe { tinca_evict(card, length, disk, disk_length, map, 2, block, choice.as_ptr(), choice.len(), ALL) });
+    }
+
+    fn save(&mut self, numbers: &[u64], data: &[u8]) -> u64 {
+        let (card, disk, choice) = (&mut self.card, &mut self.disk, zeros(self.k));
+        let (length, disk_length) = (card.len(), disk.len());
+        let (map, table) = (self.map.as_mut_ptr(), self.table.as_mut_ptr());
+        let (card, disk, list, bytes) = (card.as_mut_ptr(), disk.as_mut_ptr(), numbers.as_ptr(), data.as_ptr());
+        let raw = unsafe {
+            tinca_commit_making_room(
+                card,
+                length,
+                disk,
+                disk_length,
+                map,
+                2,
+                table,
+                128,
+                list,
+                numbers.len(),
+                bytes,
+                data.len(),
+                choice.as_ptr(),
+                choice.len(),
+                ALL,
+            )
+        };
+        done(raw);
+        raw.stores
+    }
+
+    /// The fields as they were, all but the data blocks, which no check looks at.
+    fn restore(&mut self, from: &Full) {
+        let fields = 128 + 8 * 256 + 16 * 128;
+        self.card[..fields].copy_from_slice(&from.card[..fields]);
+        self.map = from.map;
+        self.table = from.table;
+    }
+}
+
+/// A save of n blocks that must evict n, on a full card; and n evictions and a commit in its stead.
+fn making_room(k: u64, n: usize, modified: bool, rounds: usize) -> [f64; 2] {
+    let numbers = spread(128 + n);
+    let (cached, new) = numbers.split_at(128);
+    let data = vec![5u8; n << k];
+    let before = Full::new(k, cached, modified);
+    let mut full = before.clone();
+    let least: Vec<u64> = (0..n).map(|i| cached[if modified { 127 - i } else { i }]).collect();
+    let count = n as u64 * ((1 << k) / 8 + 4) + 1 + n as u64 * (1 + if modified { (1 << k) / 512 } else { 0 });
+    let mut times = [Vec::new(), Vec::new()];
+    for _ in 0..4 * rounds {
+        full.restore(&before);
+        let start = Instant::now();
+        let stores = full.save(black_box(new), black_box(&data));
+        times[0].push(start.elapsed().as_nanos() as f64);
+        assert_eq!(stores, count);
+        full.restore(&before);
+        let start = Instant::now();
+        least.iter().for_each(|block| full.evict(black_box(*block)));
+        let answer = commit(&mut full.card, &mut full.map, black_box(new), black_box(&data), zeros(k), ALL);
+        times[1].push(start.elapsed().as_nanos() as f64);
+        assert!(matches!(answer, Answer::Done(_)));
+    }
+    times.map(median)
+}
+
+fn rooms(rounds: usize) {
+    println!("\nA save of n blocks on a full card, which must evict n: the room-making commit, and n evictions and a commit; S 256, N 128, D 65,536.\n");
+    println!("| n | evicted | B 512 | by hand | B 4096 | by hand |");
+    println!("|---|---|---|---|---|---|");
+    for n in [1, 4, 16] {
+        for (modified, name) in [(false, "clean"), (true, "modified")] {
+            let [small, large] = [9, 12].map(|k| making_room(k, n, modified, rounds));
+            println!("| {n} | {name} | {:.0} | {:.0} | {:.0} | {:.0} |", small[0], small[1], large[0], large[1]);
+        }
+    }
+}
+
 fn main() {
     let words: Vec<String> = std::env::args().skip(1).collect();
     if words.first().is_some_and(|word| word == "--count") {
@@ -448,4 +586,5 @@ fn main() {
     for (one, other) in small.iter().zip(&large) {
         println!("| {} | {:.0} | {:.0} |", one.0, one.1, other.1);
     }
+    rooms(rounds);
 }
