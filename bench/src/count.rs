@@ -11,10 +11,7 @@ const UNCACHED: u64 = 1000;
 /// A card with half its entries in use, each saved by a commit of its own, the disk behind it and what is saved.
 struct Station {
     k: u64,
-    card: Vec<u8>,
-    map: [u64; 2],
-    table: [u8; 128],
-    disk: Vec<u8>,
+    pair: Pair,
     numbers: Vec<u64>,
     data: Vec<u8>,
     turn: usize,
@@ -25,8 +22,7 @@ impl Station {
     fn new(k: u64, data_blocks: u64, numbers: Vec<u64>) -> Station {
         let card = formatted(k, 256, data_blocks, 65_536);
         let map = map_of(&card).unwrap();
-        let (disk, data) = (vec![0; 65_536 << k], vec![7; 16 << k]);
-        let mut station = Station { k, card, map, table: ascending(), disk, numbers, data, turn: 0, at: 0 };
+        let mut station = Station { k, pair: Pair::new(k, card, map), numbers, data: vec![7; 16 << k], turn: 0, at: 0 };
         (0..station.numbers.len()).for_each(|_| station.commit(1));
         station.turn = 0;
         station
@@ -41,7 +37,7 @@ impl Station {
 
     fn commit_of(&mut self, numbers: &[u64], allowance: u64) -> Answer {
         let data = &self.data[..numbers.len() << self.k];
-        commit(&mut self.card, &mut self.map, numbers, data, zeros(self.k), allowance)
+        commit(&mut self.pair.card, &mut self.pair.map, numbers, data, zeros(self.k), allowance)
     }
 
     fn commit(&mut self, n: usize) {
@@ -52,13 +48,13 @@ impl Station {
     fn unproved_commit(&mut self, n: usize) {
         let numbers = self.next(n);
         let data = &self.data[..n << self.k];
-        let answer = unproved::commit(&mut self.card, &mut self.map, &numbers, data, zeros(self.k), ALL);
+        let answer = unproved::commit(&mut self.pair.card, &mut self.pair.map, &numbers, data, zeros(self.k), ALL);
         assert!(matches!(answer, Answer::Done(_)));
     }
 
     fn preview(&mut self, n: usize) {
         let (numbers, mut blocks) = (self.next(n), vec![0; n]);
-        let (card, map, data) = (&self.card, &self.map, &self.data[..n << self.k]);
+        let (card, map, data) = (&self.pair.card, &self.pair.map, &self.data[..n << self.k]);
         done(unsafe {
             tinca_preview(
                 card.as_ptr(),
@@ -76,37 +72,9 @@ impl Station {
         black_box(blocks);
     }
 
-    fn load(&mut self, block: u64) {
-        let (card, disk, map) = (&mut self.card, &self.disk, self.map.as_mut_ptr());
-        let (length, disk_length, choice) = (card.len(), disk.len(), zeros(self.k));
-        let (card, disk, words) = (card.as_mut_ptr(), disk.as_ptr(), choice.len());
-        let (table, choice) = (self.table.as_mut_ptr(), choice.as_ptr());
-        done(unsafe { tinca_load(card, length, disk, disk_length, map, 2, table, 128, block, choice, words, ALL) });
-    }
-
     /// The room-making commit.
     fn save(&mut self, numbers: &[u64]) {
-        let (card, disk, map, table) = (&mut self.card, &mut self.disk, &mut self.map, &mut self.table);
-        let (choice, data) = (zeros(self.k), &self.data[..numbers.len() << self.k]);
-        done(unsafe {
-            tinca_commit_making_room(
-                card.as_mut_ptr(),
-                card.len(),
-                disk.as_mut_ptr(),
-                disk.len(),
-                map.as_mut_ptr(),
-                2,
-                table.as_mut_ptr(),
-                128,
-                numbers.as_ptr(),
-                numbers.len(),
-                data.as_ptr(),
-                data.len(),
-                choice.as_ptr(),
-                choice.len(),
-                ALL,
-            )
-        });
+        self.pair.save(numbers, &self.data[..numbers.len() << self.k]);
     }
 
     /// The next n of 256 numbers in turn: on a card that holds the 128 before them none is cached.
@@ -118,13 +86,13 @@ impl Station {
 
     /// A full card: 128 blocks saved, or loaded.
     fn fill(&mut self, modified: bool) {
-        (0..self.numbers.len()).for_each(|i| self.evict(self.numbers[i]));
+        self.numbers.iter().for_each(|number| self.pair.evict(*number));
         for _ in 0..128 {
             let numbers = self.following(1);
             if modified {
                 self.save(&numbers);
             } else {
-                self.load(numbers[0]);
+                self.pair.load(numbers[0]);
             }
         }
     }
@@ -139,21 +107,14 @@ impl Station {
     fn save_clean(&mut self, n: usize) {
         let own: Vec<u64> = (0..n as u64).map(|i| UNCACHED + i).collect();
         self.save(&own);
-        own.iter().for_each(|block| self.evict(*block));
-        self.following(n).iter().for_each(|block| self.load(*block));
-    }
-
-    fn evict(&mut self, block: u64) {
-        let (card, disk, map) = (&mut self.card, &mut self.disk, self.map.as_mut_ptr());
-        let (length, disk_length, choice) = (card.len(), disk.len(), zeros(self.k));
-        let (card, disk, words) = (card.as_mut_ptr(), disk.as_mut_ptr(), choice.len());
-        done(unsafe { tinca_evict(card, length, disk, disk_length, map, 2, block, choice.as_ptr(), words, ALL) });
+        own.iter().for_each(|block| self.pair.evict(*block));
+        self.following(n).iter().for_each(|block| self.pair.load(*block));
     }
 
     /// Whether the disk, and not the card, had the block.
     fn read(&mut self, block: u64) -> bool {
-        let (card, disk, mut out) = (&self.card, &self.disk, vec![0; 1 << self.k]);
-        let (from, to, table) = ((card.as_ptr(), card.len()), (out.as_mut_ptr(), out.len()), self.table.as_mut_ptr());
+        let (card, disk, mut out) = (&self.pair.card, &self.pair.disk, vec![0; 1 << self.k]);
+        let (from, to, table) = ((card.as_ptr(), card.len()), (out.as_mut_ptr(), out.len()), self.pair.table.as_mut_ptr());
         let place = unsafe { tinca_read(from.0, from.1, disk.as_ptr(), disk.len(), table, 128, block, to.0, to.1) };
         assert_eq!(place.refusal, 0);
         black_box(out);
@@ -161,15 +122,15 @@ impl Station {
     }
 
     fn recover(&mut self) {
-        let card = &mut self.card;
-        done(unsafe { tinca_recover(card.as_mut_ptr(), card.len(), self.map.as_mut_ptr(), 2, ALL) });
+        let (card, map) = (&mut self.pair.card, &mut self.pair.map);
+        done(unsafe { tinca_recover(card.as_mut_ptr(), card.len(), map.as_mut_ptr(), 2, ALL) });
     }
 
     /// A commit of four of the numbers in use, without its last store.
     fn cut(&mut self) {
         let numbers = self.next(4);
         assert_eq!(self.commit_of(&numbers, 4 * ((1 << self.k) / 8 + 4)), Answer::Cut);
-        self.map = map_of(&self.card).unwrap();
+        self.pair.map = map_of(&self.pair.card).unwrap();
     }
 }
 
@@ -233,15 +194,15 @@ fn others() -> Vec<(String, [Row; 2])> {
         (name.to_string(), [of(9), of(12)])
     };
     let load_evict = |station: &mut Station| {
-        station.load(UNCACHED);
-        station.evict(UNCACHED);
+        station.pair.load(UNCACHED);
+        station.pair.evict(UNCACHED);
     };
     vec![
         row("load", "tinca_load", load_evict),
         row("evict, clean", "tinca_evict", load_evict),
         row("evict, modified", "tinca_evict", |station| {
             assert!(matches!(station.commit_of(&[UNCACHED], ALL), Answer::Done(_)));
-            station.evict(UNCACHED);
+            station.pair.evict(UNCACHED);
         }),
         row("read from card", "tinca_read", |station| {
             let block = station.next(1)[0];
@@ -249,10 +210,10 @@ fn others() -> Vec<(String, [Row; 2])> {
         }),
         row("read from disk", "tinca_read", |station| assert!(station.read(UNCACHED))),
         row("state", "tinca_state_of", |station| {
-            let state = unsafe { tinca_state_of(station.card.as_ptr(), station.card.len()) };
+            let state = unsafe { tinca_state_of(station.pair.card.as_ptr(), station.pair.card.len()) };
             assert_eq!((state.kind, state.counts[0]), (0, 64));
         }),
-        row("make map", "tinca_make_map", |station| assert_eq!(map_of(&station.card), Some(station.map))),
+        row("make map", "tinca_make_map", |station| assert_eq!(map_of(&station.pair.card), Some(station.pair.map))),
         row("recover, settled", "tinca_recover", Station::recover),
         row("recover, 4 to undo", "tinca_recover", |station| {
             station.cut();

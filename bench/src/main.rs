@@ -452,9 +452,9 @@ fn others(k: u64, rounds: usize) -> Vec<(&'static str, f64)> {
     names.into_iter().zip(times.into_iter().map(median)).collect()
 }
 
-/// A full card over its disk, with what the station keeps beside it.
+/// A card over its disk, with what the station keeps beside it.
 #[derive(Clone)]
-struct Full {
+struct Pair {
     k: u64,
     card: Vec<u8>,
     disk: Vec<u8>,
@@ -462,14 +462,17 @@ struct Full {
     table: [u8; 128],
 }
 
-impl Full {
-    /// N 128, the numbers cached in their order, modified or as loaded.
-    fn new(k: u64, numbers: &[u64], modified: bool) -> Full {
-        let saved = if modified { numbers } else { &[] };
-        let (card, map) = filled(k, 256, 128, saved);
-        let mut full = Full { k, card, disk: vec![0; 65_536 << k], map, table: ascending() };
-        numbers.iter().filter(|_| !modified).for_each(|number| full.load(*number));
-        full
+impl Pair {
+    fn new(k: u64, card: Vec<u8>, map: [u64; 2]) -> Pair {
+        Pair { k, card, disk: vec![0; 65_536 << k], map, table: ascending() }
+    }
+
+    /// N 128 and all of it in use: the numbers cached in their order, modified or as loaded.
+    fn full(k: u64, numbers: &[u64], modified: bool) -> Pair {
+        let (card, map) = filled(k, 256, 128, if modified { numbers } else { &[] });
+        let mut pair = Pair::new(k, card, map);
+        numbers.iter().filter(|_| !modified).for_each(|number| pair.load(*number));
+        pair
     }
 
     fn load(&mut self, block: u64) {
@@ -486,24 +489,23 @@ impl Full {
         done(unsafe { tinca_evict(card, length, disk, disk_length, map, 2, block, choice.as_ptr(), choice.len(), ALL) });
     }
 
+    /// The room-making commit; its count of stores.
     fn save(&mut self, numbers: &[u64], data: &[u8]) -> u64 {
         let (card, disk, choice) = (&mut self.card, &mut self.disk, zeros(self.k));
-        let (length, disk_length) = (card.len(), disk.len());
-        let (map, table) = (self.map.as_mut_ptr(), self.table.as_mut_ptr());
-        let (card, disk, list, bytes) = (card.as_mut_ptr(), disk.as_mut_ptr(), numbers.as_ptr(), data.as_ptr());
+        let (map, table) = (&mut self.map, &mut self.table);
         let raw = unsafe {
             tinca_commit_making_room(
-                card,
-                length,
-                disk,
-                disk_length,
-                map,
+                card.as_mut_ptr(),
+                card.len(),
+                disk.as_mut_ptr(),
+                disk.len(),
+                map.as_mut_ptr(),
                 2,
-                table,
+                table.as_mut_ptr(),
                 128,
-                list,
+                numbers.as_ptr(),
                 numbers.len(),
-                bytes,
+                data.as_ptr(),
                 data.len(),
                 choice.as_ptr(),
                 choice.len(),
@@ -515,7 +517,7 @@ impl Full {
     }
 
     /// The fields as they were, all but the data blocks, which no check looks at.
-    fn restore(&mut self, from: &Full) {
+    fn restore(&mut self, from: &Pair) {
         let fields = 128 + 8 * 256 + 16 * 128;
         self.card[..fields].copy_from_slice(&from.card[..fields]);
         self.map = from.map;
@@ -528,21 +530,21 @@ fn making_room(k: u64, n: usize, modified: bool, rounds: usize) -> [f64; 2] {
     let numbers = spread(128 + n);
     let (cached, new) = numbers.split_at(128);
     let data = vec![5u8; n << k];
-    let before = Full::new(k, cached, modified);
-    let mut full = before.clone();
+    let before = Pair::full(k, cached, modified);
+    let mut pair = before.clone();
     let least: Vec<u64> = (0..n).map(|i| cached[if modified { 127 - i } else { i }]).collect();
     let count = n as u64 * ((1 << k) / 8 + 4) + 1 + n as u64 * (1 + if modified { (1 << k) / 512 } else { 0 });
     let mut times = [Vec::new(), Vec::new()];
     for _ in 0..4 * rounds {
-        full.restore(&before);
+        pair.restore(&before);
         let start = Instant::now();
-        let stores = full.save(black_box(new), black_box(&data));
+        let stores = pair.save(black_box(new), black_box(&data));
         times[0].push(start.elapsed().as_nanos() as f64);
         assert_eq!(stores, count);
-        full.restore(&before);
+        pair.restore(&before);
         let start = Instant::now();
-        least.iter().for_each(|block| full.evict(black_box(*block)));
-        let answer = commit(&mut full.card, &mut full.map, black_box(new), black_box(&data), zeros(k), ALL);
+        least.iter().for_each(|block| pair.evict(black_box(*block)));
+        let answer = commit(&mut pair.card, &mut pair.map, black_box(new), black_box(&data), zeros(k), ALL);
         times[1].push(start.elapsed().as_nanos() as f64);
         assert!(matches!(answer, Answer::Done(_)));
     }
