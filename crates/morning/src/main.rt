@@ -133,7 +133,7 @@ fn save(card: &mut [u8], d: Desk, a: u64, b: u64, fill: u8) -> Desk {
     }
 }
 
-// Saves them by the room-making commit, and shows whom it evicted.
+// Saves them by the room-making commit, and shows which blocks it evicted.
 fn save_in(
     card: &mut [u8],
     disk: &mut [u8],

@@ -9,7 +9,7 @@ use mathlib.Core.Logic.{⊎-elim}
 use native.Mathlib.Omega.{arith}
 use lib.ListN.{length, getD}
 use lib.Dec.{eqb, ltb, leb}
-use borrow.Author.Tests.{eqb-true, eq-eqb, ne-eqb, ltb-true, lt-ltb, leb-true, le-leb}
+use borrow.Author.Tests.{eqb-true, eq-eqb, ltb-true, lt-ltb, leb-true, le-leb}
 use Rattle.protocol.specs.declared.Geometry.{Geometry}
 use Rattle.protocol.specs.Below.{anyBelow, countBelow, firstBelow}
 use Rattle.protocol.specs.Layout.{geometryOf}
@@ -24,46 +24,13 @@ use Rattle.protocol.proofs.Below.{either, absurd-bool, and-left, and-ri
 use Rattle.protocol.proofs.Checks.{Limits, limits}
 use Rattle.protocol.proofs.Committed.{apart-numbers}
 use Rattle.protocol.proofs.Lawful.{Intact, current-below, numbers-apart, currents-apart, entry-cached}
+use Rattle.protocol.proofs.Left.{pair-sound}
 use Rattle.protocol.proofs.Loaded.{cached-entry}
 use Rattle.protocol.proofs.Recency.{arranged-place, arranged-once}
 use Rattle.protocol.proofs.Room.{free-count, number-among}
-use Rattle.protocol.proofs.Searches.{length-sift, count-grows, count-not}
-use Rattle.protocol.proofs.Tables.{pair-sound}
+use Rattle.protocol.proofs.Searches.{length-sift, count-not, inj-count}
 
 -- ---- counting
-
--- a map that keeps numbers apart reaches no fewer
-inj-count : (p q : ℕ → Bool) (f : ℕ → ℕ) (m n : ℕ) → ((i : ℕ) → i < m → p i ≡ true → (f i < n) × (q (f i) ≡ true))
-    → ((i j : ℕ) → i < m → j < m → p i ≡ true → p j ≡ true → f i ≡ f j → i ≡ j) → countBelow p m ≤ countBelow q n
-unfolding countBelow
-inj-count p q f zero n to inj = omega arith
-inj-count p q f (suc m) n to inj =
-    go (p m) refl (λ r h. inj-count p r f m n h (λ i j l k. inj i j (omega arith) (omega arith)))
-  where
-    go : (b : Bool) → p m ≡ b
-        → ((r : ℕ → Bool) → ((i : ℕ) → i < m → p i ≡ true → (f i < n) × (r (f i) ≡ true)) → countBelow p m ≤ countBelow r n)
-        → cond b (suc (countBelow p m)) (countBelow p m) ≤ countBelow q n
-    go false e rec = rec q (λ i l. to i (omega arith))
-    go true e rec =
-        let last = to m (omega arith) e in
-        let rest : ℕ → Bool = λ x. q x && not (eqb x (f m)) in
-        let more : countBelow q n ≡ countBelow rest n + 1 =
-        count-grows rest q n (f m) (last .0)
-        (ap (λ (b : Bool). q (f m) && not b) (eq-eqb (f m) (f m) refl) ∙ and-none (q (f m)))
-        (last .1)
-        (λ i l d. sym (ap (λ (b : Bool). q i && not b) (ne-eqb i (f m) d) ∙ and-all (q i))) in
-        let few = rec rest (λ i l h.
-        let at = to i (omega arith) h in
-        (at .0, and-both (at .1) (ap not (ne-eqb (f i) (f m) (λ x. let same = inj i m (omega arith) (omega arith) h e x in omega arith))))) in
-        omega (arith, more, few)
-      where
-        and-none : (b : Bool) → b && false ≡ false
-        and-none true = refl
-        and-none false = refl
-
-        and-all : (b : Bool) → b && true ≡ b
-        and-all true = refl
-        and-all false = refl
 
 -- those that have x, and those that do not
 count-parts : (p x : ℕ → Bool) (n : ℕ) → countBelow (λ i. p i && x i) n + countBelow (λ i. p i && not (x i)) n ≡ countBelow p n

@@ -93,9 +93,12 @@ module _ (c : List ℕ) (fit : fitRefusal c ≡ 0) where
       let (damage, seven) = orElse-none (damageRefusal (geometryOf c) c) _ z in
       (intact c fit damage, refuse-none 7 _ (omega arith) seven)
 
-  pair-intact : (d : List ℕ) → diskRefusal (geometryOf c) d orElse cardRefusal (geometryOf c) c ≡ 0
-      → Intact (geometryOf c) c × (isSettled (geometryOf c) c ≡ true)
-  pair-intact d z = card-intact (orElse-none (diskRefusal (geometryOf c) d) _ z .1)
+-- a card and a disk that pass 1 to 7
+pub pair-sound : (c d : List ℕ) → pairRefusal c d ≡ 0 → Intact (geometryOf c) c × (isSettled (geometryOf c) c ≡ true)
+unfolding pairRefusal
+pair-sound c d z =
+    let (fit, rest) = orElse-none (fitRefusal c) _ z in
+    card-intact c fit (orElse-none (diskRefusal (geometryOf c) d) _ rest .1)
 
 -- ---- evict
 
@@ -136,13 +139,12 @@ module _ {g : Geometry} {c : List ℕ} (w : Intact g c) (i : ℕ) (l : i < g .bl
 pub evict-map : (c d : List ℕ) (m : Map) (b : ℕ) (ch : List ℕ) → evictRefusal c d m b ch ≡ 0
     → mapOf (madeOn card (flat (evictRuns (geometryOf c) c b)) c)
     ≡ mapBy (λ x. isMarked (geometryOf c) c x && not (eqb (currentOf (geometryOf c) c b) x))
-unfolding evictRefusal pairRefusal currentOf mapOf
+unfolding evictRefusal currentOf mapOf
 evict-map c d m b ch z =
     let g = geometryOf c in
     let (pair, more) = orElse-none (pairRefusal c d) _ z in
     let own = orElse-none (blockRefusal g b) _ (orElse-none (choiceRefusal g ch) _ (orElse-none (mapRefusal c m) _ more .1) .1) .1 in
-    let (fit, rest) = orElse-none (fitRefusal c) _ pair in
-    let w = pair-intact c fit d rest .0 in
+    let w = pair-sound c d pair .0 in
     let k = cached-entry g c b (refuse-none 13 _ (omega arith) own) in
     let i = findEntry g c b in
     ap mapOf (made-evict g (limits g (w .good)) c b)
@@ -158,7 +160,7 @@ put a b x e f p q = (λ t. (a && not (p t && x)) || (q t && e)) ∙ ap (λ (y : 
 pub load-map : (c d : List ℕ) (m : Map) (t : List ℕ) (b : ℕ) (ch : List ℕ) → loadRefusal c d m t b ch ≡ 0
     → mapOf (madeOn card (flat (loadRuns (geometryOf c) c d b)) c)
     ≡ mapBy (λ x. isMarked (geometryOf c) c x || eqb (newBlock (geometryOf c) c 0) x)
-unfolding loadRefusal pairRefusal blockRefusal roomFor loadRuns flat single cleanEntry madeOn
+unfolding loadRefusal blockRefusal roomFor loadRuns flat single cleanEntry madeOn
 load-map c d m t b ch z =
     let g = geometryOf c in
     let (pair, more) = orElse-none (pairRefusal c d) _ z in
@@ -166,8 +168,7 @@ load-map c d m t b ch z =
     let (ten, own) = orElse-none (blockRefusal g b) _ (orElse-none (choiceRefusal g ch) _ asked .1) in
     let last = orElse-none (refuse 12 (not (cached g c b))) _ own .1 in
     let room : 1 ≤ length (freeBlocks g c) = leb-true _ _ (refuse-none 14 (leb 1 (length (freeBlocks g c))) (omega arith) last) in
-    let (fit, rest) = orElse-none (fitRefusal c) _ pair in
-    let (w, s) = pair-intact c fit d rest in
+    let (w, s) = pair-sound c d pair in
     let v = lawful w s in
     let q = newBlock g c 0 in
     let i = getD (unusedEntries g c) 0 0 in

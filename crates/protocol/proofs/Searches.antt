@@ -2,7 +2,7 @@
 -- that passes check 6 has an unused entry for each free data block. Assumes nothing.
 use Prim.Native.Nat.{ℕ, zero, suc, _+_, _-_, _≤_, _<_}
 use mathlib.Core.List.{List, [], _∷_, _++_}
-use mathlib.Core.Bool.{Bool, true, false, cond, not, _&&_, _||_}
+use mathlib.Core.Bool.{Bool, true, false, cond, not, _&&_}
 use mathlib.Core.Path.{_≡_, refl, sym, ap, _∙_}
 use mathlib.Core.Logic.{_⊎_, inl, inr, ⊎-elim}
 use native.Mathlib.Nat.{add-zero, add-suc}
@@ -10,9 +10,9 @@ use native.Mathlib.Omega.{arith}
 use lib.ListN.{length, getD, length-append, List·getD-append}
 use lib.Seq.{getD-append-add}
 use lib.Dec.{eqb}
-use borrow.Author.Tests.{eqb-true, eq-eqb, ne-eqb, lt-ltb, le-ltb}
+use borrow.Author.Tests.{eq-eqb, ne-eqb, lt-ltb, le-ltb}
 use Rattle.protocol.specs.Below.{anyBelow, countBelow, eachBelow, keep, around, walked}
-use Rattle.protocol.proofs.Below.{below-cong, either, absurd-bool, below-or-above, last-or-before, around-apart, any-found, any-none, and-left, and-right, and-both}
+use Rattle.protocol.proofs.Below.{below-cong, either, absurd-bool, below-or-above, last-or-before, around-apart, any-found, and-both, and-true, and-fails}
 
 -- ---- what is sifted out
 
@@ -224,47 +224,28 @@ count-not p (suc n) = go (p n) (count-not p n)
 holds : (ℕ → Bool) → (ℕ → ℕ) → ℕ → ℕ → Bool
 holds used at m x = anyBelow (λ i. used i && eqb (at i) x) m
 
--- used entries with blocks of their own hold as many blocks as they are
-held-count : (used : ℕ → Bool) (at : ℕ → ℕ) (n m : ℕ)
-    → ((i j : ℕ) → i < n → j < n → used i ≡ true → used j ≡ true → at i ≡ at j → i ≡ j)
-    → ((i : ℕ) → i < n → used i ≡ true → at i < n) → m ≤ n
-    → countBelow used m ≤ countBelow (holds used at m) n
-unfolding countBelow holds anyBelow
-held-count used at n zero inj low l = omega arith
-held-count used at n (suc m) inj low l = go (either (used m)) (held-count used at n m inj low (omega arith))
+-- a map that keeps numbers apart reaches no fewer
+pub inj-count : (p q : ℕ → Bool) (f : ℕ → ℕ) (m n : ℕ) → ((i : ℕ) → i < m → p i ≡ true → (f i < n) × (q (f i) ≡ true))
+    → ((i j : ℕ) → i < m → j < m → p i ≡ true → p j ≡ true → f i ≡ f j → i ≡ j) → countBelow p m ≤ countBelow q n
+unfolding countBelow
+inj-count p q f zero n to inj = omega arith
+inj-count p q f (suc m) n to inj =
+    go (p m) refl (λ r h. inj-count p r f m n h (λ i j l k. inj i j (omega arith) (omega arith)))
   where
-    or-none : (b : Bool) → b || false ≡ b
-    or-none true = refl
-    or-none false = refl
-
-    go : (used m ≡ true) ⊎ (used m ≡ false) → countBelow used m ≤ countBelow (holds used at m) n
-        → cond (used m) (suc (countBelow used m)) (countBelow used m) ≤ countBelow (holds used at (suc m)) n
-    go (inl u) ih =
-        let grow : countBelow (holds used at (suc m)) n ≡ countBelow (holds used at m) n + 1 =
-        count-grows (holds used at m) (holds used at (suc m)) n (at m) (low m (omega arith) u) fresh now others in
-        rw u (omega arith)
-      where
-        fresh : holds used at m (at m) ≡ false
-        fresh = any-none (λ i. used i && eqb (at i) (at m)) m (λ i h. ⊎-elim
-            (λ e.
-            let same : i ≡ m =
-            inj i m (omega arith) (omega arith) (and-left (used i) (eqb (at i) (at m)) e) u (eqb-true _ _ (and-right (used i) (eqb (at i) (at m)) e)) in
-            absurd (omega arith))
-            (λ e. e)
-            (either (used i && eqb (at i) (at m))))
-
-        now : holds used at (suc m) (at m) ≡ true
-        now = any-found (λ i. used i && eqb (at i) (at m)) (suc m) m (omega arith) (and-both u (eq-eqb (at m) (at m) refl))
-
-        others : (x : ℕ) → x < n → (x ≡ at m → ⊥) → holds used at (suc m) x ≡ holds used at m x
-        others x h k =
-            ap (λ (b : Bool). holds used at m x || (used m && b)) (ne-eqb (at m) x (λ e. k (sym e)))
-            ∙ ap (λ (b : Bool). holds used at m x || (b && false)) u
-            ∙ or-none (holds used at m x)
-    go (inr u) ih =
-        let same : countBelow (holds used at (suc m)) n ≡ countBelow (holds used at m) n =
-        count-cong _ _ n (λ x h. ap (λ (b : Bool). holds used at m x || (b && eqb (at m) x)) u ∙ or-none (holds used at m x)) in
-        rw u (omega arith)
+    go : (b : Bool) → p m ≡ b
+        → ((r : ℕ → Bool) → ((i : ℕ) → i < m → p i ≡ true → (f i < n) × (r (f i) ≡ true)) → countBelow p m ≤ countBelow r n)
+        → cond b (suc (countBelow p m)) (countBelow p m) ≤ countBelow q n
+    go false e rec = rec q (λ i l. to i (omega arith))
+    go true e rec =
+        let last = to m (omega arith) e in
+        let rest : ℕ → Bool = λ x. q x && not (eqb x (f m)) in
+        let more : countBelow q n ≡ countBelow rest n + 1 =
+        count-grows rest q n (f m) (last .0) (and-fails (q (f m)) _ (ap not (eq-eqb (f m) (f m) refl))) (last .1)
+        (λ i l d. sym (ap (λ (b : Bool). q i && not b) (ne-eqb i (f m) d) ∙ and-true (q i))) in
+        let few = rec rest (λ i l h.
+        let at = to i (omega arith) h in
+        (at .0, and-both (at .1) (ap not (ne-eqb (f i) (f m) (λ x. let same = inj i m (omega arith) (omega arith) h e x in omega arith))))) in
+        omega (arith, more, few)
 
 -- as many unused entries as free blocks, or more; in the order of a walk too
 pub unused-enough : (used : ℕ → Bool) (at : ℕ → ℕ) (n s : ℕ)
@@ -277,4 +258,7 @@ unused-enough used at n s inj low l =
     let idle : ℕ → Bool = λ i. not (used i) in
     let f : length (walked free n s n) ≡ countBelow free n = length-walk free n s n ∙ count-round free n s l in
     let u : length (walked idle n s n) ≡ countBelow idle n = length-walk idle n s n ∙ count-round idle n s l in
-    omega (arith, f, u, count-not (holds used at n) n, count-not used n, held-count used at n n inj low (omega arith))
+    let few =
+    inj-count used (holds used at n) at n n
+    (λ i h k. (low i h k, any-found (λ j. used j && eqb (at j) (at i)) n i h (and-both k (eq-eqb (at i) (at i) refl)))) inj in
+    omega (arith, f, u, count-not (holds used at n) n, count-not used n, few)

@@ -14,8 +14,8 @@ use Rattle.protocol.specs.declared.Answer.the-variants.{Done, Cut, Refus
 use Rattle.protocol.specs.declared.Geometry.{Geometry}
 use Rattle.protocol.specs.declared.Map.{Map}
 use Rattle.protocol.specs.Layout.{geometryOf}
-use Rattle.protocol.specs.Ring.{isSettled, findEntry, cached}
-use Rattle.protocol.specs.Check.{refuse, diskRefusal, fitRefusal, choiceRefusal}
+use Rattle.protocol.specs.Ring.{findEntry, cached}
+use Rattle.protocol.specs.Check.{refuse, choiceRefusal}
 use Rattle.protocol.specs.Store.{answerOf}
 use Rattle.protocol.specs.Search.{freeBlocks, unusedEntries}
 use Rattle.protocol.specs.Map.{mapRefusal}
@@ -29,8 +29,8 @@ use Rattle.protocol.specs.CutRule.{TableKept, TableWaits}
 use Rattle.protocol.proofs.Below.{either, and-left, and-right}
 use Rattle.protocol.proofs.Checks.{refuse-none, orElse-none, limits}
 use Rattle.protocol.proofs.CutRule.{done-passed}
-use Rattle.protocol.proofs.Lawful.{Intact, intact, lawful}
-use Rattle.protocol.proofs.Left.{card-intact}
+use Rattle.protocol.proofs.Lawful.{intact, lawful}
+use Rattle.protocol.proofs.Left.{pair-sound}
 use Rattle.protocol.proofs.Loaded.{cached-entry}
 use Rattle.protocol.proofs.Passed.{first-zero, second-zero, room-passed}
 use Rattle.protocol.proofs.Planned.{unused-below, enough-unused}
@@ -51,12 +51,6 @@ table-waits m s t a =
     record { loads = λ b ch f. turned-waits (answerOf a _) t _ f; saves = λ ns bs ch f. turned-waits (answerOf a _) t _ f }
 
 -- ---- where it is
-
--- a card that passes 1 to 7
-pub pair-sound : (c d : List ℕ) → pairRefusal c d ≡ 0 → Intact (geometryOf c) c × (isSettled (geometryOf c) c ≡ true)
-unfolding pairRefusal
-pair-sound c d z =
-    card-intact c (first-zero (fitRefusal c) _ z) (second-zero (diskRefusal (geometryOf c) d) _ (second-zero (fitRefusal c) _ z))
 
 module _ (m : Media) (t : List ℕ) (h : isArranged t ≡ true) where
   abbrev c : List ℕ

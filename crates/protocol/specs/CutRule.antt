@@ -139,7 +139,7 @@ RoomEnough = (c d t ns : List ℕ) → pairRefusal c d ≡ 0 → isArranged t �
 pub record RoomKept (g : Geometry) (m after : Media) (t ns : List ℕ) : Type 0 where
   pub contents-stay : (b : ℕ) → b < g .disk → isAmong ns b ≡ false
       → contents g (after .onCard) (after .onDisk) b ≡ contents g (m .onCard) (m .onDisk) b
-  -- "evicts as many blocks as are missing": no card holds them then, and they are read "from the disk byte for byte as before"
+  -- and each block that it evicted, "as many as are missing", is no longer cached, and is read "from the disk byte for byte as before"
   pub evicted : (k : ℕ) → k < missing g (m .onCard) ns
       → (cached g (after .onCard) (victimNumber g (m .onCard) t ns k) ≡ false)
       × (diskBlock g (after .onDisk) (victimNumber g (m .onCard) t ns k) ≡ contents g (m .onCard) (m .onDisk) (victimNumber g (m .onCard) t ns k))

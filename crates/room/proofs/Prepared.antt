@@ -19,7 +19,7 @@ use Rattle.plan.specs.declared.Basis.{Basis}
 use Rattle.plan.specs.Request.{choiceRoom}
 use Rattle.stores.proofs.Laws.{refused-answer, refused-after, refused-map}
 use Rattle.transfer.specs.Moved.{Finished}
-use Rattle.room.specs.declared.Choice.{Choice}
+use Rattle.room.specs.declared.Selection.{Selection}
 use Rattle.room.specs.declared.Making.{Making}
 use Rattle.room.specs.Made.{askedRefusal, Asked, Chosen, Prepared, Makeable}
 use Rattle.room.proofs.Asking.{asked-all}
@@ -37,7 +37,7 @@ module _ (c d : List ℕ) (m : Map) (t ns : List ℕ) (size room : ℕ) (xs : Li
     places = λ z. absurd (h z);
   }
 
-  pub prepared-chosen : (z : s .refusal ≡ 0) (es ps vs : List ℕ) (r : Choice) → Chosen (s .geometry) c t ns es ps vs r
+  pub prepared-chosen : (z : s .refusal ≡ 0) (es ps vs : List ℕ) (r : Selection) → Chosen (s .geometry) c t ns es ps vs r
       → Prepared c d m t ns size room es ps vs (record { refusal = r .refusal; geometry = s .geometry; head = s .head; count = r .count })
   prepared-chosen z es ps vs r y =
       let own : Chosen (geometryOf c) c t ns es ps vs r = subst (λ (g : Geometry). Chosen g c t ns es ps vs r) (x .geometry-is z) y in

@@ -21,7 +21,7 @@ use Rattle.plan.specs.declared.Basis.{Basis}
 use Rattle.plan.specs.Met.{metRefusal, Searchable}
 use Rattle.plan.specs.Planned.{Homes}
 use Rattle.plan.specs.Request.{choiceRoom, requestRefusal}
-use Rattle.room.specs.declared.Choice.{Choice}
+use Rattle.room.specs.declared.Selection.{Selection}
 use Rattle.room.specs.declared.Making.{Making}
 
 -- all refusals but 14, of data and a choice that are known by their length and room
@@ -45,7 +45,7 @@ pub record Gathered (g : Geometry) (c t ns : List ℕ) (want : ℕ) (vs : List �
   pub places : want ≤ r → (i : ℕ) → i < want → getD vs i 0 ≡ getD (victims g c t ns) i 0
 
 -- 14, or where the numbers are cached and the victims, as many as are missing
-pub record Chosen (g : Geometry) (c t ns es ps vs : List ℕ) (r : Choice) : Type 0 where
+pub record Chosen (g : Geometry) (c t ns es ps vs : List ℕ) (r : Selection) : Type 0 where
   pub refusal-is : r .refusal ≡ refuse 14 (enoughVictims g c t ns)
   pub homes : r .refusal ≡ 0 → Homes g c ns es ps
   pub count : r .refusal ≡ 0 → r .count ≡ missing g c ns

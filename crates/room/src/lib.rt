@@ -111,7 +111,7 @@ fn lacking(n: usize, free: u64) -> usize
 }
 
 // What a commit's victims come to: 14, or how many they are.
-pub struct Choice {
+pub struct Selection {
     pub refusal: u8,
     pub count: usize,
 }
@@ -126,13 +126,13 @@ fn choose(
     entries: &mut [u8; 128],
     previous: &mut [u8; 128],
     victims: &mut [u8; 128],
-) -> Choice
+) -> Selection
     requires { ⌜ (x .geometry ≡ geometryOf (now card)) × (fitRefusal (now card) ≡ 0) × ((m : Map) × Searchable (x .geometry) (now card) (x .head) (now index) m (x .free)) × (numbersFit (x .geometry) (now numbers) ≡ true) × (isArranged (now table) ≡ true) × (length (now entries) ≡ 128) × (length (now previous) ≡ 128) × (length (now victims) ≡ 128) ⌝ }
     ensures { λ r. ⌜ Chosen (x .geometry) (now (card .entry)) (now (table .entry)) (now (numbers .entry)) (now (entries .exit)) (now (previous .exit)) (now (victims .exit)) r ⌝ }
 {
     let n = numbers.len();
     if 128 < n {
-        return Choice {
+        return Selection {
             refusal: 14,
             count: 0,
         };
@@ -143,12 +143,12 @@ fn choose(
     let marks = recency::marks_of(entries, n);
     let found = gather(g, card, table, &marks, missing, victims);
     if found < missing {
-        return Choice {
+        return Selection {
             refusal: 14,
             count: 0,
         };
     }
-    Choice {
+    Selection {
         refusal: 0,
         count: missing,
     }
