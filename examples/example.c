@@ -1,5 +1,5 @@
-/* Formats a card, saves two blocks, loses the power in the next save, recovers, reads, is warned of a save without room, makes room and drains
- * the card. */
+/* Formats a card, saves two blocks, loses the power in the next save, recovers, reads, is warned of a save without room, makes room, drains
+ * the card, and upgrades one of version 1. */
 #include <inttypes.h>
 #include <stdio.h>
 #include <stdlib.h>
@@ -97,6 +97,15 @@ static void drain(void)
     }
 }
 
+/* What a station does with a card of version 1, which all other calls refuse: it recovers it and upgrades it, once. */
+static void take_over(void)
+{
+    make_map();
+    told("recover a card of version 1", tinca_recover(card, sizeof card, map, 2, UINT64_MAX));
+    told("upgrade it", tinca_upgrade(card, sizeof card, UINT64_MAX));
+    state();
+}
+
 int main(void)
 {
     const uint64_t numbers[2] = {3, 5};
@@ -148,5 +157,8 @@ int main(void)
     show(3);
     show(5);
     show(4);
+
+    card[4] = 1; /* as an older library left it: a card that caches nothing differs in this byte alone */
+    take_over();
     return EXIT_SUCCESS;
 }

@@ -1,5 +1,5 @@
-//! Formats a card, saves two blocks, loses the power in the next save, recovers, reads, is warned of a save without room, makes room and
-//! drains the card.
+//! Formats a card, saves two blocks, loses the power in the next save, recovers, reads, is warned of a save without room, makes room, drains
+//! the card, and upgrades one of version 1.
 
 use tinca_tests::ffi::Library;
 use tinca_tests::{Answer, Cached, Calls, Place, State};
@@ -68,6 +68,14 @@ fn drain(card: &mut [u8], disk: &mut [u8], map: &mut [u64], data_blocks: u64) {
     }
 }
 
+/// What a station does with a card of version 1, which all other calls refuse: it recovers it and upgrades it, once.
+fn take_over(card: &mut [u8]) {
+    let mut map = Library.fresh_map(card);
+    told("recover a card of version 1", Library.recover(card, &mut map, u64::MAX));
+    told("upgrade it", Library.upgrade(card, u64::MAX));
+    state(card);
+}
+
 fn main() {
     let mut card = vec![0; 2304];
     let mut disk = vec![0; 16 * BLOCK_BYTES];
@@ -118,4 +126,8 @@ fn main() {
     show(&card, &disk, &mut table, 3);
     show(&card, &disk, &mut table, 5);
     show(&card, &disk, &mut table, 4);
+
+    // as an older library left it: a card that caches nothing differs in this byte alone
+    card[4] = 1;
+    take_over(&mut card);
 }

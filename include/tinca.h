@@ -1,11 +1,11 @@
 /*
  * tinca: a write-back cache card in front of a disk, proved against power cuts at every store.
  *
- * Promised. Both commits, load, evict and recover each have a list of stores (docs/CARD.md): of an 8-byte word, a 16-byte entry
- * or a 512-byte disk sector each. The words of a data block are one run, and so are the sectors of a disk block; every other
- * store is a run by itself. Wherever that list stops between two runs, or inside one with any of its stores made and the
- * others not, a recovery that answers "done" leaves the card settled, and a settled card reads, byte for byte, as the last
- * commit that answered "done" left it. This holds over every list of calls from a formatted card, recoveries cut again and
+ * Promised. Both commits, load, evict, recover and upgrade each have a list of stores (docs/CARD.md): of an 8-byte word, a
+ * 16-byte entry or a 512-byte disk sector each. The words of a data block are one run, and so are the sectors of a disk block;
+ * every other store is a run by itself. Wherever that list stops between two runs, or inside one with any of its stores made
+ * and the others not, a recovery that answers "done" leaves the card settled, and a settled card reads, byte for byte, as the
+ * last commit that answered "done" left it. This holds over every list of calls from a formatted card, recoveries cut again and
  * again among them. It is proved of the code: the bytes that a call leaves are those after its list so stopped. Each call
  * takes every input, always returns, and refuses by number before any store, so that a refusal changes nothing.
  *
@@ -53,6 +53,10 @@
  * takes it, and one that is cut or refused leaves it as it was. Each call that takes it refuses any other row of bytes with 16,
  * before any store. Nothing of the table stands on the card: a station that starts anew begins with one that ascends.
  *
+ * Versions. tinca_format makes cards of version 2. A card of version 1, which an earlier library made, is taken by tinca_make_map,
+ * tinca_recover and tinca_upgrade; every other call refuses it with 1. At start: make the map, recover, upgrade, and go on with the
+ * map that the recovery left. The promise above holds from the day the version 1 card was formatted, across the upgrade too.
+ *
  * Slices. A pointer and a length in bytes, but for `map` and `numbers`, whose lengths count words of 64 bits, and `blocks`, whose
  * length counts numbers of 32 bits. A pointer may be null where its length is 0; a null with another length is used as an
  * address wherever its bytes are looked at, and nothing is promised. `map` and `numbers` are aligned as a uint64_t is, `blocks`
@@ -74,7 +78,7 @@
 #include <stdint.h>
 
 /* Of this header and the library beside it. The middle number grows where a call changes. */
-#define TINCA_VERSION "0.5.0"
+#define TINCA_VERSION "0.6.0"
 
 /* Lengths in bytes, as constants where their arguments are: of a block, of a card, of a disk. */
 #define TINCA_BLOCK_LENGTH(k) ((size_t)1 << (k))
@@ -129,7 +133,7 @@ static inline const char *tinca_refusal_text(uint32_t number)
     case 0:
         return "not refused";
     case TINCA_BAD_HEADER:
-        return "the card is under 128 bytes or a header field is wrong; for format, k, S, N or D is out of its limits";
+        return "the card is under 128 bytes or a header field is wrong, the version among them; for format, k, S, N or D is out of its limits";
     case TINCA_BAD_CARD_LENGTH:
         return "the card has the wrong length";
     case TINCA_BAD_DISK_LENGTH:
@@ -216,12 +220,12 @@ typedef struct {
     uint64_t low, high;
 } tinca_map;
 
-/* Makes a fresh card: nothing cached, settled. It leaves the bytes of the data blocks, and what the old card had cached and
+/* Makes a fresh card of version 2: nothing cached, settled. It leaves the bytes of the data blocks, and what the old card had cached and
  * not yet written to the disk is lost. The card's length is TINCA_CARD_LENGTH. Done, or refused with 1 (a limit of k, S, N or
  * D) or 2 (a card of another length, a short one too). */
 tinca_answer tinca_format(uint64_t k, uint64_t slots, uint64_t data_blocks, uint64_t disk_blocks, uint8_t *card, size_t card_len);
 
-/* Tells the map that the card gives, settled or not. Made, or refused with 1, 2 or 4 to 6. */
+/* Tells the map that the card gives, settled or not, of version 1 or 2. Made, or refused with 1, 2 or 4 to 6. */
 tinca_map tinca_make_map(const uint8_t *card, size_t card_len);
 
 /* Tells how many data blocks are free by a map: 128 less the bits that are set in its two words. */
@@ -260,10 +264,15 @@ tinca_answer tinca_load(uint8_t *card, size_t card_len, const uint8_t *disk, siz
 tinca_answer tinca_evict(uint8_t *card, size_t card_len, uint8_t *disk, size_t disk_len, uint64_t *map, size_t map_words, uint64_t block,
                          const uint8_t *choice, size_t choice_len, uint64_t allowance);
 
-/* Undoes what a cut commit left; on a settled card it makes no store. To be called at start-up, with the map just made, before
+/* Undoes what a cut commit left, of a card of version 1 or 2; on a settled card it makes no store. On a version 2 card a block that
+ * was clean before the commit is clean again; on a version 1 card every block that is undone comes back modified. To be called at start-up, with the map just made, before
  * all else: a station cannot know whether its power failed in a commit. After a cut one the next, with the map made again, goes
  * on where it stopped. Done, cut, or refused with 1, 2, 4 to 6 or 15. */
 tinca_answer tinca_recover(uint8_t *card, size_t card_len, uint64_t *map, size_t map_words, uint64_t allowance);
+
+/* Makes a settled card of version 1 one of version 2: one store, of the header's first word. The map and the table stay as they
+ * are. m = 1. Done, cut, or refused with 1 (any version but 1), 2 or 4 to 7. */
+tinca_answer tinca_upgrade(uint8_t *card, size_t card_len, uint64_t allowance);
 
 /* Copies a block to `out`, B bytes, and tells where it lies; where that is the card, its entry goes to the front of the table.
  * Refused with 1 to 7, 16, 9 or 10; `out` is then untouched. */

@@ -92,7 +92,7 @@ impl Round {
 #[export_name = "unproved_commit"]
 pub fn commit(card: &mut [u8], map: &mut [u64], numbers: &[u64], data: &[u8], choice: &[u8], allowance: u64) -> Answer {
     use Answer::*;
-    if card.len() < 128 || card[0..5] != [0, 0, 0, 64, 1] || card[16..64] != [0; 48] {
+    if card.len() < 128 || card[0..5] != [0, 0, 0, 64, 2] || card[16..64] != [0; 48] {
         return Refused(1);
     }
     let k = card[5] as usize;
@@ -132,11 +132,11 @@ pub fn commit(card: &mut [u8], map: &mut [u64], numbers: &[u64], data: &[u8], ch
         let flag = first >> 56;
         let number = first & ((1 << 56) - 1);
         let (previous, current) = ((second >> 32) as u32, second as u32);
-        let allowed = flag == 0x80 || flag == 0x82 || flag == 0x83;
+        let allowed = flag == 0x80 || flag & 0xFA == 0x82;
         if !allowed || number >= disk_blocks as u64 || current as usize >= count || (previous as usize >= count && previous != FRESH) {
             return Refused(5);
         }
-        role |= flag == 0x83;
+        role |= flag & 1 == 1;
         used |= 1 << index;
         equal |= taken >> current & 1 == 1;
         taken |= 1 << current;
@@ -212,6 +212,8 @@ pub fn commit(card: &mut [u8], map: &mut [u64], numbers: &[u64], data: &[u8], ch
         left -= words;
         let entry = entries + 16 * targets[i].0 as usize;
         let previous = if targets[i].1 { word(card, entry + 8) as u32 } else { FRESH };
+        // an unused entry is not modified
+        let flag = if card[entry] & 0x02 == 0 { 0x83 } else { 0x87 };
         bits |= 1 << current;
         if previous != FRESH {
             bits &= !(1 << previous);
@@ -219,14 +221,14 @@ pub fn commit(card: &mut [u8], map: &mut [u64], numbers: &[u64], data: &[u8], ch
         let next = if at_head + 1 == slots { 0 } else { at_head + 1 };
         if left < 3 {
             if left > 0 {
-                put_entry(card, entry, *number, previous, current);
+                put_entry(card, entry, flag, *number, previous, current);
             }
             if left > 1 {
                 card[128 + 8 * at_head..136 + 8 * at_head].copy_from_slice(&number.to_be_bytes());
             }
             return Cut;
         }
-        put_entry(card, entry, *number, previous, current);
+        put_entry(card, entry, flag, *number, previous, current);
         card[128 + 8 * at_head..136 + 8 * at_head].copy_from_slice(&number.to_be_bytes());
         card[64..72].copy_from_slice(&(next as u64).to_be_bytes());
         left -= 3;
@@ -236,7 +238,7 @@ pub fn commit(card: &mut [u8], map: &mut [u64], numbers: &[u64], data: &[u8], ch
         if left == 0 {
             return Cut;
         }
-        card[entries + 16 * target.0 as usize] = 0x82;
+        card[entries + 16 * target.0 as usize] &= 0xFE;
         left -= 1;
     }
     if left == 0 {
@@ -256,7 +258,7 @@ fn put_chosen(to: &mut [u8], from: &[u8], choice: &[u8]) {
 }
 
 #[inline]
-fn put_entry(card: &mut [u8], at: usize, number: u64, previous: u32, current: usize) {
-    card[at..at + 8].copy_from_slice(&(0x83 << 56 | number).to_be_bytes());
+fn put_entry(card: &mut [u8], at: usize, flag: u64, number: u64, previous: u32, current: usize) {
+    card[at..at + 8].copy_from_slice(&(flag << 56 | number).to_be_bytes());
     card[at + 8..at + 16].copy_from_slice(&((previous as u64) << 32 | current as u64).to_be_bytes());
 }

@@ -1,4 +1,5 @@
-/* A format over a card in use, stopped after each machine instruction: until its last store the card is the old one or is refused with 1.
+/* A format over a card in use, of either version, stopped after each machine instruction: until its last store the card is the old one or is
+ * refused with 1, by every call: also by those that take version 1.
  *
  *     format_steps           the library's format
  *     format_steps --wrong   one that writes the header first, which must be reported
@@ -17,6 +18,7 @@
 enum { K = 9, DISK_BLOCKS = 16, BLOCK = 512 };
 
 typedef struct {
+    uint8_t version; /* of the card in use */
     uint64_t slots, data_blocks;
     size_t length, front; /* of the card; up to its data blocks */
     uint8_t *card, *old, *made;
@@ -35,7 +37,7 @@ static void wrong_format(const subject *s)
     memset(s->card + 64, 0, s->front - 64);
 }
 
-/* A card that caches two blocks, and what a format makes of it. */
+/* A card that caches two blocks, and what a format makes of it. Blocks saved once have the same entries on a card of version 1. */
 static void prepare(subject *s)
 {
     const uint64_t numbers[2] = {3, 5};
@@ -58,6 +60,9 @@ static void prepare(subject *s)
     map[1] = made.high;
     if (tinca_commit(s->card, s->length, map, 2, numbers, 2, data, sizeof data, choice, sizeof choice, UINT64_MAX).kind != TINCA_DONE)
         exit(2);
+    s->card[4] = s->version;
+    if (tinca_make_map(s->card, s->length).kind != TINCA_MADE)
+        exit(2);
     memcpy(s->old, s->card, s->length);
     memcpy(s->made, s->card, s->length);
     tinca_format(K, s->slots, s->data_blocks, DISK_BLOCKS, s->made, s->length);
@@ -66,7 +71,7 @@ static void prepare(subject *s)
 /* Whether the card is neither the old nor the new nor one that is refused for its header. */
 static int is_mixed(const subject *s)
 {
-    return tinca_state_of(s->card, s->length).refusal != TINCA_BAD_HEADER && memcmp(s->card, s->old, s->length) && memcmp(s->card, s->made, s->length);
+    return tinca_make_map(s->card, s->length).refusal != TINCA_BAD_HEADER && memcmp(s->card, s->old, s->length) && memcmp(s->card, s->made, s->length);
 }
 
 /* Formats in a child that stops after each instruction; answers how many stops left a mixed card. */
@@ -102,13 +107,22 @@ static long stepped(const subject *s, int wrong, long *stops)
 
 int main(int count, char **words)
 {
-    subject subjects[] = {{.slots = 8, .data_blocks = 4}, {.slots = 256, .data_blocks = 128}};
+    subject subjects[] = {
+        {.version = 2, .slots = 8, .data_blocks = 4},
+        {.version = 2, .slots = 256, .data_blocks = 128},
+        {.version = 1, .slots = 8, .data_blocks = 4},
+    };
     const int wrong = count == 2 && strcmp(words[1], "--wrong") == 0;
-    long stops = 0, mixed = 0;
+    long stops = 0;
+    int good = 1;
     for (size_t i = 0; i < sizeof subjects / sizeof *subjects; i++) {
+        long mixed;
         prepare(&subjects[i]);
-        mixed += stepped(&subjects[i], wrong, &stops);
+        stops = 0;
+        mixed = stepped(&subjects[i], wrong, &stops);
+        printf("%ld instructions of a format over a card of version %d, %ld leave one that is neither old nor new nor refused with 1\n", stops,
+               subjects[i].version, mixed);
+        good &= (mixed > 0) == wrong;
     }
-    printf("%ld instructions of two formats, %ld leave a card that is neither old nor new nor refused with 1\n", stops, mixed);
-    return (mixed > 0) != wrong;
+    return !good;
 }

@@ -59,6 +59,7 @@ tinca_answer tinca_load(uint8_t *card, size_t card_len, const uint8_t *disk, siz
                         uint8_t *table, size_t table_len, uint64_t block, const uint8_t *choice, size_t choice_len, uint64_t allowance);
 tinca_answer tinca_evict(uint8_t *card, size_t card_len, uint8_t *disk, size_t disk_len, uint64_t *map, size_t map_words, uint64_t block,
                          const uint8_t *choice, size_t choice_len, uint64_t allowance);
+tinca_answer tinca_upgrade(uint8_t *card, size_t card_len, uint64_t allowance);
 tinca_place tinca_read(const uint8_t *card, size_t card_len, const uint8_t *disk, size_t disk_len, uint8_t *table, size_t table_len,
                        uint64_t block, uint8_t *out, size_t out_len);
 #ifdef __cplusplus

@@ -1,9 +1,10 @@
-/* Both commits, load and recover, stopped after each machine instruction: every stop leaves whole units, in the order of the call's stores.
+/* Both commits, load, recover and upgrade, stopped after each machine instruction: every stop leaves whole units, in the order of the call's
+ * stores.
  *
  *     store_steps           the library's calls; the first stop that leaves anything else ends it
  *     store_steps --count   the same to the end, with such stops counted
- *     store_steps --wrong   the same stores from a list: with each entry in two halves, or a sector behind its entry, they must be reported,
- *                           with each whole and in order not
+ *     store_steps --wrong   the same stores from a list: with each entry in two halves, the header without a version first, or a sector behind
+ *                           its entry, they must be reported, with each whole and in order not
  *
  * What a stop may leave: up to the data blocks the card is what some allowance leaves, no smaller one than at the stop before; and each
  * word of the data blocks is one that an allowance with those bytes leaves, so a block's words come in any order but before its entry. Each
@@ -38,7 +39,7 @@ enum {
 typedef uint64_t word __attribute__((may_alias));
 typedef uint64_t pair __attribute__((may_alias, vector_size(16)));
 
-enum call { COMMIT, ROOM, LOAD, RECOVER };
+enum call { COMMIT, ROOM, LOAD, RECOVER, RECOVER_OLD, UPGRADE };
 enum stores { BY_LIBRARY, WHOLE, HALVES, LATE };
 
 typedef struct {
@@ -46,23 +47,28 @@ typedef struct {
     enum call call;
     size_t count;
     uint64_t numbers[MOST]; /* of either commit, of the cut commit that is recovered; the first is loaded */
+    uint64_t loaded;        /* up to this block, by the set-up */
 } subject;
 
-/* The set-up saves 1, 2 and 3 and leaves Head at the last slot. Where room is to be made, it loads 4 to 8 besides and reads 1 and 2, so that
- * 3, which is modified, is the least recently used block, and then come 4 and 5, which are clean. */
+/* The set-up saves 1, 2 and 3 and leaves Head at the last slot; some load 4, which is clean then. Where room is to be made, it loads 4 to 8 and
+ * reads 1 and 2, so that 3, which is modified, is the least recently used block, and then come 4 and 5, which are clean. */
 static const subject subjects[] = {
-    {"commit of a fresh block", COMMIT, 1, {9}},
-    {"commit of a cached block", COMMIT, 1, {2}},
-    {"commit of two fresh blocks", COMMIT, 2, {9, 12}},
-    {"commit of two cached blocks", COMMIT, 2, {3, 1}},
-    {"commit of three, one cached", COMMIT, 3, {9, 2, 12}},
-    {"room for one, a modified block goes", ROOM, 1, {9}},
-    {"room for two, a clean one goes too", ROOM, 2, {12, 9}},
-    {"room for three, one cached", ROOM, 3, {9, 2, 12}},
-    {"load", LOAD, 1, {9}},
-    {"recover after fresh blocks", RECOVER, 2, {9, 12}},
-    {"recover after cached blocks", RECOVER, 2, {3, 1}},
-    {"recover after three, one cached", RECOVER, 3, {9, 2, 12}},
+    {"commit of a fresh block", COMMIT, 1, {9}, 0},
+    {"commit of a cached block", COMMIT, 1, {2}, 0},
+    {"commit of two fresh blocks", COMMIT, 2, {9, 12}, 0},
+    {"commit of two cached blocks", COMMIT, 2, {3, 1}, 0},
+    {"commit of three, one cached", COMMIT, 3, {9, 2, 12}, 0},
+    {"commit of a clean block and a modified one", COMMIT, 2, {4, 2}, .loaded = 4},
+    {"room for one, a modified block goes", ROOM, 1, {9}, .loaded = DATA_BLOCKS},
+    {"room for two, a clean one goes too", ROOM, 2, {12, 9}, .loaded = DATA_BLOCKS},
+    {"room for three, one cached", ROOM, 3, {9, 2, 12}, .loaded = DATA_BLOCKS},
+    {"load", LOAD, 1, {9}, 0},
+    {"recover after fresh blocks", RECOVER, 2, {9, 12}, 0},
+    {"recover after cached blocks", RECOVER, 2, {3, 1}, 0},
+    {"recover after three, one cached", RECOVER, 3, {9, 2, 12}, 0},
+    {"recover after a clean block and a modified one", RECOVER, 2, {4, 2}, .loaded = 4},
+    {"recover of version 1 after three, two cached", RECOVER_OLD, 3, {9, 4, 2}, .loaded = 4},
+    {"upgrade", UPGRADE, 0, {0}, .loaded = 4},
 };
 
 static uint8_t *card, *disk, table[128], data[MOST * BLOCK], choice[BLOCK / 8];
@@ -127,18 +133,28 @@ static tinca_answer perform(const subject *s, uint8_t *to, uint64_t allowance)
                                         choice, sizeof choice, allowance);
     if (s->call == LOAD)
         return tinca_load(to, LENGTH, disk, DISK, map, 2, table, sizeof table, s->numbers[0], choice, sizeof choice, allowance);
+    if (s->call == UPGRADE)
+        return tinca_upgrade(to, LENGTH, allowance);
     return tinca_recover(to, LENGTH, map, 2, allowance);
 }
 
-/* Fills a card, so that the next commit must make room. */
-static void load_and_read(uint8_t *to)
+/* Loads blocks 4 up to this one, and reads 1 and 2. With all of them the card is full, and the next commit must make room. */
+static void load_and_read(uint8_t *to, uint64_t up_to)
 {
     uint8_t out[BLOCK];
-    for (uint64_t number = 4; number <= DATA_BLOCKS; number++)
+    for (uint64_t number = 4; number <= up_to; number++)
         demand(tinca_load(to, LENGTH, disk, DISK, map, 2, table, sizeof table, number, choice, sizeof choice, UINT64_MAX).kind == TINCA_DONE,
                "a load of the set-up");
     for (uint64_t number = 1; number <= 2; number++)
         demand(tinca_read(to, LENGTH, disk, DISK, table, sizeof table, number, out, BLOCK).kind == TINCA_ON_CARD, "a read of the set-up");
+}
+
+/* The card as a station of before would have left it: its version is 1, and it has no flag P. */
+static void make_old(uint8_t *to)
+{
+    to[4] = 1;
+    for (size_t at = ENTRIES; at < FRONT; at += 16)
+        to[at] &= 0xFB;
 }
 
 /* The card before the call, into `left[0]`, its map and the table. */
@@ -156,13 +172,14 @@ static void prepare(const subject *s, uint64_t cut)
         fill(data, sizeof data, i);
         demand(commit(before, 1, &number, UINT64_MAX).kind == TINCA_DONE, "a commit of the set-up");
     }
-    if (s->call == ROOM)
-        load_and_read(before);
+    load_and_read(before, s->loaded);
     fill(data, sizeof data, SLOTS - 1);
     evicting = 0;
     choose(cut);
-    if (s->call == RECOVER)
+    if (s->call == RECOVER || s->call == RECOVER_OLD)
         demand(commit(before, s->count, s->numbers, cut).kind == TINCA_CUT, "the commit to recover from is not cut");
+    if (s->call == RECOVER_OLD || s->call == UPGRADE)
+        make_old(before);
     make_map(before);
     memcpy(left_disk[0], disk, DISK);
 }
@@ -192,6 +209,26 @@ static size_t first_difference(const uint8_t *a, const uint8_t *b, size_t length
     return at;
 }
 
+/* The flag byte of the entry for a block; 0 where there is none. */
+static uint8_t flags_of(const uint8_t *of, uint64_t number)
+{
+    for (size_t at = ENTRIES; at < FRONT; at += 16)
+        if (of[at] && of[at + 7] == number)
+            return of[at];
+    return 0;
+}
+
+/* A commit's log entries, behind the Head store of their block, and their flags at its end: 87 and then 86 over a modified entry, which was
+ * 82 or 86, else 83 and then 82. */
+static void look_at_flags(const subject *s)
+{
+    for (size_t i = 0; i < s->count; i++) {
+        const uint8_t before = flags_of(left[0], s->numbers[i]), p = before & 2 ? 4 : 0;
+        demand(flags_of(left[evicting + (i + 1) * (SAVING - 1)], s->numbers[i]) == (0x83 | p), "a log entry has other flags");
+        demand(flags_of(left[last], s->numbers[i]) == (0x82 | p), "an entry has other flags after its role switch");
+    }
+}
+
 /* What the call leaves with every allowance up to m, and where each store changes what the one before left. */
 static void list(const subject *s)
 {
@@ -209,9 +246,12 @@ static void list(const subject *s)
         const size_t on_disk = first_difference(left_disk[i], left_disk[i + 1], DISK);
         places[i] = at < LENGTH ? at - at % (at >= ENTRIES && at < FRONT ? 16 : 8) : LENGTH + on_disk - on_disk % BLOCK;
     }
+    if (s->call == COMMIT || s->call == ROOM)
+        look_at_flags(s);
+    demand(s->call != UPGRADE || (last == 1 && places[0] == 0), "an upgrade stores something else than the header's first word");
 }
 
-/* One of the listed stores, an entry by one instruction or by two. */
+/* One of the listed stores, an entry by one instruction or by two. Of the header one byte changes, so a word in two is one without it first. */
 static void store(size_t i, enum stores how)
 {
     const size_t at = places[i];
@@ -221,6 +261,8 @@ static void store(size_t i, enum stores how)
     if (at >= LENGTH) {
         memcpy(disk + at - LENGTH, left_disk[i + 1] + at - LENGTH, BLOCK);
     } else if (at < ENTRIES || at >= FRONT) {
+        if (at == 0 && how == HALVES)
+            *(volatile uint8_t *)(card + 4) = 0;
         *(volatile word *)(card + at) = *(const word *)from;
     } else if (how != HALVES) {
         *(volatile pair *)(card + at) = *(const pair *)from;
@@ -307,7 +349,7 @@ static long stepped(const subject *s, enum stores how, long *stops)
 /* Steps the call, a recovery from every cut of its commit that leaves another card up to the data blocks. */
 static long all_stepped(const subject *s, enum stores how, long *stops)
 {
-    const uint64_t cuts = s->call == RECOVER ? s->count * (BLOCK / 8 + 4) : 0;
+    const uint64_t cuts = s->call == RECOVER || s->call == RECOVER_OLD ? s->count * (BLOCK / 8 + 4) : 0;
     static uint8_t before[FRONT];
     long wrong = 0;
     for (uint64_t cut = 0; cut <= cuts && (wrong == 0 || how != BY_LIBRARY || counting); cut++) {
@@ -337,7 +379,7 @@ int main(int count, char **words)
             const long whole = all_stepped(s, WHOLE, &stops);
             const long late = s->call == ROOM ? all_stepped(s, LATE, &stops) : 1;
             wrong = all_stepped(s, HALVES, &stops);
-            printf("%s: entries whole, %ld wrong stops; in halves, %ld", s->name, whole, wrong);
+            printf("%s: units whole, %ld wrong stops; in halves, %ld", s->name, whole, wrong);
             if (s->call == ROOM)
                 printf("; sectors late, %ld", late);
             puts("");

@@ -4,14 +4,17 @@
 //! that it is made of.
 
 use crate::choices::{Pick, PICKS, WRONG_CHOICES};
-use crate::model::{ascending, commit_stores, cut_run, in_order, map_of, zeros, Card, Model, Run, MAP_BITS, TABLE};
+use crate::model::{
+    ascending, commit_stores, cut_run, in_order, map_of, zeros, Card, Model, Run, MAP_BITS, NOW, OLD, TABLE, VERSION_AT,
+};
 use crate::random::{mix, Random};
-use crate::room::{cases, in_a_row, keeps_law, CASES};
+use crate::room::{cases, evicted, in_a_row, keeps_law, CASES};
 use crate::tables::{WrongTable, ORDERS, WRONG_TABLES};
+use crate::versions::{odd_flag, odd_version, Owed, ODD_FLAGS, OVERS, VERSIONS};
 use crate::{Answer, Cached, Calls, FreeMap, Geometry, Place, State};
 use std::collections::HashMap;
 
-pub const CALLS: [&str; 13] = [
+pub const CALLS: [&str; 14] = [
     "format",
     "commit",
     "room-making commit",
@@ -19,6 +22,7 @@ pub const CALLS: [&str; 13] = [
     "load",
     "evict",
     "recover",
+    "upgrade",
     "read",
     "look",
     "state",
@@ -35,12 +39,13 @@ const PREVIEW: usize = 3;
 const LOAD: usize = 4;
 const EVICT: usize = 5;
 const RECOVER: usize = 6;
-const READ: usize = 7;
-const LOOK: usize = 8;
-const STATE: usize = 9;
-const CACHED: usize = 10;
-const MAKE_MAP: usize = 11;
-const FREE_COUNT: usize = 12;
+const UPGRADE: usize = 7;
+const READ: usize = 8;
+const LOOK: usize = 9;
+const STATE: usize = 10;
+const CACHED: usize = 11;
+const MAKE_MAP: usize = 12;
+const FREE_COUNT: usize = 13;
 
 /// The refusals that each call may give, in the order of `CALLS`; those of a call in the order in which it asks.
 pub const REFUSALS: [&[usize]; CALLS.len()] = [
@@ -51,6 +56,7 @@ pub const REFUSALS: [&[usize]; CALLS.len()] = [
     &[1, 2, 3, 4, 5, 6, 7, 15, 16, 17, 10, 12, 14],
     &[1, 2, 3, 4, 5, 6, 7, 15, 17, 10, 13],
     &[1, 2, 4, 5, 6, 15],
+    &[1, 2, 4, 5, 6, 7],
     &[1, 2, 3, 4, 5, 6, 7, 16, 9, 10],
     &[1, 2, 3, 4, 5, 6, 7, 10],
     &[1, 2, 4, 5, 6],
@@ -65,6 +71,7 @@ const NUMBERS: usize = 18;
 const TAKE_A_MAP: [usize; 6] = [COMMIT, ROOM, PREVIEW, LOAD, EVICT, RECOVER];
 const TAKE_A_TABLE: [usize; 3] = [ROOM, LOAD, READ];
 const TAKE_A_CHOICE: [usize; 4] = [COMMIT, ROOM, LOAD, EVICT];
+const TAKE_NO_CARD: [usize; 2] = [FORMAT, FREE_COUNT];
 
 /// Format, preview, make map and free count have one kind of answer besides a refusal.
 fn has_second_kind(call: usize) -> bool {
@@ -194,6 +201,14 @@ pub struct Tally {
     pub tables: [[u64; WRONG_TABLES.len()]; CALLS.len()],
     pub places: [u128; CALLS.len()],
     pub beside_table: [[u64; NUMBERS]; CALLS.len()],
+    /// Of the cards refused with 1 for their version alone: how many of each version. Of those refused with 5 for one flag byte alone: how
+    /// many with each, on old cards and on others.
+    pub versions: [[u64; VERSIONS.len()]; CALLS.len()],
+    pub flags: [[[u64; ODD_FLAGS.len()]; 2]; CALLS.len()],
+    /// As `first` and `second`, of old cards alone.
+    pub old: [[u64; 2]; CALLS.len()],
+    /// Of the commits of both kinds that were cut and undone: how many saved over an entry of each kind, and left it as it was.
+    pub kept: [[u64; OVERS.len()]; CALLS.len()],
     /// What the commits that make room came upon, and how many of them were made once more of evicts and a commit.
     pub cases: [u64; CASES.len()],
     pub in_a_row: u64,
@@ -222,6 +237,10 @@ impl Tally {
             more(&mut self.beside[call], &other.beside[call]);
             more(&mut self.tables[call], &other.tables[call]);
             more(&mut self.beside_table[call], &other.beside_table[call]);
+            more(&mut self.versions[call], &other.versions[call]);
+            (0..2).for_each(|old| more(&mut self.flags[call][old], &other.flags[call][old]));
+            more(&mut self.old[call], &other.old[call]);
+            more(&mut self.kept[call], &other.kept[call]);
             self.bits[call] |= other.bits[call];
             self.places[call] |= other.places[call];
         }
@@ -232,16 +251,18 @@ impl Tally {
         self.odd_data += other.odd_data;
     }
 
-    /// One line: calls, dones, those that made room, cuts and those that a choice decides, previews, where blocks were found, conditions, entries told, maps
-    /// made, refusals by number.
+    /// One line: calls, dones, those that made room, upgrades and recoveries of old cards, cuts and those that a choice decides, previews,
+    /// where blocks were found, conditions, entries told, maps made, refusals by number.
     pub fn line(&self) -> String {
-        let stored = [FORMAT, COMMIT, ROOM, LOAD, EVICT, RECOVER];
+        let stored = [FORMAT, COMMIT, ROOM, LOAD, EVICT, RECOVER, UPGRADE];
         let mut line = format!(
-            "{} calls: {} done, {} of them with evictions, {} cut ({} by a choice), {} previewed, {} on card, {} on disk, {} settled, \
-             {} unsettled, {} in use, {} unused, {} maps; refused",
+            "{} calls: {} done, {} of them with evictions, {} upgrades, {} recoveries of old cards, {} cut ({} by a choice), {} previewed, \
+             {} on card, {} on disk, {} settled, {} unsettled, {} in use, {} unused, {} maps; refused",
             self.calls(),
             stored.iter().map(|call| self.first[*call]).sum::<u64>(),
             self.cases[0],
+            self.first[UPGRADE],
+            self.old[RECOVER][0],
             stored.iter().map(|call| self.second[*call]).sum::<u64>(),
             self.picks.iter().flatten().sum::<u64>(),
             self.first[PREVIEW],
@@ -261,10 +282,12 @@ impl Tally {
     }
 
     /// Every answer that a call may give has occurred, and no other; each call that takes a map has refused every kind of wrong one
-    /// with 15, and preview every wrong output with 9; commits came out as they were foretold. Of choices and tables none is missing.
+    /// with 15, and preview every wrong output with 9; commits came out as they were foretold. Of choices, tables and versions none is
+    /// missing.
     pub fn complete(&self) -> Result<(), String> {
         self.complete_choices()?;
         self.complete_tables()?;
+        self.complete_versions()?;
         for call in 0..CALLS.len() {
             let name = CALLS[call];
             if self.first[call] == 0 {
@@ -340,6 +363,61 @@ impl Tally {
         }
         Ok(())
     }
+
+    /// Each call that takes a card has refused one of every version that it does not take, and of those that it takes one with each flag byte
+    /// that is not allowed there; old cards were recovered, in full and in part, and given a map. Commits of both kinds that were cut left
+    /// entries of every kind as they were.
+    fn complete_versions(&self) -> Result<(), String> {
+        for call in (0..CALLS.len()).filter(|call| !TAKE_NO_CARD.contains(call)) {
+            let (name, versions) = (CALLS[call], taken_versions(call));
+            let refused = VERSIONS.iter().zip(self.versions[call]);
+            if let Some((version, count)) = refused.into_iter().find(|(version, count)| (*count > 0) == versions.contains(version)) {
+                return Err(format!("{name}: {count} cards refused for their version {version}"));
+            }
+            for version in versions {
+                let is_odd = |flag: &u8| odd_flags(*version).contains(flag);
+                let counts = ODD_FLAGS.iter().zip(self.flags[call][usize::from(*version == OLD)]);
+                if let Some((flag, count)) = counts.into_iter().find(|(flag, count)| (*count > 0) != is_odd(flag)) {
+                    return Err(format!("{name}: {count} cards of version {version} refused for the flag byte {flag:X}"));
+                }
+            }
+        }
+        for (call, kinds) in [(RECOVER, 2), (MAKE_MAP, 1)] {
+            if self.old[call][..kinds].contains(&0) {
+                return Err(format!("{} of old cards: {:?}", CALLS[call], self.old[call]));
+            }
+        }
+        for call in [COMMIT, ROOM] {
+            if let Some((over, _)) = OVERS.iter().zip(self.kept[call]).find(|(_, count)| *count == 0) {
+                return Err(format!("{}: none was cut and undone over an entry that was {over:?}", CALLS[call]));
+            }
+        }
+        Ok(())
+    }
+}
+
+/// The versions of the cards that a call takes.
+fn taken_versions(call: usize) -> &'static [u8] {
+    match call {
+        RECOVER | MAKE_MAP => &[OLD, NOW],
+        UPGRADE => &[OLD],
+        _ => &[NOW],
+    }
+}
+
+/// The flag bytes, of those that are tried, that are not allowed on a card of the version.
+fn odd_flags(version: u8) -> &'static [u8] {
+    match version {
+        OLD => &[0x81, 0x84, 0x85, 0x86, 0x87],
+        _ => &[0x81, 0x84, 0x85],
+    }
+}
+
+/// What an answer is counted as.
+enum Kind {
+    First,
+    Second,
+    Refused(u32),
 }
 
 const GUARD: usize = 64;
@@ -493,11 +571,15 @@ pub struct Pair<'a> {
     choice_turns: [usize; CALLS.len()],
     table_turns: [usize; CALLS.len()],
     reads: usize,
+    /// The version of the cards that the calls take.
+    version: u8,
+    /// What a recovery owes, after a commit that was cut.
+    owed: Option<Owed>,
     pub tally: Tally,
 }
 
 /// Card and disk, and the table of their station.
-#[derive(Clone)]
+#[derive(Clone, PartialEq, Eq)]
 pub struct Snapshot {
     pub card: Vec<u8>,
     pub disk: Vec<u8>,
@@ -522,8 +604,20 @@ impl<'a> Pair<'a> {
             choice_turns: [shift; CALLS.len()],
             table_turns: [shift; CALLS.len()],
             reads: 0,
+            version: NOW,
+            owed: None,
             tally: Tally::default(),
         }
+    }
+
+    /// Two stations of before, for the past of old cards.
+    pub fn old(one: &'a dyn Calls, other: &'a dyn Calls, card: &[u8], disk: &[u8], shift: usize) -> Pair<'a> {
+        Pair { version: OLD, ..Pair::new(one, other, card, disk, shift) }
+    }
+
+    /// Whether the card is one that the calls take to recover and to upgrade alone.
+    pub fn is_old(&self) -> bool {
+        self.version == NOW && self.card().get(VERSION_AT) == Some(&OLD)
     }
 
     pub fn card(&self) -> &[u8] {
@@ -568,12 +662,14 @@ impl<'a> Pair<'a> {
         }
         self.set_table(&to.table);
         self.out_of_step = true;
+        self.owed = None;
     }
 
     pub fn set_card(&mut self, card: &[u8]) {
         self.card[0].set(card);
         self.card[1].set(card);
         self.out_of_step = true;
+        self.owed = None;
     }
 
     pub fn set_disk(&mut self, disk: &[u8]) {
@@ -600,12 +696,36 @@ impl<'a> Pair<'a> {
         }
         self.compared(what)?;
         match b {
-            Answer::Done(_) => self.tally.first[call] += 1,
-            Answer::Cut => self.tally.second[call] += 1,
-            Answer::Refused(number) => self.tally.refused[call][number as usize] += 1,
+            Answer::Done(_) => self.count(call, Kind::First),
+            Answer::Cut => self.count(call, Kind::Second),
+            Answer::Refused(number) => self.count(call, Kind::Refused(number)),
             Answer::Malformed(..) => return Err(format!("malformed answer {b:?}")),
         }
         Ok(b)
+    }
+
+    fn count(&mut self, call: usize, kind: Kind) {
+        let old = u64::from(self.is_old());
+        match kind {
+            Kind::First => {
+                self.tally.first[call] += 1;
+                self.tally.old[call][0] += old;
+            }
+            Kind::Second => {
+                self.tally.second[call] += 1;
+                self.tally.old[call][1] += old;
+            }
+            Kind::Refused(number) => {
+                self.tally.refused[call][number as usize] += 1;
+                let (version, flag) = match number {
+                    1 => (odd_version(self.card(), taken_versions(call)), None),
+                    5 => (None, odd_flag(self.card())),
+                    _ => (None, None),
+                };
+                version.into_iter().for_each(|version| self.tally.versions[call][version] += 1);
+                flag.into_iter().for_each(|flag| self.tally.flags[call][usize::from(old > 0)][flag] += 1);
+            }
+        }
     }
 
     pub fn format(&mut self, k: u64, slots: u64, data_blocks: u64, disk_blocks: u64) -> Result<Answer, String> {
@@ -613,6 +733,7 @@ impl<'a> Pair<'a> {
         let b = self.other.format(k, slots, data_blocks, disk_blocks, self.card[1].get_mut());
         let length = self.card[1].length;
         self.out_of_step = true;
+        self.owed = None;
         self.answered(FORMAT, a, b, || format!("format({k}, {slots}, {data_blocks}, {disk_blocks}, card of {length})"))
     }
 
@@ -625,10 +746,10 @@ impl<'a> Pair<'a> {
         self.compared(|| "make map".to_string())?;
         match b {
             FreeMap::Made([low, high]) => {
-                self.tally.first[MAKE_MAP] += 1;
+                self.count(MAKE_MAP, Kind::First);
                 self.free_count(low, high)?;
             }
-            FreeMap::Refused(number) => self.tally.refused[MAKE_MAP][number as usize] += 1,
+            FreeMap::Refused(number) => self.count(MAKE_MAP, Kind::Refused(number)),
             FreeMap::Malformed(..) => return Err(format!("malformed answer {b:?}")),
         }
         Ok(b)
@@ -824,16 +945,41 @@ impl<'a> Pair<'a> {
         let before = self.map[1].get().to_vec();
         let answer = self.both(call, run, what)?;
         match answer {
-            Answer::Done(_) => {
+            Answer::Done(stores) => {
+                self.pays(call, stores).map_err(|difference| format!("{}: {difference}", what()))?;
                 if self.make_map()? != FreeMap::Made([self.map[1].get()[0], self.map[1].get()[1]]) {
                     return Err(format!("{}: the map handed on is not the card's", what()));
                 }
             }
-            Answer::Cut => self.make_again()?,
+            Answer::Cut => {
+                self.owed = self.owed.take().filter(|_| call == RECOVER);
+                self.make_again()?;
+            }
             _ => return Ok(answer),
         }
         self.stale = before;
         Ok(answer)
+    }
+
+    /// What is owed after a call that was done: a recovery pays it, and any other call begins anew.
+    fn pays(&mut self, call: usize, stores: u64) -> Result<(), String> {
+        let Some(owed) = self.owed.take().filter(|_| call == RECOVER) else { return Ok(()) };
+        let card = Card::open_settled(self.card(), None).map_err(|number| format!("a recovered card is refused with {number}"))?;
+        owed.is_paid(&card)?;
+        if stores > 0 {
+            owed.overs.iter().for_each(|over| self.tally.kept[owed.call][*over as usize] += 1);
+        }
+        Ok(())
+    }
+
+    /// What a recovery owes after this commit, which found the card so and finished these evictions. Those of its blocks count whose log entry
+    /// was made.
+    fn owes(&mut self, call: usize, before: Option<Card>, evicted: &[usize], numbers: &[u64], answer: Answer) {
+        if let (Some(card), Answer::Cut, NOW, Ok(left)) = (before, answer, self.version, Card::open(self.card(), None)) {
+            let is_logged = |number: &u64| left.in_use().any(|entry| entry.number == *number && left.undoable(entry));
+            let logged: Vec<u64> = numbers.iter().copied().filter(is_logged).collect();
+            self.owed = Some(Owed::new(call, card, evicted, &logged));
+        }
     }
 
     /// The choice that is picked for a call of so large an allowance.
@@ -850,7 +996,9 @@ impl<'a> Pair<'a> {
     pub fn commit(&mut self, numbers: &[u64], data: &[u8], pick: Pick, allowance: u64) -> Result<Answer, String> {
         let what = || format!("commit({numbers:?}, data of {}, choice {pick:?}, allowance {allowance})", data.len());
         let run: &Call = &|calls, lent| calls.commit(lent.card, lent.map, numbers, data, lent.choice, allowance);
+        let before = Card::open_settled(self.card(), None).ok();
         let answer = self.choosing(COMMIT, &self.picked(COMMIT, pick, allowance), run, &what)?;
+        self.owes(COMMIT, before, &[], numbers, answer);
         let words = self.block() as u64 / 8;
         let inside = allowance < numbers.len() as u64 * (words + 3) && allowance % (words + 3) < words;
         self.count_cut(COMMIT, pick, answer == Answer::Cut && inside);
@@ -1000,17 +1148,18 @@ impl<'a> Pair<'a> {
     /// A commit that makes room. Every fourth that is done is made once more of evicts and a commit; 14 is held to its law.
     pub fn commit_making_room(&mut self, numbers: &[u64], data: &[u8], pick: Pick, allowance: u64) -> Result<Answer, String> {
         let what = || format!("room-making commit({numbers:?}, data of {}, choice {pick:?}, allowance {allowance})", data.len());
-        let card = Card::open_settled(self.card(), None).ok();
-        let table = self.table().to_vec();
-        let runs = Model::default().room_list(self.card(), self.disk().len(), &table, numbers, data).unwrap_or_default();
+        let card = Card::open_settled(self.card(), None).ok().filter(|card| card.version == self.version);
+        let (table, model) = (self.table().to_vec(), Model::of(self.version));
+        let runs = model.room_list(self.card(), self.disk().len(), &table, numbers, data).unwrap_or_default();
         let before = (self.table_turns[ROOM] % 4 == 0 && self.disk().len() <= WHOLE_DISK).then(|| self.snapshot());
         let run: &Call =
             &|calls, lent| calls.commit_making_room(lent.card, lent.disk, lent.map, lent.table, numbers, data, lent.choice, allowance);
         let answer = self.choosing(ROOM, &self.picked_making_room(pick, &runs, allowance), run, &what)?;
         let unordered = matches!(cut_run(&runs, allowance), Some((Run::Unordered(_), _)));
         self.count_cut(ROOM, pick, answer == Answer::Cut && unordered);
+        self.owes(ROOM, card.clone(), &evicted(&runs, allowance, self.card()), numbers, answer);
         if let Some(card) = card {
-            let victims = Model::default().victims(&card, &table, numbers);
+            let victims = model.victims(&card, &table, numbers);
             let victims: Vec<u64> = victims.iter().map(|index| card.entries[*index].unwrap().number).collect();
             cases(&card, &table, numbers, allowance, answer).iter().for_each(|case| self.tally.cases[*case as usize] += 1);
             let rules = keeps_law(&card, numbers, answer)
@@ -1037,15 +1186,29 @@ impl<'a> Pair<'a> {
         self.storing(RECOVER, &|calls, lent| calls.recover(lent.card, lent.map, allowance), &what)
     }
 
+    /// An upgrade: done, the version alone is another one; cut or refused, nothing is.
+    pub fn upgrade(&mut self, allowance: u64) -> Result<Answer, String> {
+        let what = || format!("upgrade(allowance {allowance})");
+        let mut left = self.card().to_vec();
+        let answer = self.both(UPGRADE, &|calls, lent| calls.upgrade(lent.card, allowance), &what)?;
+        if let Answer::Done(_) = answer {
+            left[VERSION_AT] = NOW;
+        }
+        if left != self.card() {
+            return Err(format!("{}: {answer:?}, and it leaves another card", what()));
+        }
+        Ok(answer)
+    }
+
     fn placed(&mut self, call: usize, a: Place, b: Place, what: impl Fn() -> String) -> Result<Place, String> {
         if a != b {
             return Err(format!("{}: answers {a:?} and {b:?}", what()));
         }
         self.compared(what)?;
         match b {
-            Place::Card(..) => self.tally.first[call] += 1,
-            Place::Disk(..) => self.tally.second[call] += 1,
-            Place::Refused(number) => self.tally.refused[call][number as usize] += 1,
+            Place::Card(..) => self.count(call, Kind::First),
+            Place::Disk(..) => self.count(call, Kind::Second),
+            Place::Refused(number) => self.count(call, Kind::Refused(number)),
             Place::Malformed(..) => return Err(format!("malformed answer {b:?}")),
         }
         Ok(b)
@@ -1098,12 +1261,25 @@ impl<'a> Pair<'a> {
         }
         self.compared(|| "state".to_string())?;
         match b {
-            State::Settled { .. } => self.tally.first[STATE] += 1,
-            State::Unsettled { .. } => self.tally.second[STATE] += 1,
-            State::Refused(number) => self.tally.refused[STATE][number as usize] += 1,
+            State::Settled { .. } => self.count(STATE, Kind::First),
+            State::Unsettled { .. } => self.count(STATE, Kind::Second),
+            State::Refused(number) => self.count(STATE, Kind::Refused(number)),
             State::Malformed(..) => return Err(format!("malformed answer {b:?}")),
         }
         Ok(b)
+    }
+
+    /// Whether the card, one of a history, is settled; of an old one, which state refuses, the model tells.
+    pub fn is_settled(&mut self) -> Result<bool, String> {
+        match self.state()? {
+            State::Settled { .. } => Ok(true),
+            State::Unsettled { .. } => Ok(false),
+            State::Refused(1) if self.is_old() => {
+                let card = Card::open(self.card(), None).map_err(|number| format!("an old card of a history is refused with {number}"))?;
+                Ok(card.settled())
+            }
+            other => Err(format!("a card of a history is refused: {other:?}")),
+        }
     }
 
     pub fn cached(&mut self, place: u64) -> Result<Cached, String> {
@@ -1113,9 +1289,9 @@ impl<'a> Pair<'a> {
             return Err(format!("cached({place}): answers {a:?} and {b:?}"));
         }
         match b {
-            Cached::Block { .. } => self.tally.first[CACHED] += 1,
-            Cached::Nothing => self.tally.second[CACHED] += 1,
-            Cached::Refused(number) => self.tally.refused[CACHED][number as usize] += 1,
+            Cached::Block { .. } => self.count(CACHED, Kind::First),
+            Cached::Nothing => self.count(CACHED, Kind::Second),
+            Cached::Refused(number) => self.count(CACHED, Kind::Refused(number)),
             Cached::Malformed(..) => return Err(format!("malformed answer {b:?}")),
         }
         Ok(b)
@@ -1173,12 +1349,17 @@ impl Row {
         }
     }
 
-    /// Read and look hand out the row's block.
+    /// Read and look hand out the row's block. An old card they refuse; its contents are then the model's to tell.
     pub fn holds(&self, pair: &mut Pair, number: u64) -> Result<(), String> {
         let wanted = self.block(number);
         let (place, looked) = (pair.read(number, self.geometry.block())?, pair.look(number)?);
         if place != looked {
             return Err(format!("block {number}: read says {place:?}, look {looked:?}"));
+        }
+        if pair.is_old() {
+            let card = Card::open_settled(pair.card(), None).map_err(|number| format!("an old card is refused with {number}"))?;
+            let held = looked == Place::Refused(1) && card.contents(pair.card(), pair.disk(), number) == wanted;
+            return if held { Ok(()) } else { Err(format!("block {number} of an old card is not the row's, or is read: {looked:?}")) };
         }
         let part = match looked {
             Place::Card(at, length) => &pair.card()[at as usize..(at + length) as usize],
@@ -1190,10 +1371,6 @@ impl Row {
         }
         Ok(())
     }
-}
-
-fn settled(state: State) -> bool {
-    matches!(state, State::Settled { .. })
 }
 
 #[derive(Clone, Debug)]
@@ -1242,7 +1419,7 @@ pub fn data_of(seed: u64, n: usize, block: usize) -> Vec<u8> {
     data
 }
 
-fn make(pair: &mut Pair, geometry: Geometry, step: &Step, pick: Pick, allowance: u64, row: &mut Row) -> Result<Answer, String> {
+pub fn make(pair: &mut Pair, geometry: Geometry, step: &Step, pick: Pick, allowance: u64, row: &mut Row) -> Result<Answer, String> {
     match step {
         Step::Commit(numbers, seed) => {
             let data = data_of(*seed, numbers.len(), geometry.block());
@@ -1294,10 +1471,8 @@ pub fn every_cut<'a>(
     for step in script {
         let before = pair.snapshot();
         let m = make_in_full(&mut pair, geometry, step, &mut row.clone())?;
-        let trailing = m.saturating_sub(4 * geometry.data_blocks + 8);
         for allowance in 0..=m {
-            let inside = allowance > 3 && allowance < trailing && allowance % (geometry.block() as u64 / 8) > 6;
-            let followed_up = !inside || allowance % stride == 0;
+            let followed_up = !is_inside(geometry, allowance, m) || allowance % stride == 0;
             let one_pick = [PICKS[allowance as usize % PICKS.len()]];
             for pick in if followed_up { &PICKS[..] } else { &one_pick } {
                 pair.set(&before);
@@ -1319,21 +1494,27 @@ pub fn every_cut<'a>(
     Ok(pair.tally)
 }
 
-fn all_hold(pair: &mut Pair, blocks: u64, row: &Row) -> Result<(), String> {
+/// Whether an allowance of a call of `m` stores ends inside the words of a block, away from what is stored before and behind them.
+pub fn is_inside(geometry: Geometry, allowance: u64, m: u64) -> bool {
+    let trailing = m.saturating_sub(4 * geometry.data_blocks + 8);
+    allowance > 3 && allowance < trailing && allowance % (geometry.block() as u64 / 8) > 6
+}
+
+pub fn all_hold(pair: &mut Pair, blocks: u64, row: &Row) -> Result<(), String> {
     (0..blocks).try_for_each(|block| row.holds(pair, block))
 }
 
 /// What a call left, before any recovery: on a settled card the row.
-fn as_left(pair: &mut Pair, geometry: Geometry, blocks: u64, row: &Row) -> Result<(), String> {
+pub fn as_left(pair: &mut Pair, geometry: Geometry, blocks: u64, row: &Row) -> Result<(), String> {
     pair.listed(geometry.data_blocks)?;
-    if settled(pair.state()?) {
+    if pair.is_settled()? {
         return all_hold(pair, blocks, row);
     }
     (0..blocks).try_for_each(|block| pair.look(block).map(drop))
 }
 
 /// A recovery at every allowance, after each cut one a second at every allowance, then one in full, and the row.
-fn every_recovery(pair: &mut Pair, blocks: u64, row: &Row) -> Result<(), String> {
+pub fn every_recovery(pair: &mut Pair, blocks: u64, row: &Row) -> Result<(), String> {
     let cut = pair.snapshot();
     let places = done(pair.recover(u64::MAX)?)?;
     for first in 0..=places {
@@ -1347,7 +1528,7 @@ fn every_recovery(pair: &mut Pair, blocks: u64, row: &Row) -> Result<(), String>
             if done(pair.recover(u64::MAX)?)? != places - second {
                 return Err("a recovery's remaining stores are not those that were cut off".to_string());
             }
-            if !settled(pair.state()?) {
+            if !pair.is_settled()? {
                 return Err("not settled after a recovery that answered done".to_string());
             }
             all_hold(pair, blocks, row)?;
@@ -1356,11 +1537,16 @@ fn every_recovery(pair: &mut Pair, blocks: u64, row: &Row) -> Result<(), String>
     Ok(())
 }
 
-/// From a recovered card what is on it reaches the disk, and a step that was cut is made once more.
-fn goes_on(pair: &mut Pair, geometry: Geometry, blocks: u64, step: &Step, answer: Answer, row: &mut Row) -> Result<(), String> {
+/// From a recovered card what is on it reaches the disk, what is clean without a store there, and a step that was cut is made once more.
+pub fn goes_on(pair: &mut Pair, geometry: Geometry, blocks: u64, step: &Step, answer: Answer, row: &mut Row) -> Result<(), String> {
     let recovered = pair.snapshot();
+    let card = Card::open_settled(pair.card(), None).map_err(|number| format!("a recovered card is refused with {number}"))?;
     for block in 0..blocks {
-        pair.evict(block, Pick::Zeros, u64::MAX)?;
+        let (clean, disk) = (card.in_use().any(|entry| entry.number == block && !entry.modified), pair.disk().to_vec());
+        let answer = pair.evict(block, Pick::Zeros, u64::MAX)?;
+        if clean && (answer != Answer::Done(1) || pair.disk() != disk) {
+            return Err(format!("evict of block {block}, which is clean: {answer:?}"));
+        }
         row.holds(pair, block)?;
     }
     pair.set(&recovered);
@@ -1385,123 +1571,127 @@ pub fn random_history<'a>(
     let mut pair = Pair::new(one, other, &card, &first_disk(seed, geometry), (seed % 8) as usize);
     let mut row = Row::new(seed, geometry);
     done(pair.format(geometry.k, geometry.slots, geometry.data_blocks, geometry.disk_blocks)?)?;
-    let hot = geometry.disk_blocks.min(2 * geometry.data_blocks);
-    let pick = |random: &mut Random| {
-        // some of the hot numbers lie at the disk's end
-        let number = random.below(hot);
-        if number % 3 == 2 {
-            geometry.disk_blocks - 1 - number
-        } else {
-            number
-        }
-    };
-    let block = geometry.block();
     let small = geometry.disk_blocks <= 64;
     for turn in 0..calls {
-        let most = match random.below(3) {
-            0 => u64::MAX,
-            _ => random.below(6 * (block as u64 / 8 + 4) + 2),
-        };
-        let choice = random.pick(&PICKS);
-        match random.below(19) {
-            0..=5 => {
-                let largest = (geometry.slots - 1).min(geometry.data_blocks / 2).min(geometry.disk_blocks).max(1);
-                let n = match random.below(20) {
-                    0 => largest,
-                    1 => 0,
-                    2 => (geometry.slots - random.below(2)).min(300),
-                    _ => 1 + random.below(largest.min(4)),
-                } as usize;
-                let mut numbers: Vec<u64> = Vec::new();
-                while numbers.len() < n {
-                    let number = pick(&mut random);
-                    if !numbers.contains(&number) || random.once_in(40) || numbers.len() as u64 >= hot / 2 {
-                        numbers.push(number);
-                    }
-                }
-                let data = data_of(random.next(), n, block);
-                let m = (n * (block / 8 + 4) + 1) as u64;
-                let allowance = match random.below(6) {
-                    0 => random.below(m + 2),
-                    1 => (m + 1).saturating_sub(random.below(2 * n as u64 + 4)),
-                    _ => u64::MAX,
-                };
-                if random.once_in(3) {
-                    pair.preview(&numbers, &data, some_output(&mut random))?;
-                }
-                let answer = pair.foretold(&numbers, &data, choice, allowance)?;
-                row.feed(&numbers, &data, answer);
+        some_call(&mut pair, &mut random, geometry, &mut row)?;
+        if turn % 4 == 0 {
+            match pair.is_settled()? {
+                true if small && turn % 32 == 0 => all_hold(&mut pair, geometry.disk_blocks, &row)?,
+                true => row.holds(&mut pair, some_number(&mut random, geometry))?,
+                false => {}
             }
-            6 | 7 => {
-                pair.load(pick(&mut random), choice, most)?;
+            if turn % 256 == 0 {
+                pair.whole()?;
             }
-            8..=10 => {
-                let allowance = if random.once_in(3) { random.below(block as u64 / 512 + 2) } else { u64::MAX };
-                pair.evict(pick(&mut random), choice, allowance)?;
-            }
-            11..=12 => {
-                pair.recover(if random.once_in(3) { random.below(5) } else { u64::MAX })?;
-            }
-            13 => {
-                pair.read(pick(&mut random), block)?;
-            }
-            14 => {
-                pair.look(pick(&mut random))?;
-            }
-            15 => {
-                pair.state()?;
-                pair.listed(geometry.data_blocks)?;
-            }
-            _ => save_making_room(&mut pair, &mut random, geometry, &pick, choice, &mut row)?,
-        }
-        if random.once_in(50) {
-            // the station's table, unlike card and disk, may be another one at any time
-            let table = random.pick(&ORDERS).table(random.next());
-            pair.set_table(&table);
-        }
-        let now = if turn % 4 == 0 { pair.state()? } else { continue };
-        match now {
-            State::Settled { .. } if small && turn % 32 == 0 => {
-                for number in 0..geometry.disk_blocks {
-                    row.holds(&mut pair, number)?;
-                }
-            }
-            State::Settled { .. } => row.holds(&mut pair, pick(&mut random))?,
-            State::Unsettled { .. } => {}
-            other => return Err(format!("a card of a history is refused: {other:?}")),
-        }
-        if turn % 256 == 0 {
-            pair.whole()?;
         }
     }
-    let mut last = pair.recover(u64::MAX)?;
-    while let Answer::Cut = last {
-        last = pair.recover(u64::MAX)?;
-    }
-    done(last)?;
-    let every = if small { geometry.disk_blocks } else { hot };
+    done(pair.recover(u64::MAX)?)?;
+    let every = if small { geometry.disk_blocks } else { hot_numbers(geometry) };
     for number in 0..every {
-        row.holds(&mut pair, if small { number } else { pick(&mut random) })?;
+        row.holds(&mut pair, if small { number } else { some_number(&mut random, geometry) })?;
     }
     pair.whole()?;
     Ok(pair.tally)
 }
 
+/// How many numbers the calls of a history take.
+fn hot_numbers(geometry: Geometry) -> u64 {
+    geometry.disk_blocks.min(2 * geometry.data_blocks)
+}
+
+/// One of them. Some lie at the disk's end.
+fn some_number(random: &mut Random, geometry: Geometry) -> u64 {
+    let number = random.below(hot_numbers(geometry));
+    if number % 3 == 2 {
+        geometry.disk_blocks - 1 - number
+    } else {
+        number
+    }
+}
+
+/// One call of a history, with any arguments; at times the station's table is another one after it, unlike card and disk.
+pub fn some_call(pair: &mut Pair, random: &mut Random, geometry: Geometry, row: &mut Row) -> Result<(), String> {
+    let block = geometry.block();
+    let most = match random.below(3) {
+        0 => u64::MAX,
+        _ => random.below(6 * (block as u64 / 8 + 4) + 2),
+    };
+    let choice = random.pick(&PICKS);
+    match random.below(20) {
+        0..=5 => save(pair, random, geometry, choice, row)?,
+        6 | 7 => {
+            pair.load(some_number(random, geometry), choice, most)?;
+        }
+        8..=10 => {
+            let allowance = if random.once_in(3) { random.below(block as u64 / 512 + 2) } else { u64::MAX };
+            pair.evict(some_number(random, geometry), choice, allowance)?;
+        }
+        11 | 12 => {
+            pair.recover(if random.once_in(3) { random.below(5) } else { u64::MAX })?;
+        }
+        13 => {
+            pair.read(some_number(random, geometry), block)?;
+        }
+        14 => {
+            pair.look(some_number(random, geometry))?;
+        }
+        15 => {
+            pair.state()?;
+            pair.listed(geometry.data_blocks)?;
+        }
+        // a station of before has no upgrade
+        16 if pair.version == NOW => {
+            pair.upgrade(random.pick(&[0, 1, 2, u64::MAX]))?;
+        }
+        _ => save_making_room(pair, random, geometry, choice, row)?,
+    }
+    if random.once_in(50) {
+        let table = random.pick(&ORDERS).table(random.next());
+        pair.set_table(&table);
+    }
+    Ok(())
+}
+
+/// A commit that makes no room, foretold; mostly of few blocks, of some of them twice.
+fn save(pair: &mut Pair, random: &mut Random, geometry: Geometry, pick: Pick, row: &mut Row) -> Result<(), String> {
+    let block = geometry.block();
+    let largest = (geometry.slots - 1).min(geometry.data_blocks / 2).min(geometry.disk_blocks).max(1);
+    let n = match random.below(20) {
+        0 => largest,
+        1 => 0,
+        2 => (geometry.slots - random.below(2)).min(300),
+        _ => 1 + random.below(largest.min(4)),
+    } as usize;
+    let mut numbers: Vec<u64> = Vec::new();
+    while numbers.len() < n {
+        let number = some_number(random, geometry);
+        if !numbers.contains(&number) || random.once_in(40) || numbers.len() as u64 >= hot_numbers(geometry) / 2 {
+            numbers.push(number);
+        }
+    }
+    let data = data_of(random.next(), n, block);
+    let m = (n * (block / 8 + 4) + 1) as u64;
+    let allowance = match random.below(6) {
+        0 => random.below(m + 2),
+        1 => (m + 1).saturating_sub(random.below(2 * n as u64 + 4)),
+        _ => u64::MAX,
+    };
+    if random.once_in(3) {
+        pair.preview(&numbers, &data, some_output(random))?;
+    }
+    let answer = pair.foretold(&numbers, &data, pick, allowance)?;
+    row.feed(&numbers, &data, answer);
+    Ok(())
+}
+
 /// A commit that makes room, of up to as many blocks as the card has, with some of them cached.
-fn save_making_room(
-    pair: &mut Pair,
-    random: &mut Random,
-    geometry: Geometry,
-    number: &dyn Fn(&mut Random) -> u64,
-    pick: Pick,
-    row: &mut Row,
-) -> Result<(), String> {
+fn save_making_room(pair: &mut Pair, random: &mut Random, geometry: Geometry, pick: Pick, row: &mut Row) -> Result<(), String> {
     let largest = (geometry.slots - 1).min(geometry.data_blocks).min(geometry.disk_blocks);
     let most = if random.once_in(3) { largest } else { largest.min(4) };
     let n = 1 + random.below(most);
     let mut numbers: Vec<u64> = Vec::new();
     for _ in 0..2 * n {
-        let number = number(random);
+        let number = some_number(random, geometry);
         if (numbers.len() as u64) < n && (!numbers.contains(&number) || random.once_in(40)) {
             numbers.push(number);
         }
@@ -1520,8 +1710,8 @@ fn save_making_room(
 }
 
 /// A card somewhere in a history, cut or not, made by the model alone.
-pub fn some_card(random: &mut Random, geometry: Geometry) -> Snapshot {
-    let model = Model::default();
+pub fn some_card(random: &mut Random, geometry: Geometry, version: u8) -> Snapshot {
+    let model = Model::of(version);
     let mut card = vec![0; geometry.card_length()];
     random.fill(&mut card);
     let (mut disk, mut table) = (first_disk(random.next(), geometry), ascending());
@@ -1577,7 +1767,7 @@ pub fn damage(random: &mut Random, geometry: Geometry, to: &mut Snapshot) {
     match random.below(22) {
         0 => card[random.below(64) as usize] ^= 1 << random.below(8),
         1 => put(card, 0, &random.pick(&[0u32, 63, 65, 128, 0x4000_0000]).to_be_bytes()),
-        2 => card[4] = random.pick(&[0, 2, 255]),
+        2 => card[VERSION_AT] = random.pick(&VERSIONS),
         3 => card[5] = random.pick(&[0, 8, 9, 10, 11, 12, 13, 64, 255]),
         4 => put(card, 6, &random.pick(&[0u16, 4, 7, 8, 9, 12, 16, 256, 257, 264, 65_528]).to_be_bytes()),
         5 => put(card, 8, &random.pick(&[0u32, 2, 3, 4, 6, 8, 128, 130, 132, 0xFFFF_FFFC]).to_be_bytes()),
@@ -1605,7 +1795,7 @@ pub fn damage(random: &mut Random, geometry: Geometry, to: &mut Snapshot) {
             put(card, geometry.slot_at(random.below(s)), &number.to_be_bytes());
         }
         13 => card[some_entry] = random.next() as u8,
-        14 => card[some_entry] = random.pick(&[0, 0x80, 0x82, 0x83, 0x81]),
+        14 => card[some_entry] = random.pick(&[0, 0x80, 0x81, 0x82, 0x83, 0x84, 0x85, 0x86, 0x87]),
         15 => {
             let number = random.pick(&[d, d - 1, d + 1, 0, (1 << 56) - 1, 1 << 48]).to_be_bytes();
             put(card, some_entry + 1, &number[1..]);
@@ -1620,7 +1810,7 @@ pub fn damage(random: &mut Random, geometry: Geometry, to: &mut Snapshot) {
         19 => {
             let part: Vec<u8> = card[other_entry + 12..other_entry + 16].to_vec();
             put(card, some_entry + 8, &part);
-            card[some_entry] = 0x83;
+            card[some_entry] = random.pick(&[0x83, 0x87]);
         }
         20 => {
             let length = card.len().min(128);
@@ -1638,7 +1828,8 @@ pub fn drawn(random: &mut Random, geometry: Geometry) -> Snapshot {
     let (s, n, d) = (geometry.slots, geometry.data_blocks, geometry.disk_blocks);
     let mut card = vec![0; geometry.card_length()];
     random.fill(&mut card);
-    put(&mut card, 0, &geometry.header());
+    let version = random.pick(&[OLD, NOW, NOW]);
+    put(&mut card, 0, &geometry.header(version));
     let head = random.below(s);
     let tail = if random.once_in(2) { head } else { random.below(s) };
     put(&mut card, 64, &head.to_be_bytes());
@@ -1646,7 +1837,12 @@ pub fn drawn(random: &mut Random, geometry: Geometry) -> Snapshot {
     for slot in 0..s {
         put(&mut card, geometry.slot_at(slot), &random.below(d).to_be_bytes());
     }
-    let flags: &[u8] = if random.once_in(2) { &[0, 0x80, 0x82] } else { &[0, 0, 0x80, 0x82, 0x83] };
+    let flags: &[u8] = match (random.once_in(2), version) {
+        (true, OLD) => &[0, 0x80, 0x82],
+        (true, _) => &[0, 0x80, 0x82, 0x86],
+        (_, OLD) => &[0, 0, 0x80, 0x82, 0x83],
+        _ => &[0, 0, 0x80, 0x82, 0x83, 0x86, 0x87],
+    };
     for index in 0..n as usize {
         let at = geometry.entry_at(index);
         put(&mut card, at, &[0; 16]);
@@ -1695,10 +1891,15 @@ fn every_call(pair: &mut Pair, random: &mut Random, geometry: Geometry, from: &S
     pair.set(from);
     let allowance = if random.once_in(3) { random.below(block as u64 / 512 + 2) } else { u64::MAX };
     pair.evict(some(random), random.pick(&PICKS), allowance)?;
+    pair.set(from);
+    if let Answer::Done(_) = pair.upgrade(random.pick(&[0, 1, 2, u64::MAX]))? {
+        pair.state()?;
+        pair.look(some(random))?;
+    }
     Ok(())
 }
 
-/// Part c: damaged cards, every call on each.
+/// Part c: damaged cards of both versions, and old ones that are sound; every call on each.
 pub fn damaged<'a>(one: &'a dyn Calls, other: &'a dyn Calls, geometry: Geometry, cards: u64, seed: u64) -> Result<Tally, String> {
     let mut random = Random(mix(seed));
     let mut pair = Pair::new(one, other, &[], &[], (seed % 8) as usize);
@@ -1711,8 +1912,10 @@ pub fn damaged<'a>(one: &'a dyn Calls, other: &'a dyn Calls, geometry: Geometry,
                 random.fill(&mut card);
                 Snapshot { card, disk: vec![0; geometry.disk_length()], table: ascending() }
             }
+            2 if turn % 8 == 2 => some_card(&mut random, geometry, OLD),
             _ => {
-                let mut from = some_card(&mut random, geometry);
+                let version = random.pick(&[OLD, NOW, NOW]);
+                let mut from = some_card(&mut random, geometry, version);
                 damage(&mut random, geometry, &mut from);
                 if random.once_in(3) && from.card.len() == geometry.card_length() && from.disk.len() == geometry.disk_length() {
                     damage(&mut random, geometry, &mut from);
@@ -1748,7 +1951,7 @@ pub fn arguments<'a>(one: &'a dyn Calls, other: &'a dyn Calls, seed: u64) -> Res
         let counts = [0, 1, 2, 3, s - 2, s - 1, s, s + 1, 2 * s, 300];
         let mut pair = Pair::new(one, other, &[], &[], 3);
         for _ in 0..60 {
-            let from = some_card(&mut random, geometry);
+            let from = some_card(&mut random, geometry, NOW);
             for number in numbers {
                 let (allowance, pick) = (random.pick(&allowances), random.pick(&PICKS));
                 pair.set(&from);
@@ -1763,6 +1966,7 @@ pub fn arguments<'a>(one: &'a dyn Calls, other: &'a dyn Calls, seed: u64) -> Res
                 pair.foretold(&[number], &data_of(number, 1, block), pick, allowance)?;
                 pair.commit_making_room(&[number], &data_of(number, 1, block), pick, allowance)?;
                 pair.recover(allowance)?;
+                pair.upgrade(allowance)?;
             }
             for count in counts {
                 pair.set(&from);
@@ -1955,6 +2159,7 @@ mod tests {
     use crate::ffi::Library;
     use crate::model::*;
     use crate::room::{every_room, room_script};
+    use crate::versions::{across, every_upgrade};
 
     const SMALL: Geometry = Geometry { k: 9, slots: 8, data_blocks: 4, disk_blocks: 6 };
     /// The choice of a call that is done, or cut behind a single store, at k 9.
@@ -2028,9 +2233,12 @@ mod tests {
         tally.add(&damaged(&model, &model, SMALL, 3000, 2).unwrap());
         tally.add(&arguments(&model, &model, 3).unwrap());
         tally.add(&every_preview(&model, &model, SMALL, 2).unwrap());
+        tally.add(&every_upgrade(&model, &model, SMALL, &script(), 6, 16).unwrap());
+        tally.add(&across(&model, &model, SMALL, 100, 4).unwrap());
         tally.complete().unwrap();
         incomplete_is_reported(&tally);
         incomplete_tables_are_reported(&tally);
+        incomplete_versions_are_reported(&tally);
     }
 
     /// A tally that lacks one thing is not complete; nor is one with an answer that a call does not give.
@@ -2088,15 +2296,44 @@ mod tests {
         reported(&|tally| tally.in_a_row = 0);
     }
 
+    /// As above, of versions and flag bytes, and of what a recovery leaves of the entries that were saved over.
+    fn incomplete_versions_are_reported(whole: &Tally) {
+        let reported = |change: &dyn Fn(&mut Tally)| {
+            let mut tally = whole.clone();
+            change(&mut tally);
+            assert!(tally.complete().is_err());
+        };
+        for call in (0..CALLS.len()).filter(|call| !TAKE_NO_CARD.contains(call)) {
+            let taken = taken_versions(call);
+            for (place, version) in VERSIONS.iter().enumerate() {
+                reported(&|tally| tally.versions[call][place] = u64::from(taken.contains(version)));
+            }
+            for version in taken {
+                for (place, flag) in ODD_FLAGS.iter().enumerate() {
+                    let old = usize::from(*version == OLD);
+                    reported(&|tally| tally.flags[call][old][place] = u64::from(!odd_flags(*version).contains(flag)));
+                }
+            }
+        }
+        for (call, kind) in [(RECOVER, 0), (RECOVER, 1), (MAKE_MAP, 0)] {
+            reported(&|tally| tally.old[call][kind] = 0);
+        }
+        for call in [COMMIT, ROOM] {
+            (0..OVERS.len()).for_each(|over| reported(&|tally| tally.kept[call][over] = 0));
+        }
+    }
+
     /// The first part of the comparison that sees it.
     fn is_reported(slip: Slip) {
-        let (right, wrong) = (Model::default(), Model { slip: Some(slip) });
-        let parts: [&dyn Fn() -> Result<Tally, String>; 7] = [
+        let (right, wrong) = (Model::default(), Model::wrong(slip));
+        let parts: [&dyn Fn() -> Result<Tally, String>; 9] = [
+            &|| across(&right, &wrong, SMALL, 100, 8),
             &|| random_history(&right, &wrong, SMALL, 4000, 5),
             &|| every_cut(&right, &wrong, SMALL, &script(), 6, 16),
             &|| every_cut(&right, &wrong, SMALL, &room_script(), 6, 16),
             &|| every_room(&right, &wrong, SMALL, &room_script(), 2),
             &|| damaged(&right, &wrong, SMALL, 4000, 6),
+            &|| every_upgrade(&right, &wrong, SMALL, &script(), 6, 16),
             &|| every_preview(&right, &wrong, SMALL, 2),
             &|| arguments(&right, &wrong, 7),
         ];
@@ -2118,7 +2355,7 @@ mod tests {
     #[test]
     fn a_difference_is_told_with_its_place() {
         let right = Model::default();
-        let wrong = Model { slip: Some(Slip::FreshAtSwitch) };
+        let wrong = Model::wrong(Slip::FreshAtSwitch);
         let error = every_cut(&right, &wrong, SMALL, &script(), 6, 16).unwrap_err();
         assert!(error.starts_with("commit([3], data of 512") && error.contains("card differs at byte"), "{error}");
     }
@@ -2128,6 +2365,9 @@ mod tests {
     fn the_row_sees_the_slips_that_lose_a_block() {
         for slip in [
             Slip::CleanUndo,
+            Slip::ModifiedLoggedClean,
+            Slip::LoggedAsBefore,
+            Slip::SwitchDropsP,
             Slip::FreshAtSwitch,
             Slip::FreshAtUndo,
             Slip::WindowAlone,
@@ -2136,16 +2376,30 @@ mod tests {
             Slip::SingleAfterCut,
             Slip::ChosenWhenDone,
         ] {
-            let wrong = Model { slip: Some(slip) };
+            let wrong = Model::wrong(slip);
             assert!(every_cut(&wrong, &wrong, SMALL, &script(), 6, 16).is_err(), "{slip:?}");
         }
+    }
+
+    /// What a recovery owes shows where a clean block comes back modified, which loses nothing, and its eviction where it is written to the
+    /// disk, without a second model.
+    #[test]
+    fn the_entries_see_what_comes_back_modified() {
+        for slip in [Slip::ModifiedUndo, Slip::NewUndoneAsOld, Slip::CleanLoggedModified] {
+            let wrong = Model::wrong(slip);
+            let error = every_cut(&wrong, &wrong, SMALL, &script(), 6, 16).unwrap_err();
+            assert!(error.contains("comes back as"), "{slip:?}: {error}");
+        }
+        let wrong = Model::wrong(Slip::CleanWritten);
+        let error = every_cut(&wrong, &wrong, SMALL, &script(), 6, 16).unwrap_err();
+        assert!(error.contains("which is clean"), "{error}");
     }
 
     /// The same call with a right choice shows where 17 is asked at another place, without a second model.
     #[test]
     fn the_right_choice_sees_a_wrong_order() {
         for slip in [Slip::ChoiceBeforeLength, Slip::ChoiceAfterNumber, Slip::ChoiceAskedLast, Slip::ChoiceBeforeMap] {
-            let wrong = Model { slip: Some(slip) };
+            let wrong = Model::wrong(slip);
             assert!(arguments(&wrong, &wrong, 3).is_err(), "{slip:?}");
         }
     }
@@ -2162,7 +2416,7 @@ mod tests {
             Slip::ReadTableAfterLength,
             Slip::ReadTableAskedLast,
         ] {
-            let wrong = Model { slip: Some(slip) };
+            let wrong = Model::wrong(slip);
             assert!(arguments(&wrong, &wrong, 3).is_err(), "{slip:?}");
         }
     }
@@ -2181,7 +2435,7 @@ mod tests {
             Slip::PreviewStores,
             Slip::PreviewHandsMapOn,
         ] {
-            let wrong = Model { slip: Some(slip) };
+            let wrong = Model::wrong(slip);
             assert!(every_preview(&wrong, &wrong, SMALL, 2).is_err(), "{slip:?}");
         }
     }
@@ -2213,29 +2467,75 @@ mod tests {
         bytes
     }
 
-    fn entry(text: &str) -> Option<Entry> {
-        read_entry(&hex(text), 4, 2000).unwrap()
-    }
-
+    /// Those of the facts that speak of no version hold of both; 6 and 7 are version 1's.
     #[test]
     fn hand_checked_values() {
         let length = |k, slots, data_blocks| Geometry { k, slots, data_blocks, disk_blocks: 1 }.card_length();
         assert_eq!(length(9, 8, 4), 2304); // 1
         assert_eq!(length(12, 256, 128), 528_512); // 2
-        let log = Entry { modified: true, log_role: true, number: 1001, previous: None, current: 2 };
-        let third = "83000000000003E9 FFFFFFFF 00000002";
-        assert_eq!(write_entry(Some(log)), hex(third)); // 3
-        assert_eq!(entry(third), Some(log));
-        let fourth = "82000000000003E9 FFFFFFFF 00000002";
-        assert_eq!(write_entry(Some(switched(log))), hex(fourth)); // 4
-        assert_eq!(write_entry(undone(entry(fourth).unwrap())), [0; 16]); // 5
+        for version in [OLD, NOW] {
+            let entry = |text: &str| read_entry(version, &hex(text), 4, 2000).unwrap();
+            let log = logged(version, 1001, None, 2);
+            let third = "83000000000003E9 FFFFFFFF 00000002";
+            assert_eq!(write_entry(Some(log)), hex(third)); // 3
+            assert_eq!(entry(third), Some(log));
+            let fourth = "82000000000003E9 FFFFFFFF 00000002";
+            assert_eq!(write_entry(Some(switched(log))), hex(fourth)); // 4
+            assert_eq!(write_entry(undone(version, entry(fourth).unwrap())), [0; 16]); // 5
+            assert_eq!(read_entry(version, &hex("81000000000003E9 FFFFFFFF 00000002"), 4, 2000), Err(5)); // 8
+        }
+        let undone = |text: &str| write_entry(undone(OLD, read_entry(OLD, &hex(text), 4, 2000).unwrap().unwrap()));
         let sixth = "82000000000003E9 00000001 00000001";
-        assert_eq!(write_entry(undone(entry("83000000000003E9 00000001 00000002").unwrap())), hex(sixth)); // 6
-        assert_eq!(write_entry(undone(entry(sixth).unwrap())), hex(sixth)); // 7
-        assert_eq!(read_entry(&hex("81000000000003E9 FFFFFFFF 00000002"), 4, 2000), Err(5)); // 8
+        assert_eq!(undone("83000000000003E9 00000001 00000002"), hex(sixth)); // 6
+        assert_eq!(undone(sixth), hex(sixth)); // 7
         assert_eq!((commit_stores(1, 512), commit_stores(2, 512)), (69, 137)); // 9
         assert_eq!(window_slots(8, 1, 7), vec![7, 0]); // 11
         assert_eq!(walk(4, 5, |block| block != 1)[0], 2); // 12
+    }
+
+    /// Beside facts 6 and 7, by hand from document 02: the log entries, role switches and undoings of version 2.
+    #[test]
+    fn hand_checked_values_of_today() {
+        let entry = |text: &str| read_entry(NOW, &hex(text), 4, 2000).unwrap().unwrap();
+        let undone = |text: &str| write_entry(undone(NOW, entry(text)));
+        let clean = "80000000000003E9 00000001 00000001";
+        assert_eq!(undone("83000000000003E9 00000001 00000002"), hex(clean));
+        assert_eq!(undone("82000000000003E9 00000001 00000002"), hex(clean));
+        assert_eq!(undone(clean), hex(clean));
+        let modified = "86000000000003E9 00000001 00000001";
+        assert_eq!(undone("87000000000003E9 00000001 00000002"), hex(modified));
+        assert_eq!(undone("86000000000003E9 00000001 00000002"), hex(modified));
+        assert_eq!(undone(modified), hex(modified));
+        assert_eq!(undone("87000000000003E9 FFFFFFFF 00000002"), [0; 16]);
+        // over entries with current block 1: clean, modified, modified since a version that was modified
+        let over = |version: u8, flag: &str| {
+            let entry = entry(&format!("{flag}000000000003E9 FFFFFFFF 00000001"));
+            write_entry(Some(logged(version, 1001, Some(entry), 2)))
+        };
+        let log = |flag: &str| hex(&format!("{flag}000000000003E9 00000001 00000002"));
+        assert_eq!(["80", "82", "86"].map(|flag| over(NOW, flag)), ["83", "87", "87"].map(log));
+        assert_eq!(["80", "82"].map(|flag| over(OLD, flag)), ["83", "83"].map(log));
+        let switched = |flag: &str| write_entry(Some(switched(entry(&format!("{flag}000000000003E9 00000001 00000002")))));
+        assert_eq!(["83", "87"].map(switched), ["82", "86"].map(log));
+    }
+
+    /// Every flag byte on both versions: exactly these are allowed, and come back as they were. Another version is refused with 1.
+    #[test]
+    fn flag_bytes_by_version() {
+        for (version, allowed) in [(OLD, &[0x80, 0x82, 0x83][..]), (NOW, &[0x80, 0x82, 0x83, 0x86, 0x87])] {
+            for flag in 0..=255 {
+                let mut bytes = hex("80000000000003E9 00000001 00000002");
+                bytes[0] = flag;
+                match read_entry(version, &bytes, 4, 2000) {
+                    Ok(entry) => assert!(allowed.contains(&flag) && write_entry(entry) == bytes, "{flag:X}"),
+                    Err(number) => assert!(!allowed.contains(&flag) && number == 5, "{flag:X}"),
+                }
+            }
+        }
+        for version in (0..=255).filter(|version| ![OLD, NOW].contains(version)) {
+            assert_eq!(read_entry(version, &[0; 16], 4, 2000), Err(1));
+            assert_eq!(read_entry(version, &hex("80000000000003E9 00000001 00000002"), 4, 2000), Err(1));
+        }
     }
 
     #[test]
@@ -2405,7 +2705,7 @@ mod tests {
         let (model, mut random) = (Model::default(), Random(11));
         for geometry in [SMALL, Geometry { k: 9, slots: 8, data_blocks: 68, disk_blocks: 100 }] {
             for _ in 0..200 {
-                let from = some_card(&mut random, geometry);
+                let from = some_card(&mut random, geometry, NOW);
                 let [low, high] = model.fresh_map(&from.card);
                 let card = Card::open(&from.card, None).unwrap();
                 assert_eq!(model.free_count(low, high), card.free_blocks().len() as u64);
@@ -2440,13 +2740,19 @@ mod tests {
         assert_eq!(stores[67], Store::Entry(192, hex("8200000000000003 FFFFFFFF 00000000")));
         assert_eq!(stores[68], Store::Word(72, 1u64.to_be_bytes()));
         assert_eq!(stores.len(), 69);
+        // the next save of it, from Head 1, is over a modified entry
+        let mut map = map_of(&card);
+        model.commit(&mut card, &mut map, &[3], &[7; 512], ZEROS, u64::MAX);
+        let stores = model.commit_list(&card, &[3], &[8; 512]).unwrap();
+        assert_eq!(stores[64], Store::Entry(192, hex("8700000000000003 00000000 00000001")));
+        assert_eq!(stores[67], Store::Entry(192, hex("8600000000000003 00000000 00000001")));
     }
 
     #[test]
     fn a_card_reads_back_as_its_parts() {
         let mut random = Random(9);
-        for _ in 0..200 {
-            let from = some_card(&mut random, SMALL);
+        for turn in 0..400 {
+            let from = some_card(&mut random, SMALL, if turn % 2 == 0 { OLD } else { NOW });
             let card = Card::open(&from.card, Some(from.disk.len())).unwrap();
             for (index, entry) in card.entries.iter().enumerate() {
                 assert_eq!(write_entry(*entry), from.card[SMALL.entry_at(index)..SMALL.entry_at(index) + 16]);

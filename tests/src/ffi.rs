@@ -122,6 +122,7 @@ extern "C" {
         allowance: u64,
     ) -> RawAnswer;
     fn tinca_recover(card: *mut u8, card_len: usize, map: *mut u64, map_words: usize, allowance: u64) -> RawAnswer;
+    fn tinca_upgrade(card: *mut u8, card_len: usize, allowance: u64) -> RawAnswer;
     fn tinca_read(
         card: *const u8,
         card_len: usize,
@@ -276,6 +277,11 @@ impl Calls for Library {
     fn recover(&self, card: &mut [u8], map: &mut [u64], allowance: u64) -> Answer {
         let (card_len, words) = (card.len(), map.len());
         answer(unsafe { tinca_recover(lent_mut(card), card_len, lent_mut(map), words, allowance) })
+    }
+
+    fn upgrade(&self, card: &mut [u8], allowance: u64) -> Answer {
+        let card_len = card.len();
+        answer(unsafe { tinca_upgrade(lent_mut(card), card_len, allowance) })
     }
 
     fn read(&self, card: &[u8], disk: &[u8], table: &mut [u8], block: u64, out: &mut [u8]) -> Place {

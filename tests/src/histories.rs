@@ -1,6 +1,6 @@
-//! Cards somewhere in a history of saves, loads and evictions with power cuts among them, made by the model alone:
-//! larger saves than `drive` makes, with room made for some of them, cut around their entries and role switches, and
-//! recoveries that are cut themselves.
+//! Cards of either version somewhere in a history of saves, loads and evictions with power cuts among them, made by the
+//! model alone: larger saves than `drive` makes, with room made for some of them, cut around their entries and role
+//! switches, and recoveries that are cut themselves.
 
 use crate::drive::{data_of, first_disk, Snapshot};
 use crate::model::{ascending, commit_stores, map_of, stores_of, zeros, Card, Model};
@@ -50,9 +50,9 @@ fn some_choice(seed: u64, geometry: Geometry) -> Vec<u8> {
 }
 
 /// As many blocks as there is room for; one time in three the save makes room itself.
-fn save(random: &mut Random, geometry: Geometry, at: &mut Snapshot, most: u64, cut: bool) {
+fn save(model: &Model, random: &mut Random, geometry: Geometry, at: &mut Snapshot, most: u64, cut: bool) {
     if random.once_in(3) {
-        return save_making_room(random, geometry, at, most, cut);
+        return save_making_room(model, random, geometry, at, most, cut);
     }
     let free = Card::open(&at.card, None).unwrap().free_blocks().len() as u64;
     let numbers = some_numbers(random, geometry, &at.card, most.min(free));
@@ -64,11 +64,11 @@ fn save(random: &mut Random, geometry: Geometry, at: &mut Snapshot, most: u64, c
     let seed = random.next();
     let data = data_of(seed, n as usize, geometry.block());
     let mut map = map_of(&at.card);
-    Model::default().commit(&mut at.card, &mut map, &numbers, &data, &some_choice(seed, geometry), allowance);
+    model.commit(&mut at.card, &mut map, &numbers, &data, &some_choice(seed, geometry), allowance);
 }
 
 /// As many blocks as there can be victims for. A cut falls behind the evictions.
-fn save_making_room(random: &mut Random, geometry: Geometry, at: &mut Snapshot, most: u64, cut: bool) {
+fn save_making_room(model: &Model, random: &mut Random, geometry: Geometry, at: &mut Snapshot, most: u64, cut: bool) {
     let card = Card::open(&at.card, None).unwrap();
     let mut numbers = some_numbers(random, geometry, &at.card, most);
     let cached = |numbers: &[u64]| numbers.iter().filter(|number| card.entry_for(**number).is_some()).count();
@@ -78,16 +78,15 @@ fn save_making_room(random: &mut Random, geometry: Geometry, at: &mut Snapshot, 
     let (n, seed) = (numbers.len() as u64, random.next());
     let data = data_of(seed, n as usize, geometry.block());
     let Snapshot { card, disk, table } = at;
-    let runs = Model::default().room_list(card, disk.len(), table, &numbers, &data).unwrap();
+    let runs = model.room_list(card, disk.len(), table, &numbers, &data).unwrap();
     let evicting = stores_of(&runs).len() as u64 - commit_stores(n, geometry.block() as u64);
     let allowance = if cut { evicting + cut_place(random, geometry, n) } else { u64::MAX };
     let (mut map, choice) = (map_of(card), some_choice(seed, geometry));
-    Model::default().commit_making_room(card, disk, &mut map, table, &numbers, &data, &choice, allowance);
+    model.commit_making_room(card, disk, &mut map, table, &numbers, &data, &choice, allowance);
 }
 
 /// Recovers in full, or is cut again a few times before.
-fn recover(random: &mut Random, card: &mut [u8]) {
-    let model = Model::default();
+fn recover(model: &Model, random: &mut Random, card: &mut [u8]) {
     let mut map = map_of(card);
     while random.once_in(3) {
         model.recover(card, &mut map, random.below(4));
@@ -96,8 +95,8 @@ fn recover(random: &mut Random, card: &mut [u8]) {
     assert!(matches!(model.recover(card, &mut map, u64::MAX), Answer::Done(_)));
 }
 
-fn step(random: &mut Random, geometry: Geometry, at: &mut Snapshot, most: u64) {
-    let (model, number) = (Model::default(), random.below(geometry.disk_blocks));
+fn step(model: &Model, random: &mut Random, geometry: Geometry, at: &mut Snapshot, most: u64) {
+    let number = random.below(geometry.disk_blocks);
     let (mut map, choice) = (map_of(&at.card), zeros(geometry.block()));
     match random.below(6) {
         0 => drop(model.load(&mut at.card, &at.disk, &mut map, &mut at.table, number, &choice, u64::MAX)),
@@ -107,28 +106,29 @@ fn step(random: &mut Random, geometry: Geometry, at: &mut Snapshot, most: u64) {
         }
         _ => {
             let cut = random.once_in(3);
-            save(random, geometry, at, most, cut);
-            recover(random, &mut at.card);
+            save(model, random, geometry, at, most, cut);
+            recover(model, random, &mut at.card);
         }
     }
 }
 
-/// A card and its disk. Mostly the last save was cut, at times its recovery too.
-pub fn history(random: &mut Random, geometry: Geometry, most: u64) -> Snapshot {
+/// A card of the version and its disk. Mostly the last save was cut, at times its recovery too.
+pub fn history(random: &mut Random, geometry: Geometry, most: u64, version: u8) -> Snapshot {
+    let model = &Model::of(version);
     let mut card = vec![0; geometry.card_length()];
     random.fill(&mut card);
     let (k, slots, data_blocks, disk_blocks) =
         (geometry.k, geometry.slots, geometry.data_blocks, geometry.disk_blocks);
-    assert_eq!(Model::default().format(k, slots, data_blocks, disk_blocks, &mut card), Answer::Done(0));
+    assert_eq!(model.format(k, slots, data_blocks, disk_blocks, &mut card), Answer::Done(0));
     let mut at = Snapshot { card, disk: first_disk(random.next(), geometry), table: ascending() };
     for _ in 0..random.below(16) {
-        step(random, geometry, &mut at, most);
+        step(model, random, geometry, &mut at, most);
     }
     if !random.once_in(6) {
-        save(random, geometry, &mut at, most, true);
+        save(model, random, geometry, &mut at, most, true);
         if random.once_in(4) {
             let mut map = map_of(&at.card);
-            Model::default().recover(&mut at.card, &mut map, random.below(3));
+            model.recover(&mut at.card, &mut map, random.below(3));
         }
     }
     at
@@ -137,17 +137,29 @@ pub fn history(random: &mut Random, geometry: Geometry, most: u64) -> Snapshot {
 #[cfg(test)]
 mod tests {
     use super::*;
+    use crate::model::{undone, NOW, OLD};
 
     /// Settled cards, long and short lists, windows that go round, undoable entries with and without R: all of them
-    /// occur.
+    /// occur, of both versions. Of version 2 some go back to a clean version and some to a modified one.
     #[test]
     fn histories_reach_what_they_should() {
+        for version in [OLD, NOW] {
+            reached(version);
+        }
+    }
+
+    fn reached(version: u8) {
         let geometry = Geometry { k: 9, slots: 8, data_blocks: 8, disk_blocks: 16 };
         let mut random = Random(5);
         let (mut settled, mut lengths, mut round, mut no_role, mut outside) = (0, [0; 9], 0, 0, 0);
+        let mut back = [0; 2];
         for _ in 0..2000 {
-            let bytes = history(&mut random, geometry, 6).card;
+            let bytes = history(&mut random, geometry, 6, version).card;
             let card = Card::open(&bytes, None).unwrap();
+            assert_eq!(card.version, version);
+            for entry in card.in_use().filter(|entry| card.undoable(entry) && entry.previous.is_some()) {
+                back[usize::from(undone(version, *entry).unwrap().modified)] += 1;
+            }
             settled += card.settled() as u64;
             lengths[Model::default().recover_list(&bytes).unwrap().len()] += 1;
             round += (card.tail > card.head) as u64;
@@ -159,5 +171,6 @@ mod tests {
             "{settled} {round} {no_role} {outside}"
         );
         assert!(lengths[..8].iter().all(|count| *count > 10), "{lengths:?}");
+        assert!((back[0] > 50) == (version == NOW) && back[1] > 50, "{back:?}");
     }
 }

@@ -14,6 +14,7 @@ pub mod shown;
 pub mod stages;
 pub mod stores_log;
 pub mod tables;
+pub mod versions;
 
 pub use model::{Answer, Cached, FreeMap, Geometry, Place, State};
 
@@ -38,6 +39,7 @@ pub trait Calls {
         -> Answer;
     fn evict(&self, card: &mut [u8], disk: &mut [u8], map: &mut [u64], block: u64, choice: &[u8], allowance: u64) -> Answer;
     fn recover(&self, card: &mut [u8], map: &mut [u64], allowance: u64) -> Answer;
+    fn upgrade(&self, card: &mut [u8], allowance: u64) -> Answer;
     fn read(&self, card: &[u8], disk: &[u8], table: &mut [u8], block: u64, out: &mut [u8]) -> Place;
     fn look(&self, card: &[u8], disk: &[u8], block: u64) -> Place;
     fn state(&self, card: &[u8]) -> State;

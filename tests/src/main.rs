@@ -5,6 +5,7 @@ use tinca_tests::drive::{arguments, damaged, drill, every_cut, every_preview, ra
 use tinca_tests::ffi::Library;
 use tinca_tests::model::Model;
 use tinca_tests::room::{crowded, every_room, room_script, wide_room_script};
+use tinca_tests::versions::{across, every_upgrade};
 use tinca_tests::Geometry;
 
 fn geometry(k: u64, slots: u64, data_blocks: u64, disk_blocks: u64) -> Geometry {
@@ -89,6 +90,32 @@ impl Parts {
         self.run("f every room, N 8", &|library, model| every_room(library, model, geometry(9, 8, 8, 10), &wide_room_script(), 2))
     }
 
+    fn old_cards(&mut self) -> Result<(), String> {
+        for (name, geometry, script, blocks, stride) in [
+            ("k 9", geometry(9, 8, 4, 16), script(), 6, 8),
+            ("making room", geometry(9, 8, 4, 16), room_script(), 6, 8),
+            ("making room, N 8", geometry(9, 8, 8, 16), wide_room_script(), 10, 64),
+            ("k 12", geometry(12, 8, 4, 6), script(), 6, 127),
+        ] {
+            let name = format!("h old cards upgraded, {name}");
+            self.run(&name, &|library, model| every_upgrade(library, model, geometry, &script, blocks, stride))?;
+        }
+        for (k, slots, data_blocks, disk_blocks, histories, calls) in
+            [(9, 8, 4, 16, 150, 100), (9, 8, 4, 3, 100, 100), (10, 16, 8, 20, 30, 100), (12, 8, 12, 30, 10, 60), (9, 256, 128, 150, 3, 60)]
+        {
+            let name = format!("i histories across an upgrade, k {k} S {slots} N {data_blocks} D {disk_blocks}");
+            let geometry = geometry(k, slots, data_blocks, disk_blocks);
+            self.run(&name, &|library, model| {
+                let mut tally = Tally::default();
+                for history in 0..histories {
+                    tally.add(&across(library, model, geometry, calls, 1000 * k + 100 * slots + history)?);
+                }
+                Ok(tally)
+            })?;
+        }
+        Ok(())
+    }
+
     fn crowded_cards(&mut self) -> Result<(), String> {
         for (k, slots, data_blocks, disk_blocks, calls) in [
             (9, 8, 4, 16, 15_000),
@@ -119,6 +146,7 @@ fn run() -> Result<Tally, String> {
     parts.cards()?;
     parts.lists()?;
     parts.crowded_cards()?;
+    parts.old_cards()?;
     Ok(parts.total)
 }
 

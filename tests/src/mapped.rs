@@ -96,6 +96,7 @@ pub const LOAD: u64 = 2;
 pub const EVICT: u64 = 3;
 pub const PREVIEW: u64 = 4;
 pub const ROOM: u64 = 5;
+pub const UPGRADE: u64 = 6;
 
 /// What a save writes.
 pub fn saved(sequence: u64, group: u64) -> Vec<u8> {

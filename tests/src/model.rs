@@ -46,6 +46,13 @@ pub enum FreeMap {
     Malformed(u32, u32, u64, u64),
 }
 
+/// The versions of a card: document 01's, which format does not write any more, and the one with flag P.
+pub const OLD: u8 = 1;
+pub const NOW: u8 = 2;
+
+/// The byte of the header that tells the version.
+pub const VERSION_AT: usize = 4;
+
 #[derive(Clone, Copy, Debug, PartialEq, Eq)]
 pub struct Geometry {
     pub k: u64,
@@ -89,10 +96,10 @@ impl Geometry {
         self.disk_blocks as usize * self.block()
     }
 
-    pub fn header(&self) -> [u8; 64] {
+    pub fn header(&self, version: u8) -> [u8; 64] {
         let mut bytes = [0; 64];
         bytes[0..4].copy_from_slice(&64u32.to_be_bytes());
-        bytes[4] = 1;
+        bytes[VERSION_AT] = version;
         bytes[5] = self.k as u8;
         bytes[6..8].copy_from_slice(&(self.slots as u16).to_be_bytes());
         bytes[8..12].copy_from_slice(&(self.data_blocks as u32).to_be_bytes());
@@ -100,9 +107,14 @@ impl Geometry {
         bytes
     }
 
-    /// Check 1.
+    /// Check 1 of a call that takes every version.
     pub fn from_header(card: &[u8]) -> Result<Geometry, u32> {
-        if card.len() < 128 {
+        Geometry::of_header(card, Taken::EITHER)
+    }
+
+    /// Check 1.
+    fn of_header(card: &[u8], taken: Taken) -> Result<Geometry, u32> {
+        if card.len() < 128 || !(taken.version)(card[VERSION_AT]) {
             return Err(1);
         }
         let geometry = Geometry {
@@ -111,7 +123,7 @@ impl Geometry {
             data_blocks: u32::from_be_bytes(card[8..12].try_into().unwrap()) as u64,
             disk_blocks: u32::from_be_bytes(card[12..16].try_into().unwrap()) as u64,
         };
-        if geometry.allowed() && card[0..64] == geometry.header() {
+        if geometry.allowed() && card[0..64] == geometry.header(card[VERSION_AT]) {
             Ok(geometry)
         } else {
             Err(1)
@@ -119,9 +131,18 @@ impl Geometry {
     }
 }
 
-/// An entry in use. A previous block of `None` is FRESH.
+/// The flag bytes that check 5 allows.
+pub fn allowed_flags(version: u8) -> &'static [u8] {
+    match version {
+        OLD => &[0x80, 0x82, 0x83],
+        _ => &[0x80, 0x82, 0x83, 0x86, 0x87],
+    }
+}
+
+/// An entry in use. A previous block of `None` is FRESH. On an old card no previous version is told to have been modified.
 #[derive(Clone, Copy, Debug, PartialEq, Eq)]
 pub struct Entry {
+    pub previous_modified: bool,
     pub modified: bool,
     pub log_role: bool,
     pub number: u64,
@@ -131,17 +152,22 @@ pub struct Entry {
 
 pub const FRESH: u32 = 0xFFFF_FFFF;
 
-/// Reads sixteen bytes: an unused entry is `None`. Check 5.
-pub fn read_entry(bytes: &[u8; 16], data_blocks: u64, disk_blocks: u64) -> Result<Option<Entry>, u32> {
+/// Reads sixteen bytes: an unused entry is `None`. Check 5, and 1 of a version that there is not.
+pub fn read_entry(version: u8, bytes: &[u8; 16], data_blocks: u64, disk_blocks: u64) -> Result<Option<Entry>, u32> {
+    match version {
+        OLD | NOW => read_allowed(allowed_flags(version), bytes, data_blocks, disk_blocks),
+        _ => Err(1),
+    }
+}
+
+/// Check 5, where these flag bytes are allowed.
+fn read_allowed(flags: &[u8], bytes: &[u8; 16], data_blocks: u64, disk_blocks: u64) -> Result<Option<Entry>, u32> {
     if *bytes == [0; 16] {
         return Ok(None);
     }
-    let (modified, log_role) = match bytes[0] {
-        0x80 => (false, false),
-        0x82 => (true, false),
-        0x83 => (true, true),
-        _ => return Err(5),
-    };
+    if !flags.contains(&bytes[0]) {
+        return Err(5);
+    }
     let mut wide = [0; 8];
     wide[1..8].copy_from_slice(&bytes[1..8]);
     let number = u64::from_be_bytes(wide);
@@ -157,39 +183,40 @@ pub fn read_entry(bytes: &[u8; 16], data_blocks: u64, disk_blocks: u64) -> Resul
     if number >= disk_blocks || current as u64 >= data_blocks {
         return Err(5);
     }
-    Ok(Some(Entry { modified, log_role, number, previous, current }))
+    let has = |bit: u8| bytes[0] & bit != 0;
+    Ok(Some(Entry { previous_modified: has(0x04), modified: has(0x02), log_role: has(0x01), number, previous, current }))
 }
 
 pub fn write_entry(entry: Option<Entry>) -> [u8; 16] {
     let mut bytes = [0; 16];
     if let Some(entry) = entry {
         bytes[0..8].copy_from_slice(&entry.number.to_be_bytes());
-        bytes[0] = match (entry.modified, entry.log_role) {
-            (false, false) => 0x80,
-            (true, false) => 0x82,
-            (true, true) => 0x83,
-            (false, true) => panic!("no such flag byte"),
-        };
+        bytes[0] = 0x80 | u8::from(entry.previous_modified) << 2 | u8::from(entry.modified) << 1 | u8::from(entry.log_role);
         bytes[8..12].copy_from_slice(&entry.previous.unwrap_or(FRESH).to_be_bytes());
         bytes[12..16].copy_from_slice(&entry.current.to_be_bytes());
     }
     bytes
 }
 
-/// The entry after its role switch.
+/// The log entry of a block that goes to the data block `current`, over the entry that it has, if any.
+pub fn logged(version: u8, number: u64, over: Option<Entry>, current: u32) -> Entry {
+    let previous_modified = version != OLD && over.is_some_and(|entry| entry.modified);
+    Entry { previous_modified, modified: true, log_role: true, number, previous: over.map(|entry| entry.current), current }
+}
+
+/// The entry after its role switch: R alone is cleared.
 pub fn switched(entry: Entry) -> Entry {
     Entry { log_role: false, ..entry }
 }
 
-/// The entry after its undoing.
-pub fn undone(entry: Entry) -> Option<Entry> {
-    entry.previous.map(|previous| Entry {
-        modified: true,
-        log_role: false,
-        number: entry.number,
-        previous: Some(previous),
-        current: previous,
-    })
+/// The entry after its undoing: modified as its previous version was, which an old card does not tell and takes for granted.
+pub fn undone(version: u8, entry: Entry) -> Option<Entry> {
+    let (previous_modified, modified) = match version {
+        OLD => (false, true),
+        _ => (entry.previous_modified, entry.previous_modified),
+    };
+    let Entry { number, previous, .. } = entry;
+    previous.map(|current| Entry { previous_modified, modified, log_role: false, number, previous, current })
 }
 
 /// The count of a commit's stores.
@@ -288,9 +315,48 @@ fn any_choice(card: &[u8]) -> Vec<u8> {
     Geometry::from_header(card).map_or(vec![], |geometry| zeros(geometry.block()))
 }
 
+/// The calls that look at a card.
+#[derive(Clone, Copy, Debug, PartialEq, Eq)]
+pub enum Call {
+    Commit,
+    Room,
+    Preview,
+    Load,
+    Evict,
+    Recover,
+    Upgrade,
+    Read,
+    Look,
+    State,
+    Cached,
+    MakeMap,
+}
+
+/// The cards that a call takes: of which versions, and with which slip it looks at their flag bytes.
+#[derive(Clone, Copy)]
+struct Taken {
+    version: fn(u8) -> bool,
+    slip: Option<Slip>,
+}
+
+impl Taken {
+    const EITHER: Taken = Taken { version: |version| matches!(version, OLD | NOW), slip: None };
+
+    fn flags(&self, version: u8) -> Vec<u8> {
+        let mut flags = allowed_flags(version).to_vec();
+        match self.slip {
+            Some(Slip::FlagTaken(of, byte)) if of == version => flags.push(byte),
+            Some(Slip::FlagRefused(of, byte)) if of == version => flags.retain(|flag| *flag != byte),
+            _ => {}
+        }
+        flags
+    }
+}
+
 /// A card that passed checks 1, 2 and 4 to 6, without its data blocks.
 #[derive(Clone, Debug, PartialEq, Eq)]
 pub struct Card {
+    pub version: u8,
     pub geometry: Geometry,
     pub head: u64,
     pub tail: u64,
@@ -305,8 +371,8 @@ fn word(bytes: &[u8], at: usize) -> u64 {
 
 impl Card {
     /// Checks 1 to 5; check 3 where a disk's length is given.
-    fn decoded(bytes: &[u8], disk_length: Option<usize>) -> Result<Card, u32> {
-        let geometry = Geometry::from_header(bytes)?;
+    fn decoded(taken: Taken, bytes: &[u8], disk_length: Option<usize>) -> Result<Card, u32> {
+        let geometry = Geometry::of_header(bytes, taken)?;
         if bytes.len() != geometry.card_length() {
             return Err(2);
         }
@@ -322,18 +388,34 @@ impl Card {
         if window.iter().any(|number| *number >= geometry.disk_blocks) {
             return Err(4);
         }
-        let mut entries = Vec::new();
+        let (version, mut entries) = (bytes[VERSION_AT], Vec::new());
+        let flags = taken.flags(version);
         for index in 0..geometry.data_blocks as usize {
             let at = geometry.entry_at(index);
             let bytes: &[u8; 16] = bytes[at..at + 16].try_into().unwrap();
-            entries.push(read_entry(bytes, geometry.data_blocks, geometry.disk_blocks)?);
+            entries.push(read_allowed(&flags, bytes, geometry.data_blocks, geometry.disk_blocks)?);
         }
-        Ok(Card { geometry, head, tail, window, entries })
+        Ok(Card { version, geometry, head, tail, window, entries })
     }
 
-    /// Checks 1 to 6; check 3 where a disk's length is given.
+    /// Checks 1 to 6 of a card of either version; check 3 where a disk's length is given.
     pub fn open(bytes: &[u8], disk_length: Option<usize>) -> Result<Card, u32> {
-        let card = Card::decoded(bytes, disk_length)?;
+        Card::open_as(Taken::EITHER, bytes, disk_length)
+    }
+
+    /// Checks 1 to 6 of a card of any version, one that no call takes too.
+    pub fn open_any(bytes: &[u8]) -> Result<Card, u32> {
+        Card::open_as(Taken { version: |_| true, slip: None }, bytes, None)
+    }
+
+    /// Checks 1 to 7 of a card of either version.
+    pub fn open_settled(bytes: &[u8], disk_length: Option<usize>) -> Result<Card, u32> {
+        Card::open(bytes, disk_length)?.if_settled()
+    }
+
+    /// Checks 1 to 6.
+    fn open_as(taken: Taken, bytes: &[u8], disk_length: Option<usize>) -> Result<Card, u32> {
+        let card = Card::decoded(taken, bytes, disk_length)?;
         let mut taken: Vec<(&Entry, Option<u32>)> = Vec::new();
         for entry in card.in_use() {
             let settled = card.settled_block(entry);
@@ -348,11 +430,10 @@ impl Card {
         Ok(card)
     }
 
-    /// Checks 1 to 7.
-    pub fn open_settled(bytes: &[u8], disk_length: Option<usize>) -> Result<Card, u32> {
-        let card = Card::open(bytes, disk_length)?;
-        if card.settled() {
-            Ok(card)
+    /// Check 7.
+    fn if_settled(self) -> Result<Card, u32> {
+        if self.settled() {
+            Ok(self)
         } else {
             Err(7)
         }
@@ -380,6 +461,15 @@ impl Card {
 
     pub fn entry_for(&self, number: u64) -> Option<usize> {
         self.entries.iter().position(|entry| entry.is_some_and(|entry| entry.number == number))
+    }
+
+    /// The contents of a disk block, where the card is settled.
+    pub fn contents<'b>(&self, card: &'b [u8], disk: &'b [u8], number: u64) -> &'b [u8] {
+        let (from, at) = match self.entry_for(number) {
+            Some(index) => (card, self.geometry.block_at(self.entries[index].unwrap().current)),
+            None => (disk, number as usize * self.geometry.block()),
+        };
+        &from[at..at + self.geometry.block()]
     }
 
     /// Of a data block: it is no in-use entry's current block.
@@ -488,6 +578,8 @@ pub enum Slip {
     CountOneMore,
     CutAtCount,
     ZeroBeforeSectors,
+    /// An evict writes a clean block too.
+    CleanWritten,
     OldBlockGivenOut,
     SearchFromZero,
     HeadAlone,
@@ -657,9 +749,45 @@ pub enum Slip {
     TableOfDataBlocks,
     /// An entry changes places with the first one, and the others do not move up.
     SwappedToFront,
+    /// Undoing gives 82 where P is not set, or 82 where it is set.
+    ModifiedUndo,
+    UndoDropsP,
+    /// Recovery of an old card goes by the rule of today, and of today's by the old one.
+    OldUndoneAsNew,
+    NewUndoneAsOld,
+    /// The log entry is 87 over every entry, also where there is none, never, or as P stood in the entry.
+    CleanLoggedModified,
+    AbsentLoggedModified,
+    ModifiedLoggedClean,
+    LoggedAsBefore,
+    /// The role switch clears P too, or does not clear R.
+    SwitchDropsP,
+    SwitchKeepsR,
+    /// On cards of the version that flag byte is allowed, or is not.
+    FlagTaken(u8, u8),
+    FlagRefused(u8, u8),
+    FormatsOld,
+    /// The call takes old cards, or refuses them.
+    OldTaken(Call),
+    OldRefused(Call),
+    /// A version that is none is taken for today's.
+    EveryVersionTaken,
+    /// Upgrade takes a card of today, or of a version that is none.
+    NewUpgraded,
+    EveryVersionUpgraded,
+    /// Upgrade does not ask 7, or 4 to 6.
+    UpgradeUnsettled,
+    UpgradeDamaged,
+    /// Upgrade is done with any allowance; it counts no store; it makes none.
+    UpgradeFree,
+    UpgradeUncounted,
+    UpgradeUnmade,
+    /// The word that upgrade stores has no slots; it stores the modified entries too, with P.
+    UpgradeClearsSlots,
+    UpgradeSetsP,
 }
 
-pub const SLIPS: [Slip; 116] = [
+pub const SLIPS: [Slip; 158] = [
     Slip::CleanUndo,
     Slip::FreshAtSwitch,
     Slip::FreshAtUndo,
@@ -667,6 +795,7 @@ pub const SLIPS: [Slip; 116] = [
     Slip::CountOneMore,
     Slip::CutAtCount,
     Slip::ZeroBeforeSectors,
+    Slip::CleanWritten,
     Slip::OldBlockGivenOut,
     Slip::SearchFromZero,
     Slip::HeadAlone,
@@ -776,17 +905,106 @@ pub const SLIPS: [Slip; 116] = [
     Slip::LoadStays,
     Slip::TableOfDataBlocks,
     Slip::SwappedToFront,
+    Slip::ModifiedUndo,
+    Slip::UndoDropsP,
+    Slip::OldUndoneAsNew,
+    Slip::NewUndoneAsOld,
+    Slip::CleanLoggedModified,
+    Slip::AbsentLoggedModified,
+    Slip::ModifiedLoggedClean,
+    Slip::LoggedAsBefore,
+    Slip::SwitchDropsP,
+    Slip::SwitchKeepsR,
+    Slip::FlagTaken(OLD, 0x84),
+    Slip::FlagTaken(OLD, 0x85),
+    Slip::FlagTaken(OLD, 0x86),
+    Slip::FlagTaken(OLD, 0x87),
+    Slip::FlagTaken(NOW, 0x81),
+    Slip::FlagTaken(NOW, 0x84),
+    Slip::FlagTaken(NOW, 0x85),
+    Slip::FlagRefused(NOW, 0x86),
+    Slip::FlagRefused(NOW, 0x87),
+    Slip::FormatsOld,
+    Slip::OldTaken(Call::Commit),
+    Slip::OldTaken(Call::Room),
+    Slip::OldTaken(Call::Preview),
+    Slip::OldTaken(Call::Load),
+    Slip::OldTaken(Call::Evict),
+    Slip::OldTaken(Call::Read),
+    Slip::OldTaken(Call::Look),
+    Slip::OldTaken(Call::State),
+    Slip::OldTaken(Call::Cached),
+    Slip::OldRefused(Call::Recover),
+    Slip::OldRefused(Call::MakeMap),
+    Slip::EveryVersionTaken,
+    Slip::NewUpgraded,
+    Slip::EveryVersionUpgraded,
+    Slip::UpgradeUnsettled,
+    Slip::UpgradeDamaged,
+    Slip::UpgradeFree,
+    Slip::UpgradeUncounted,
+    Slip::UpgradeUnmade,
+    Slip::UpgradeClearsSlots,
+    Slip::UpgradeSetsP,
 ];
 
-/// The model; with a slip, a deliberately wrong one.
-#[derive(Clone, Copy, Debug, Default)]
+/// The model; with a slip, a deliberately wrong one. That of the old version is the station of before request 7, whose calls made the cards
+/// of version 1: they have the same arguments, and upgrade is none of them.
+#[derive(Clone, Copy, Debug)]
 pub struct Model {
     pub slip: Option<Slip>,
+    pub version: u8,
+}
+
+impl Default for Model {
+    fn default() -> Model {
+        Model { slip: None, version: NOW }
+    }
 }
 
 impl Model {
+    pub fn wrong(slip: Slip) -> Model {
+        Model { slip: Some(slip), ..Model::default() }
+    }
+
+    /// That of a version.
+    pub fn of(version: u8) -> Model {
+        Model { slip: None, version }
+    }
+
+    pub fn old() -> Model {
+        Model::of(OLD)
+    }
+
     fn slips(&self, slip: Slip) -> bool {
         self.slip == Some(slip)
+    }
+
+    /// The cards that a call takes: those of the model's own version; recover and make map also old ones, upgrade those alone.
+    fn takes(&self, call: Call) -> Taken {
+        let version: fn(u8) -> bool = match (self.slip, call) {
+            (Some(Slip::OldTaken(taking)), _) if taking == call => Taken::EITHER.version,
+            (Some(Slip::OldRefused(refusing)), _) if refusing == call => |version| version == NOW,
+            (Some(Slip::NewUpgraded), Call::Upgrade) => Taken::EITHER.version,
+            (Some(Slip::EveryVersionUpgraded), Call::Upgrade) => |version| version != NOW,
+            (Some(Slip::EveryVersionTaken), Call::Recover | Call::MakeMap) => |_| true,
+            (Some(Slip::EveryVersionTaken), _) if call != Call::Upgrade => |version| version != OLD,
+            (_, Call::Upgrade) => |version| version == OLD,
+            _ if self.version == OLD => |version| version == OLD,
+            (_, Call::Recover | Call::MakeMap) => Taken::EITHER.version,
+            _ => |version| version == NOW,
+        };
+        Taken { version, slip: self.slip }
+    }
+
+    /// Checks 1 to 6 of a call.
+    fn open(&self, call: Call, bytes: &[u8], disk_length: Option<usize>) -> Result<Card, u32> {
+        Card::open_as(self.takes(call), bytes, disk_length)
+    }
+
+    /// Checks 1 to 7 of a call.
+    fn open_settled(&self, call: Call, bytes: &[u8], disk_length: Option<usize>) -> Result<Card, u32> {
+        self.open(call, bytes, disk_length)?.if_settled()
     }
 
     /// The map that the card gives.
@@ -823,11 +1041,11 @@ impl Model {
     }
 
     /// Checks 1 to 7 and 15, all that come before the choice is looked at.
-    fn check_settled(&self, bytes: &[u8], disk_length: Option<usize>, map: &[u64], choice: &[u8]) -> Result<Card, u32> {
+    fn check_settled(&self, call: Call, bytes: &[u8], disk_length: Option<usize>, map: &[u64], choice: &[u8]) -> Result<Card, u32> {
         if self.slips(Slip::MapBeforeSettled) {
-            self.check_map(&Card::open(bytes, disk_length)?, map)?;
+            self.check_map(&self.open(call, bytes, disk_length)?, map)?;
         }
-        let card = Card::open_settled(bytes, disk_length)?;
+        let card = self.open_settled(call, bytes, disk_length)?;
         if self.slips(Slip::ChoiceBeforeMap) && self.is_wrong(choice, card.geometry.block() / 8) {
             return Err(17);
         }
@@ -838,15 +1056,23 @@ impl Model {
     }
 
     /// Checks 1 to 7 and 15 of a call that takes a table besides. 16 is the first of those that follow.
-    fn check_lent(&self, bytes: &[u8], disk_length: Option<usize>, map: &[u64], table: &[u8], choice: &[u8]) -> Result<Card, u32> {
+    fn check_lent(
+        &self,
+        call: Call,
+        bytes: &[u8],
+        disk_length: Option<usize>,
+        map: &[u64],
+        table: &[u8],
+        choice: &[u8],
+    ) -> Result<Card, u32> {
         let early = match self.slip {
-            Some(Slip::TableBeforeSettled) => Some(Card::open(bytes, disk_length)?),
-            Some(Slip::TableBeforeMap) => Some(Card::open_settled(bytes, disk_length)?),
+            Some(Slip::TableBeforeSettled) => Some(self.open(call, bytes, disk_length)?),
+            Some(Slip::TableBeforeMap) => Some(self.open_settled(call, bytes, disk_length)?),
             _ => None,
         };
         match early {
             Some(card) if self.is_bad(table, card.geometry.data_blocks) => Err(16),
-            _ => self.check_settled(bytes, disk_length, map, choice),
+            _ => self.check_settled(call, bytes, disk_length, map, choice),
         }
     }
 
@@ -876,9 +1102,9 @@ impl Model {
     /// Checks 1, 2, 4 to 6 and 15.
     fn check_unsettled(&self, bytes: &[u8], map: &[u64]) -> Result<(), u32> {
         if self.slips(Slip::MapBeforeEqual) {
-            self.check_map(&Card::decoded(bytes, None)?, map)?;
+            self.check_map(&Card::decoded(self.takes(Call::Recover), bytes, None)?, map)?;
         }
-        self.check_map(&Card::open(bytes, None)?, map)
+        self.check_map(&self.open(Call::Recover, bytes, None)?, map)
     }
 
     /// Whether check 17 holds of the choice; `length` is how many bytes it must have at least.
@@ -922,27 +1148,27 @@ impl Model {
 
     /// The stores of a commit that is given the card's map and a choice that is none of 17's.
     pub fn commit_list(&self, bytes: &[u8], numbers: &[u64], data: &[u8]) -> Result<Vec<Store>, u32> {
-        let card = Card::open_settled(bytes, None)?;
+        let card = self.open_settled(Call::Commit, bytes, None)?;
         let choice = zeros(card.geometry.block());
         self.commit_runs(&card, Save { numbers, data, choice: &choice }).map(|runs| stores_of(&runs))
     }
 
     /// As above, the runs of a commit that makes room.
     pub fn room_list(&self, bytes: &[u8], disk_length: usize, table: &[u8], numbers: &[u64], data: &[u8]) -> Result<Vec<Run>, u32> {
-        let card = Card::open_settled(bytes, Some(disk_length))?;
+        let card = self.open_settled(Call::Room, bytes, Some(disk_length))?;
         let choice = zeros(card.geometry.block());
         self.room_runs(&card, bytes, table, Save { numbers, data, choice: &choice })
     }
 
     /// The stores of a load, with any table.
     pub fn load_list(&self, bytes: &[u8], disk: &[u8], number: u64) -> Result<Vec<Store>, u32> {
-        let card = Card::open_settled(bytes, Some(disk.len()))?;
+        let card = self.open_settled(Call::Load, bytes, Some(disk.len()))?;
         self.load_runs(&card, disk, &ascending(), number, &zeros(card.geometry.block())).map(|runs| stores_of(&runs))
     }
 
     /// The stores of an evict.
     pub fn evict_list(&self, bytes: &[u8], disk_length: usize, number: u64) -> Result<Vec<Store>, u32> {
-        let card = Card::open_settled(bytes, Some(disk_length))?;
+        let card = self.open_settled(Call::Evict, bytes, Some(disk_length))?;
         self.evict_runs(&card, bytes, number, &zeros(card.geometry.block())).map(|runs| stores_of(&runs))
     }
 
@@ -986,11 +1212,9 @@ impl Model {
         let (mut runs, mut written) = (Vec::new(), Vec::new());
         let blocks = save.data.chunks_exact(geometry.block()).zip(homes.blocks);
         for (i, (number, (block, home))) in save.numbers.iter().zip(blocks).enumerate() {
-            let (index, previous) = match card.entry_for(*number) {
-                Some(index) => (index, Some(card.entries[index].unwrap().current)),
-                None => (unused.next().unwrap(), None),
-            };
-            let entry = Entry { modified: true, log_role: true, number: *number, previous, current: home as u32 };
+            let over = card.entry_for(*number);
+            let index = over.unwrap_or_else(|| unused.next().unwrap());
+            let entry = self.logged(card, *number, over.and_then(|index| card.entries[index]), home as u32);
             written.push((index, entry));
             if i == 0 || !self.slips(Slip::HeadAlone) {
                 runs.extend(self.logging_runs(geometry, block, index, entry, head));
@@ -999,13 +1223,34 @@ impl Model {
             runs.push(Run::Single(Store::Word(64, head.to_be_bytes())));
         }
         let switches = written.into_iter().map(|(index, entry)| {
-            let switched = switched(entry);
-            let previous = if self.slips(Slip::FreshAtSwitch) { None } else { switched.previous };
-            Run::Single(Store::Entry(geometry.entry_at(index), write_entry(Some(Entry { previous, ..switched }))))
+            Run::Single(Store::Entry(geometry.entry_at(index), write_entry(Some(self.switched(entry)))))
         });
         let (mut last, tail) = (switches.collect::<Vec<Run>>(), Run::Single(Store::Word(72, head.to_be_bytes())));
         last.insert(if self.slips(Slip::TailFirst) { 0 } else { last.len() }, tail);
         [runs, last].concat()
+    }
+
+    /// The log entry of a block of a commit.
+    fn logged(&self, card: &Card, number: u64, over: Option<Entry>, current: u32) -> Entry {
+        let right = logged(card.version, number, over, current);
+        let previous_modified = match self.slip {
+            Some(Slip::CleanLoggedModified) => over.is_some(),
+            Some(Slip::AbsentLoggedModified) => right.previous_modified || over.is_none(),
+            Some(Slip::ModifiedLoggedClean) => false,
+            Some(Slip::LoggedAsBefore) => over.is_some_and(|entry| entry.previous_modified),
+            _ => right.previous_modified,
+        };
+        Entry { previous_modified, ..right }
+    }
+
+    fn switched(&self, entry: Entry) -> Entry {
+        let right = switched(entry);
+        match self.slip {
+            Some(Slip::FreshAtSwitch) => Entry { previous: None, ..right },
+            Some(Slip::SwitchDropsP) => Entry { previous_modified: false, ..right },
+            Some(Slip::SwitchKeepsR) => entry,
+            _ => right,
+        }
     }
 
     /// What a commit stores of one block, but for Head.
@@ -1118,7 +1363,7 @@ impl Model {
         ])?;
         let (current, index) = (free[0] as u32, card.unused_entries()[0]);
         let at = number as usize * geometry.block();
-        let entry = Entry { modified: false, log_role: false, number, previous: None, current };
+        let entry = Entry { previous_modified: false, modified: false, log_role: false, number, previous: None, current };
         Ok(vec![
             Run::words(geometry.block_at(current), &disk[at..at + geometry.block()]),
             Run::Single(Store::Entry(geometry.entry_at(index), write_entry(Some(entry)))),
@@ -1136,7 +1381,11 @@ impl Model {
             _ => self.is_wrong(choice, geometry.block() / 8),
         };
         self.first_refusal(vec![(17, wrong), (10, number >= geometry.disk_blocks), (13, found.is_none())])?;
-        Ok(self.eviction_runs(card, bytes, found.unwrap().0))
+        let mut card = card.clone();
+        if let (Some(Slip::CleanWritten), Some((index, entry))) = (self.slip, found) {
+            card.entries[index] = Some(Entry { modified: true, ..entry });
+        }
+        Ok(self.eviction_runs(&card, bytes, found.unwrap().0))
     }
 
     /// The runs with which an entry in use is evicted.
@@ -1152,7 +1401,7 @@ impl Model {
     }
 
     pub fn recover_list(&self, bytes: &[u8]) -> Result<Vec<Store>, u32> {
-        let card = Card::open(bytes, None)?;
+        let card = self.open(Call::Recover, bytes, None)?;
         let mut stores = Vec::new();
         for (index, entry) in card.entries.iter().enumerate() {
             let Some(entry) = entry else { continue };
@@ -1161,24 +1410,51 @@ impl Model {
             } else {
                 card.undoable(entry)
             };
-            if undoable {
-                let mut after = undone(*entry);
-                if let Some(after) = after.as_mut() {
-                    if self.slips(Slip::CleanUndo) {
-                        after.modified = false;
-                    }
-                    if self.slips(Slip::FreshAtUndo) {
-                        after.previous = None;
-                    }
-                }
-                let after = write_entry(after);
-                if after != write_entry(Some(*entry)) || self.slips(Slip::UnchangedCounted) {
-                    stores.push(Store::Entry(card.geometry.entry_at(index), after));
-                }
+            let after = write_entry(self.undone(card.version, *entry));
+            if undoable && (after != write_entry(Some(*entry)) || self.slips(Slip::UnchangedCounted)) {
+                stores.push(Store::Entry(card.geometry.entry_at(index), after));
             }
         }
         if card.tail != card.head || self.slips(Slip::UnchangedCounted) {
             stores.push(Store::Word(72, card.head.to_be_bytes()));
+        }
+        Ok(stores)
+    }
+
+    fn undone(&self, version: u8, entry: Entry) -> Option<Entry> {
+        let by = match self.slip {
+            Some(Slip::OldUndoneAsNew) => NOW,
+            Some(Slip::NewUndoneAsOld) => OLD,
+            _ => version,
+        };
+        let right = undone(by, entry)?;
+        Some(match self.slip {
+            Some(Slip::CleanUndo) => Entry { previous_modified: false, modified: false, ..right },
+            Some(Slip::ModifiedUndo) => Entry { modified: true, ..right },
+            Some(Slip::UndoDropsP) => Entry { previous_modified: false, ..right },
+            Some(Slip::FreshAtUndo) => Entry { previous: None, ..right },
+            _ => right,
+        })
+    }
+
+    /// The stores of an upgrade: the header's first word, with today's version in it.
+    pub fn upgrade_list(&self, bytes: &[u8]) -> Result<Vec<Store>, u32> {
+        let opened = self.open(Call::Upgrade, bytes, None);
+        let settled = match opened {
+            Ok(card) if self.slips(Slip::UpgradeUnsettled) => Some(card),
+            Err(4..=6) if self.slips(Slip::UpgradeDamaged) => None,
+            opened => Some(opened?.if_settled()?),
+        };
+        let mut first: [u8; 8] = bytes[..8].try_into().unwrap();
+        first[VERSION_AT] = NOW;
+        if self.slips(Slip::UpgradeClearsSlots) {
+            first[6..8].fill(0);
+        }
+        let mut stores = vec![Store::Word(0, first)];
+        if let (Some(Slip::UpgradeSetsP), Some(card)) = (self.slip, settled) {
+            let modified = card.entries.iter().enumerate().filter(|(_, entry)| entry.is_some_and(|entry| entry.modified));
+            let with_p = |entry: &Option<Entry>| entry.map(|entry| Entry { previous_modified: true, ..entry });
+            stores.extend(modified.map(|(index, entry)| Store::Entry(card.geometry.entry_at(index), write_entry(with_p(entry)))));
         }
         Ok(stores)
     }
@@ -1294,7 +1570,7 @@ impl Model {
         }
         let mut after = card.to_vec();
         let mut map = if self.slips(Slip::PreviewMapUnasked) { map_of(card).to_vec() } else { map.to_vec() };
-        let answer = self.commit(&mut after, &mut map, numbers, data, &any_choice(card), u64::MAX);
+        let answer = self.save(Call::Preview, &mut after, &mut map, Save { numbers, data, choice: &any_choice(card) }, u64::MAX);
         let before_output = |number: u32| match number {
             10 | 11 | 14 => self.slips(Slip::PreviewOutputLast),
             8 => !self.slips(Slip::PreviewOutputBeforeCount),
@@ -1312,7 +1588,7 @@ impl Model {
     /// Where a commit put each number, by the card after it. A wrong model may have left a card without the number.
     fn told(&self, before: &[u8], after: &[u8], numbers: &[u64]) -> Vec<u32> {
         let block_of = |bytes: &[u8], number: u64| {
-            let card = Card::decoded(bytes, None).ok()?;
+            let card = Card::decoded(Taken::EITHER, bytes, None).ok()?;
             card.entry_for(number).map(|index| card.entries[index].unwrap().current)
         };
         let mut told: Vec<u32> = numbers.iter().map(|number| block_of(after, *number).unwrap_or(FRESH)).collect();
@@ -1324,7 +1600,7 @@ impl Model {
             told.iter_mut().zip(numbers).for_each(|(block, number)| *block = block_of(before, *number).unwrap_or(*block));
         }
         if self.slips(Slip::PreviewEntries) {
-            let card = Card::decoded(after, None).unwrap();
+            let card = Card::decoded(Taken::EITHER, after, None).unwrap();
             told = numbers.iter().map(|number| card.entry_for(*number).unwrap() as u32).collect();
         }
         told
@@ -1333,10 +1609,11 @@ impl Model {
     /// Where a block lies. A read gives its table and the length of its output, which look does not have.
     fn place(&self, card: &[u8], disk: &[u8], block: u64, read: Option<(&[u8], usize)>) -> Result<Place, u32> {
         let is_bad = |card: &Card| read.is_some_and(|(table, _)| self.is_bad(table, card.geometry.data_blocks));
-        if self.slips(Slip::ReadTableBeforeSettled) && is_bad(&Card::open(card, Some(disk.len()))?) {
+        let call = if read.is_some() { Call::Read } else { Call::Look };
+        if self.slips(Slip::ReadTableBeforeSettled) && is_bad(&self.open(call, card, Some(disk.len()))?) {
             return Err(16);
         }
-        let opened = Card::open_settled(card, Some(disk.len()))?;
+        let opened = self.open_settled(call, card, Some(disk.len()))?;
         let geometry = opened.geometry;
         let table = (16, is_bad(&opened));
         let length = (9, read.is_some_and(|(_, length)| length != geometry.block()));
@@ -1357,7 +1634,7 @@ impl Model {
 
     /// What stands in the table for these blocks, those of them that are cached: their entries' places.
     fn stands_for(&self, card: &[u8], numbers: &[u64]) -> Vec<usize> {
-        let Ok(card) = Card::decoded(card, None) else { return vec![] };
+        let Ok(card) = Card::decoded(Taken::EITHER, card, None) else { return vec![] };
         let places = numbers.iter().filter_map(|number| card.entry_for(*number));
         match self.slip {
             Some(Slip::TableOfDataBlocks) => places.map(|index| card.entries[index].unwrap().current as usize).collect(),
@@ -1390,13 +1667,27 @@ impl Model {
 
     /// The blocks that a done commit moves, in their order: all of its own.
     fn moving(&self, card: &[u8], numbers: &[u64], stored: &Stored) -> Vec<u64> {
-        let is_new = |number: &&u64| Card::decoded(card, None).is_ok_and(|card| card.entry_for(**number).is_none());
+        let is_new = |number: &&u64| Card::decoded(Taken::EITHER, card, None).is_ok_and(|card| card.entry_for(**number).is_none());
         match self.slip {
             Some(Slip::MovedBackward) => numbers.iter().rev().copied().collect(),
             Some(Slip::NewBlocksMoved) => numbers.iter().filter(is_new).copied().collect(),
             Some(Slip::MovedIfEvicted) if stored.zeroed.is_empty() => vec![],
             _ => numbers.to_vec(),
         }
+    }
+}
+
+impl Model {
+    /// A commit, or the one that a preview tells of.
+    fn save(&self, call: Call, card: &mut [u8], map: &mut [u64], save: Save, allowance: u64) -> Answer {
+        let checked = self.check_settled(call, card, None, map, save.choice);
+        let list = checked.and_then(|opened| self.commit_runs(&opened, save));
+        let before = map.to_vec();
+        let answer = self.make(list, save.choice, allowance, card, &mut [], map);
+        if self.slips(Slip::OldBlocksStayTaken) {
+            map.iter_mut().zip(before).for_each(|(word, old)| *word |= old);
+        }
+        answer
     }
 }
 
@@ -1409,7 +1700,7 @@ impl Calls for Model {
         if card.len() != geometry.card_length() {
             return Answer::Refused(2);
         }
-        card[0..64].copy_from_slice(&geometry.header());
+        card[0..64].copy_from_slice(&geometry.header(if self.slips(Slip::FormatsOld) { OLD } else { self.version }));
         card[64..geometry.block_at(0)].fill(0);
         if self.slips(Slip::FormatClearsBlocks) {
             card[64..].fill(0);
@@ -1419,14 +1710,7 @@ impl Calls for Model {
 
     fn commit(&self, card: &mut [u8], map: &mut [u64], numbers: &[u64], data: &[u8], choice: &[u8], allowance: u64) -> Answer {
         let choice = self.looked_at(choice, allowance);
-        let save = Save { numbers, data, choice };
-        let list = self.check_settled(card, None, map, choice).and_then(|opened| self.commit_runs(&opened, save));
-        let before = map.to_vec();
-        let answer = self.make(list, choice, allowance, card, &mut [], map);
-        if self.slips(Slip::OldBlocksStayTaken) {
-            map.iter_mut().zip(before).for_each(|(word, old)| *word |= old);
-        }
-        answer
+        self.save(Call::Commit, card, map, Save { numbers, data, choice }, allowance)
     }
 
     fn preview(&self, card: &mut [u8], map: &mut [u64], numbers: &mut [u64], data: &mut [u8], blocks: &mut [u32]) -> Answer {
@@ -1466,7 +1750,7 @@ impl Calls for Model {
         let choice = self.looked_at(choice, allowance);
         let has_room = |bytes: &[u8]| Card::open(bytes, None).is_ok_and(|card| self.missing(&card, numbers) == 0);
         let disk_length = if self.slips(Slip::DiskAskedForVictims) && has_room(card) { None } else { Some(disk.len()) };
-        let checked = self.check_lent(card, disk_length, map, table, choice);
+        let checked = self.check_lent(Call::Room, card, disk_length, map, table, choice);
         let list = checked.and_then(|opened| self.room_runs(&opened, card, table, Save { numbers, data, choice }));
         let stored = Stored::of(card, &list);
         let moving = self.moving(card, numbers, &stored);
@@ -1495,7 +1779,7 @@ impl Calls for Model {
         allowance: u64,
     ) -> Answer {
         let choice = self.looked_at(choice, allowance);
-        let checked = self.check_lent(card, Some(disk.len()), map, table, choice);
+        let checked = self.check_lent(Call::Load, card, Some(disk.len()), map, table, choice);
         let list = checked.and_then(|opened| self.load_runs(&opened, disk, table, block, choice));
         let stored = Stored::of(card, &list);
         let answer = self.make(list, choice, allowance, card, &mut [], map);
@@ -1507,7 +1791,7 @@ impl Calls for Model {
 
     fn evict(&self, card: &mut [u8], disk: &mut [u8], map: &mut [u64], block: u64, choice: &[u8], allowance: u64) -> Answer {
         let choice = self.looked_at(choice, allowance);
-        let checked = self.check_settled(card, Some(disk.len()), map, choice);
+        let checked = self.check_settled(Call::Evict, card, Some(disk.len()), map, choice);
         let list = checked.and_then(|opened| self.evict_runs(&opened, card, block, choice));
         let before = map.to_vec();
         let answer = self.make(list, choice, allowance, card, disk, map);
@@ -1534,6 +1818,21 @@ impl Calls for Model {
             map.copy_from_slice(&moved);
         }
         answer
+    }
+
+    fn upgrade(&self, card: &mut [u8], allowance: u64) -> Answer {
+        let runs = self.upgrade_list(card).map(|stores| stores.into_iter().map(Run::Single).collect());
+        let allowance = if self.slips(Slip::UpgradeFree) { u64::MAX } else { allowance };
+        // it takes no map: what is free does not change
+        let (mut after, mut map) = (card.to_vec(), map_of(card));
+        let answer = self.make(runs, &[], allowance, &mut after, &mut [], &mut map);
+        if !self.slips(Slip::UpgradeUnmade) {
+            card.copy_from_slice(&after);
+        }
+        match answer {
+            Answer::Done(_) if self.slips(Slip::UpgradeUncounted) => Answer::Done(0),
+            _ => answer,
+        }
     }
 
     fn read(&self, card: &[u8], disk: &[u8], table: &mut [u8], block: u64, out: &mut [u8]) -> Place {
@@ -1574,7 +1873,7 @@ impl Calls for Model {
     }
 
     fn state(&self, card: &[u8]) -> State {
-        let card = match Card::open(card, None) {
+        let card = match self.open(Call::State, card, None) {
             Ok(card) => card,
             Err(number) => return State::Refused(number),
         };
@@ -1596,7 +1895,8 @@ impl Calls for Model {
     }
 
     fn cached(&self, card: &[u8], place: u64) -> Cached {
-        let opened = if self.slips(Slip::CachedUnsettled) { Card::open(card, None) } else { Card::open_settled(card, None) };
+        let opened = self.open(Call::Cached, card, None);
+        let opened = if self.slips(Slip::CachedUnsettled) { opened } else { opened.and_then(Card::if_settled) };
         let card = match opened {
             Ok(card) => card,
             Err(number) => return Cached::Refused(number),
@@ -1613,7 +1913,8 @@ impl Calls for Model {
     }
 
     fn make_map(&self, card: &[u8]) -> FreeMap {
-        let opened = if self.slips(Slip::MapOfSettledAlone) { Card::open_settled(card, None) } else { Card::open(card, None) };
+        let opened = self.open(Call::MakeMap, card, None);
+        let opened = if self.slips(Slip::MapOfSettledAlone) { opened.and_then(Card::if_settled) } else { opened };
         match opened {
             Ok(card) => FreeMap::Made(self.given(&card)),
             Err(number) => FreeMap::Refused(number),

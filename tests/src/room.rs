@@ -3,7 +3,7 @@
 
 use crate::choices::{Pick, PICKS};
 use crate::drive::{data_of, done, every_list, first_disk, make_in_full, Pair, Row, Snapshot, Step, Tally};
-use crate::model::{commit_stores, map_of, zeros, Card, Model};
+use crate::model::{commit_stores, map_of, zeros, Card, Model, Run, Store};
 use crate::random::{mix, Random};
 use crate::tables::ORDERS;
 use crate::{Answer, Calls, Geometry};
@@ -135,6 +135,22 @@ pub fn keeps_law(card: &Card, numbers: &[u64], answer: Answer) -> Result<(), Str
     } else {
         Err(format!("{} blocks, {cached} of them cached, of {}: {answer:?}", numbers.len(), card.geometry.data_blocks))
     }
+}
+
+/// The entries whose evictions an allowance finishes: the store that zeroes them is within it.
+pub fn evicted(runs: &[Run], allowance: u64, card: &[u8]) -> Vec<usize> {
+    let Ok(geometry) = Geometry::from_header(card) else { return vec![] };
+    let (mut entries, mut before) = (Vec::new(), 0);
+    for run in runs {
+        before += run.stores().len() as u64;
+        if before > allowance {
+            break;
+        }
+        if let Run::Single(Store::Entry(at, bytes)) = run {
+            entries.extend((*bytes == [0; 16]).then(|| (at - geometry.entry_at(0)) / 16));
+        }
+    }
+    entries
 }
 
 /// Evicts of the victims, as many as are missing, and then the commit, all on one implementation. Gives what they leave and the count of
@@ -304,7 +320,7 @@ mod tests {
     use super::*;
     use crate::drive::{every_cut, put, some_card};
     use crate::ffi::Library;
-    use crate::model::{ascending, cut_run, stores_of, Slip};
+    use crate::model::{ascending, cut_run, stores_of, Slip, NOW};
     use crate::tables::Order;
 
     const SMALL: Geometry = Geometry { k: 9, slots: 8, data_blocks: 4, disk_blocks: 6 };
@@ -469,7 +485,7 @@ mod tests {
             let (mut refused, mut sums) = ([0; 2], [0; 3]);
             for turn in 0..6000 {
                 let geometry = if turn % 2 == 0 { SMALL } else { Geometry { data_blocks: 8, disk_blocks: 12, ..SMALL } };
-                let Snapshot { mut card, mut disk, .. } = some_card(&mut random, geometry);
+                let Snapshot { mut card, mut disk, .. } = some_card(&mut random, geometry, NOW);
                 let Ok(opened) = Card::open_settled(&card, None) else { continue };
                 let mut numbers: Vec<u64> = Order::Shuffled.table(turn).iter().map(|number| *number as u64).collect();
                 numbers.retain(|number| *number < geometry.disk_blocks);
@@ -519,7 +535,7 @@ mod tests {
             Slip::CleanVictimWritten,
             Slip::TableOfDataBlocks,
         ] {
-            let wrong = Model { slip: Some(slip) };
+            let wrong = Model::wrong(slip);
             assert!(every_room(&wrong, &wrong, SMALL, &room_script(), 3).is_err(), "{slip:?}");
         }
     }

@@ -2,7 +2,7 @@
 //! outputs: in columns words and numbers count, not blanks and commas. The name in front and what is told on standard
 //! error are compared as they stand.
 
-use crate::model::{read_entry, undone, window_slots, Card, Entry, Geometry, Model, Store};
+use crate::model::{read_entry, undone, window_slots, Card, Entry, Geometry, Model, Store, OLD, VERSION_AT};
 use crate::stores_log::CARD;
 use crate::{Calls, State};
 
@@ -13,7 +13,7 @@ pub const LARGEST: usize = 528_512;
 pub const NOT_WRITTEN: &str = "card.img: a store could not be written and made durable, \
     and half of it may be in the file: recover a copy made before\n";
 /// The title of the table of entries, which explains its flags.
-const ENTRIES_TITLE: &str = "entries: V in use, M modified, R log role";
+const ENTRIES_TITLE: &str = "entries: V in use, P previous modified, M modified, R log role";
 const WINDOW: &str = "slot number";
 const ENTRIES: &str = "place bytes flags number previous current undoable settled";
 const STORES: &str = "store byte bytes what";
@@ -23,6 +23,8 @@ const SAVE: &str = "number data block entry replaces";
 pub enum Verdict {
     Settled { in_use: u64, modified: u64 },
     Unsettled { undoable: u64, window: u64 },
+    /// Of an old card that nothing else is wrong with.
+    Old { settled: bool },
     Refused(u32),
 }
 
@@ -119,7 +121,14 @@ pub fn asked_line(card: &[u8]) -> Option<String> {
     (asked != card.len()).then(line)
 }
 
+/// What is told of an old card.
+const OLD_SETTLED: &str = "condition  version 1, settled: to be upgraded";
+const OLD_UNSETTLED: &str = "condition  version 1, not settled: to be recovered, then upgraded";
+
 pub fn verdict(line: &str) -> Result<Verdict, String> {
+    if let OLD_SETTLED | OLD_UNSETTLED = line {
+        return Ok(Verdict::Old { settled: line == OLD_SETTLED });
+    }
     let line = &format!("{line}\n");
     if line.starts_with("condition  settled, ") {
         let (in_use, modified) = (between(line, "entries in use ", ", ")?, between(line, "modified ", "\n")?);
@@ -234,15 +243,16 @@ fn known_of(entry: &Entry, window: &[(u64, u64)]) -> Row {
     vec![if undoable { "yes" } else { "no" }.to_string(), settled]
 }
 
-/// The row of an entry that is not all zero.
-fn entry_row(index: u64, bytes: &[u8; 16], geometry: Geometry, window: Option<&[(u64, u64)]>) -> Row {
+/// The row of an entry that is not all zero, on a card of that version.
+fn entry_row(version: u8, index: u64, bytes: &[u8; 16], geometry: Geometry, window: Option<&[(u64, u64)]>) -> Row {
     let flag = |bit: u8, letter: &str| if bytes[0] & bit != 0 { letter } else { "-" }.to_string();
     let previous = field(bytes, 8, 4).unwrap();
     let mut row = [vec![index.to_string()], groups(bytes)].concat();
-    row.extend([flag(0x80, "V"), flag(0x02, "M"), flag(0x01, "R"), field(bytes, 1, 7).unwrap().to_string()]);
+    row.extend([flag(0x80, "V"), flag(0x04, "P"), flag(0x02, "M"), flag(0x01, "R")]);
+    row.push(field(bytes, 1, 7).unwrap().to_string());
     row.push(if previous == 0xFFFF_FFFF { "FRESH".to_string() } else { previous.to_string() });
     row.push(field(bytes, 12, 4).unwrap().to_string());
-    let read = read_entry(bytes, geometry.data_blocks, geometry.disk_blocks);
+    let read = read_entry(version, bytes, geometry.data_blocks, geometry.disk_blocks);
     row.extend(match (read, window) {
         (Ok(Some(entry)), Some(window)) => known_of(&entry, window),
         _ => self::row(&["-", "-"]),
@@ -257,7 +267,7 @@ fn entries_of(card: &[u8], geometry: Geometry, window: Option<&[(u64, u64)]>) ->
     bytes(0)?;
     let reached = (0..geometry.data_blocks).map_while(|index| bytes(index).map(|bytes| (index, bytes)));
     let used = reached.filter(|(_, bytes)| **bytes != [0; 16]);
-    Some(used.map(|(index, bytes)| entry_row(index, bytes, geometry, window)).collect())
+    Some(used.map(|(index, bytes)| entry_row(card[VERSION_AT], index, bytes, geometry, window)).collect())
 }
 
 fn free_of(card: &[u8]) -> Option<Row> {
@@ -266,7 +276,13 @@ fn free_of(card: &[u8]) -> Option<Row> {
     Some(free.iter().map(|block| block.to_string()).collect())
 }
 
+/// An old card, which state refuses for its version, is told from its bytes.
 pub fn verdict_of(model: &Model, card: &[u8]) -> Verdict {
+    match Card::open(card, None) {
+        Ok(card) if card.version == OLD => return Verdict::Old { settled: card.settled() },
+        Err(number) => return Verdict::Refused(number),
+        _ => {}
+    }
     match model.state(card) {
         State::Settled { in_use, modified, .. } => Verdict::Settled { in_use, modified },
         State::Unsettled { undoable, window, .. } => Verdict::Unsettled { undoable, window },
@@ -343,7 +359,7 @@ pub fn parse_listed(text: &str) -> Result<Listed, String> {
     Ok(Listed { number: between(first, "block ", ", ")?, on_card, at: between(first, "from byte ", " on")?, bytes })
 }
 
-/// What `recover` prints: its list, how many stores it made, how it ended, and the card's condition then.
+/// What `recover` and `upgrade` print: their list, how many stores they made, how they ended, and the card's condition then.
 #[derive(Clone, Debug, PartialEq, Eq)]
 pub struct Told {
     pub list: Vec<Row>,
@@ -353,21 +369,25 @@ pub struct Told {
     pub verdict: Verdict,
 }
 
-pub fn parse_list(lines: &[&str]) -> Result<Vec<Row>, String> {
+/// The titles of the lists of stores.
+pub const RECOVERY: &str = "recovery stores";
+pub const UPGRADE: &str = "upgrade stores";
+
+pub fn parse_list(title: &str, lines: &[&str]) -> Result<Vec<Row>, String> {
     match lines {
-        ["recovery stores", list @ ..] => rows(list, STORES, "  none"),
-        _ => Err(format!("no list of stores: {lines:?}")),
+        [first, list @ ..] if *first == title => rows(list, STORES, "  none"),
+        _ => Err(format!("no {title}: {lines:?}")),
     }
 }
 
-pub fn parse_told(text: &str) -> Result<Told, String> {
+pub fn parse_told(title: &str, text: &str) -> Result<Told, String> {
     let lines: Vec<&str> = text.lines().collect();
     let [list @ .., made, condition] = &lines[..] else {
         return Err(format!("too few lines: {text:?}"));
     };
     let end = made.split_once(" stores made: ").ok_or_else(|| format!("no count of stores: {made:?}"))?;
     Ok(Told {
-        list: parse_list(list)?,
+        list: parse_list(title, list)?,
         made: between(&format!(":{made}"), ":", " of ")?,
         count: between(made, " of ", " stores made: ")?,
         end: end.1.to_string(),
@@ -375,13 +395,15 @@ pub fn parse_told(text: &str) -> Result<Told, String> {
     })
 }
 
-/// What a store of recovery's list does.
+/// What a store of recovery's list does, or the one of an upgrade.
 fn meaning(card: &Card, store: &Store) -> String {
-    let Store::Entry(at, _) = store else {
-        return format!("Tail to Head, {}", card.head);
+    let at = match store {
+        Store::Entry(at, _) => at,
+        Store::Word(0, bytes) => return format!("version {}", bytes[VERSION_AT]),
+        _ => return format!("Tail to Head, {}", card.head),
     };
     let index = (at - card.geometry.entry_at(0)) / 16;
-    match undone(card.entries[index].unwrap()) {
+    match undone(card.version, card.entries[index].unwrap()) {
         Some(after) => format!("entry {index} back to data block {}", after.current),
         None => format!("entry {index} zeroed"),
     }
@@ -424,7 +446,7 @@ pub fn previewed_of(model: &Model, card: &[u8], numbers: &[u64]) -> Result<Previ
     let geometry = Geometry::from_header(card)?;
     let list = model.commit_list(card, numbers, &vec![0; numbers.len() * geometry.block()])?;
     let logged = |store: &Store| match store {
-        Store::Entry(at, bytes) => Some((*at, read_entry(bytes, geometry.data_blocks, geometry.disk_blocks))),
+        Store::Entry(at, bytes) => Some((*at, read_entry(card[VERSION_AT], bytes, geometry.data_blocks, geometry.disk_blocks))),
         _ => None,
     };
     let row = |(at, entry): (usize, Result<Option<Entry>, u32>)| {
@@ -442,7 +464,10 @@ mod tests {
     use super::*;
 
     fn card() -> Vec<u8> {
-        let model = Model::default();
+        card_by(&Model::default())
+    }
+
+    fn card_by(model: &Model) -> Vec<u8> {
         let mut card = vec![0; 2304];
         model.format(9, 8, 4, 16, &mut card);
         let mut map = model.fresh_map(&card);
@@ -456,7 +481,7 @@ card.img: 2,304 bytes
 
 header
   length         64
-  version         1
+  version         2
   k               9
   B             512
   S               8
@@ -469,10 +494,10 @@ window
   slot  number
      1       5
 
-entries: V in use, M modified, R log role
-  place  bytes                               flags  number  previous  current  undoable   settled
-      0  8300000000000003 00000000 00000002  V M R       3         0        2       yes         0
-      1  8300000000000005 FFFFFFFF 00000001  V M R       5     FRESH        1       yes      none
+entries: V in use, P previous modified, M modified, R log role
+  place  bytes                               flags    number  previous  current  undoable   settled
+      0  8700000000000003 00000000 00000002  V P M R       3         0        2       yes         0
+      1  8300000000000005 FFFFFFFF 00000001  V - M R       5     FRESH        1       yes      none
 
 free data blocks
     0   3
@@ -502,9 +527,11 @@ condition  unsettled, undoable entries 2, slots in the window 1
             ("FRESH", "0"),
             ("unsettled", "settled"),
             (" R  ", " -  "),
+            ("V P M R", "V - M R"),
+            ("V - M R", "V P M R"),
             ("  0   3\n", " none\n"),
             ("undoable ", "settled  "),
-            ("window\n", "entries: V in use, M modified, R log role\n"),
+            ("window\n", "entries: V in use, P previous modified, M modified, R log role\n"),
         ];
         for (right, other) in changes {
             assert!(SHOWN.contains(right));
@@ -550,16 +577,50 @@ condition  unsettled, undoable entries 2, slots in the window 1
         damaged[192] = 0x81;
         damaged[193..200].fill(0xFF);
         let report = SHOWN.replace(
-            "8300000000000003 00000000 00000002  V M R       3         0        2       yes         0",
-            "81FFFFFFFFFFFFFF 00000000 00000002  V - R 72057594037927935         0        2         -         -",
+            "8700000000000003 00000000 00000002  V P M R       3         0        2       yes         0",
+            "81FFFFFFFFFFFFFF 00000000 00000002  V - - R 72057594037927935         0        2         -         -",
         );
-        let flags = "refused with 5: the flag byte of entry 0 is not 80, 82 or 83. Cause: a damaged card.";
+        let flags = "refused with 5: the flag byte of entry 0 is not 80, 82, 83, 86 or 87. Cause: a damaged card.";
         let report = refused(&report, flags);
         let wanted = shown_of(&Model::default(), &damaged);
         same_shown(&report, &wanted).unwrap();
         for other in ["\n", "         -\n", "        no         2\n", "         - -         -\n"] {
             assert!(same_shown(&report.replace("         -         -\n", other), &wanted).is_err(), "{other}");
         }
+    }
+
+    /// Of an old card all is shown by its own rules, and the last line says what is to be done with it.
+    #[test]
+    fn an_old_card_is_shown() {
+        let (model, old) = (Model::default(), card_by(&Model::old()));
+        let report = SHOWN
+            .replace("version         2", "version         1")
+            .replace("8700000000000003 00000000 00000002  V P M R", "8300000000000003 00000000 00000002  V - M R")
+            .replace("condition  unsettled, undoable entries 2, slots in the window 1", OLD_UNSETTLED);
+        let wanted = shown_of(&model, &old);
+        same_shown(&report, &wanted).unwrap();
+        for (right, other) in [
+            ("version         1", "version         2"),
+            ("V - M R       3", "V P M R       3"),
+            (OLD_UNSETTLED, OLD_SETTLED),
+            (OLD_UNSETTLED, "refused with 1: the version is 1. Cause: the fitter."),
+            (OLD_UNSETTLED, "condition  version 1, unsettled: to be recovered, then upgraded"),
+            (OLD_UNSETTLED, "condition  unsettled, undoable entries 2, slots in the window 1"),
+        ] {
+            assert!(report.contains(right));
+            assert!(same_shown(&report.replacen(right, other, 1), &wanted).is_err(), "{other}");
+        }
+        let mut recovered = old.clone();
+        model.recover(&mut recovered, &mut model.fresh_map(&old), u64::MAX);
+        assert_eq!(verdict_of(&model, &recovered), verdict(OLD_SETTLED).unwrap());
+        assert_ne!(verdict(OLD_SETTLED), verdict(OLD_UNSETTLED));
+        // P, which is none of its flags, is shown as it stands
+        let mut damaged = old;
+        damaged[192] = 0x86;
+        let row = &shown_of(&model, &damaged).entries.unwrap()[0];
+        assert_eq!(row[4..8], ["V", "P", "M", "-"]);
+        assert_eq!(row[row.len() - 2..], ["-", "-"]);
+        assert_eq!(verdict_of(&model, &damaged), Verdict::Refused(5));
     }
 
     /// A file that no card is as long as: no window, nothing of an entry that needs one.
@@ -598,7 +659,7 @@ condition  unsettled, undoable entries 2, slots in the window 1
         assert_eq!(told(LARGEST + 1).0, long);
         let mut no_header = card();
         no_header.push(0);
-        no_header[4] = 2;
+        no_header[VERSION_AT] = 3;
         assert_eq!(asked_line(&no_header), None);
     }
 
@@ -643,13 +704,13 @@ condition  unsettled, undoable entries 2, slots in the window 1
         let text = "\
 recovery stores
   store   byte  bytes                               what
-      1    192  8200000000000003 00000000 00000000  entry 0 back to data block 0
+      1    192  8600000000000003 00000000 00000000  entry 0 back to data block 0
       2    208  0000000000000000 00000000 00000000  entry 1 zeroed
       3     72  0000000000000002                    Tail to Head, 2
 1 of 3 stores made: cut
 condition  unsettled, undoable entries 1, slots in the window 1
 ";
-        let told = parse_told(text).unwrap();
+        let told = parse_told(RECOVERY, text).unwrap();
         assert_eq!(told.list, list_rows(&card(), &list));
         assert_eq!((told.made, told.count, &told.end[..]), (1, 3, "cut"));
         assert_eq!(told.verdict, Verdict::Unsettled { undoable: 1, window: 1 });
@@ -660,9 +721,34 @@ condition  unsettled, undoable entries 1, slots in the window 1
             ("0000000000000002 ", "00000000 00000002 "),
         ] {
             assert!(text.contains(right));
-            assert_ne!(parse_told(&text.replacen(right, other, 1)).unwrap().list, told.list, "{right}");
+            assert_ne!(parse_told(RECOVERY, &text.replacen(right, other, 1)).unwrap().list, told.list, "{right}");
         }
-        assert!(parse_told(&text.replace("what", "")).is_err());
+        assert!(parse_told(RECOVERY, &text.replace("what", "")).is_err());
+        assert!(parse_told(UPGRADE, text).is_err());
+    }
+
+    #[test]
+    fn an_upgrade_is_told() {
+        let (model, mut old) = (Model::default(), card_by(&Model::old()));
+        let mut map = model.fresh_map(&old);
+        model.recover(&mut old, &mut map, u64::MAX);
+        let list = model.upgrade_list(&old).unwrap();
+        let text = "\
+upgrade stores
+  store   byte  bytes                               what
+      1      0  0000004002090008                    version 2
+0 of 1 stores made: cut
+condition  version 1, settled: to be upgraded
+";
+        let told = parse_told(UPGRADE, text).unwrap();
+        assert_eq!(told.list, list_rows(&old, &list));
+        assert_eq!((told.made, told.count, &told.end[..]), (0, 1, "cut"));
+        assert_eq!(told.verdict, verdict_of(&model, &old));
+        for (right, other) in [("  0000004002", "  0000004001"), ("version 2\n", "version 1\n"), ("      0  ", "      4  ")] {
+            assert!(text.contains(right));
+            assert_ne!(parse_told(UPGRADE, &text.replacen(right, other, 1)).unwrap().list, told.list, "{right}");
+        }
+        assert!(parse_told(RECOVERY, text).is_err());
     }
 
     /// Every number and every word counts, and the order of the rows.
@@ -700,9 +786,9 @@ stores 137
     #[test]
     fn an_empty_list_says_so() {
         let list = ["recovery stores", "  store   byte  bytes                               what", "  none"];
-        assert_eq!(parse_list(&list), Ok(Vec::new()));
-        assert!(parse_list(&list[..2]).is_err());
-        assert!(parse_list(&[list[0], list[2]]).is_err());
-        assert_ne!(parse_list(&[&list[..], &list[2..]].concat()), Ok(Vec::new()));
+        assert_eq!(parse_list(RECOVERY, &list), Ok(Vec::new()));
+        assert!(parse_list(RECOVERY, &list[..2]).is_err());
+        assert!(parse_list(RECOVERY, &[list[0], list[2]]).is_err());
+        assert_ne!(parse_list(RECOVERY, &[&list[..], &list[2..]].concat()), Ok(Vec::new()));
     }
 }

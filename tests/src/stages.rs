@@ -1,7 +1,9 @@
 //! A save in stages, from the model alone: the card after each kind of store, and what a recovery gives from there. The
 //! words that name a store are made from its bytes. All that the picture of a save says is asserted here.
 
-use crate::model::{ascending, commit_stores, in_order, switched, undone, window_slots, write_entry, zeros, Card, Entry, Model, Store};
+use crate::model::{
+    ascending, commit_stores, in_order, logged, switched, undone, window_slots, write_entry, zeros, Card, Entry, Model, Store,
+};
 use crate::{Answer, Calls, Geometry, Place};
 use std::ops::Range;
 
@@ -219,7 +221,7 @@ fn entry_words(index: usize, before: &Stage, card: &Card) -> [String; 2] {
     let number = entry.number;
     if entry.log_role {
         assert_eq!(told(&before.bytes[Part::Block(entry.current).range()]), Some((Version::New, number)));
-        assert_eq!(entry.previous, before.card.entry_for(number).map(|index| before.card.entries[index].unwrap().current));
+        assert_eq!(entry, logged(card.version, number, before.card.entry_for(number).and(was), entry.current));
         let previous = entry.previous.map_or("FRESH".to_string(), |block| format!("data block {block}"));
         [format!("entry {index} for block {number},"), format!("previous: {previous}")]
     } else {
@@ -237,7 +239,9 @@ fn recovery_words(card: &Card, store: &Store) -> String {
         Part::Entry(index) => {
             let entry = card.entries[index].unwrap();
             assert!(card.undoable(&entry));
-            assert_eq!(bytes, write_entry(undone(entry)));
+            let after = undone(card.version, entry);
+            assert_eq!(bytes, write_entry(after));
+            assert!(after.is_none_or(|after| after.modified == entry.previous_modified));
             format!("entry {index} {}", if entry.previous.is_some() { "back" } else { "zeroed" })
         }
         Part::Tail => {
@@ -372,6 +376,10 @@ mod tests {
             assert_eq!(stage.read, [old(3, Version::Earlier, true), old(5, Version::Disk, false)]);
         }
         assert_eq!(stages[11].read, [old(3, Version::New, true), old(5, Version::New, true)]);
+        // of block 3 and of block 5, as stored, after the role switch and after a recovery from there
+        let flags = |bytes: &[u8]| [0, 2].map(|entry| bytes[SMALL.entry_at(entry)]);
+        assert_eq!([0, 6, 10, 11].map(|stage| flags(&stages[stage].bytes)), [[0x82, 0], [0x87, 0x83], [0x86, 0x82], [0x86, 0x82]]);
+        assert_eq!([6, 10].map(|stage| stages[stage].recovery[0].unit().2[0]), [0x86, 0x86]);
     }
 
     /// Of every wrong model whose save, or recovery from it, differs on this card, there are no stages.
@@ -379,6 +387,14 @@ mod tests {
     fn a_wrong_save_has_no_stages() {
         let slips = [
             Slip::CleanUndo,
+            Slip::UndoDropsP,
+            Slip::NewUndoneAsOld,
+            Slip::AbsentLoggedModified,
+            Slip::ModifiedLoggedClean,
+            Slip::LoggedAsBefore,
+            Slip::SwitchDropsP,
+            Slip::SwitchKeepsR,
+            Slip::FormatsOld,
             Slip::FreshAtSwitch,
             Slip::FreshAtUndo,
             Slip::WindowAlone,
@@ -392,7 +408,7 @@ mod tests {
             Slip::ChosenWhenDone,
         ];
         for slip in slips {
-            let stages = std::panic::catch_unwind(|| checked_stages(&Model { slip: Some(slip) }).len());
+            let stages = std::panic::catch_unwind(|| checked_stages(&Model::wrong(slip)).len());
             assert!(stages.is_err(), "{slip:?} passes");
         }
     }

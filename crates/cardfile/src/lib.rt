@@ -74,13 +74,20 @@ pub fn is_long_enough(path: &[u8], n: usize) -> bool {
     false
 }
 
-// A refusal on standard error, behind the file's name: the card's fault, or what lies with the disk, an earlier cut or the numbers asked for.
-pub fn refuse(path: &[u8], card: &[u8], r: u8) {
+// A refusal on standard error, behind the file's name, by a call that takes versions from low to high: the card's fault, or what lies with the disk,
+// an earlier cut or the numbers asked for.
+pub fn refuse(path: &[u8], card: &[u8], low: u64, high: u64, r: u8) {
     err(path);
     err(b": ");
     if (r == 3) | (7 <= r) {
         sentence::refusal(STDERR_FILENO, r);
     } else {
-        sentence::fault(STDERR_FILENO, r, faults::fault_of(card));
+        sentence::fault(
+            STDERR_FILENO,
+            r,
+            faults::fault_of(card, low, high),
+            low,
+            high,
+        );
     }
 }

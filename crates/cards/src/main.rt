@@ -53,6 +53,12 @@ fn sound(disk: &[u8]) {
     show(b"half-made", &holding(0x83), disk);
 }
 
+// The same with P: the version before was modified too.
+fn over(disk: &[u8]) {
+    show(b"modified over modified", &holding(0x86), disk);
+    show(b"half-made over modified", &holding(0x87), disk);
+}
+
 // One byte of a sound card changed.
 fn damaged(name: &[u8], at: usize, x: u8, disk: &[u8]) {
     let mut card = holding(0x82);
@@ -108,7 +114,8 @@ fn short_disk() {
 }
 
 fn fitter(disk: &[u8]) {
-    damaged(b"1: version 2", 4, 2, disk);
+    damaged(b"1: version 1", 4, 1, disk);
+    damaged(b"1: version 3", 4, 3, disk);
     damaged(b"1: k 8", 5, 8, disk);
     short(b"1: 127 bytes", 127, disk);
     short(b"1: no card", 0, disk);
@@ -120,6 +127,7 @@ fn damage(disk: &[u8]) {
     damaged(b"4: Head 8", 71, 8, disk);
     windowed(b"4: a window number 1024", 4, 0, disk);
     damaged(b"5: flag 81", 192, 0x81, disk);
+    damaged(b"5: flag 84", 192, 0x84, disk);
     damaged(b"5: current block 4", 207, 4, disk);
     damaged(b"5: an unused entry with a number", 231, 9, disk);
     shared(disk);
@@ -130,6 +138,7 @@ fn damage(disk: &[u8]) {
 fn main() {
     let disk = [1u8; 8192];
     sound(&disk);
+    over(&disk);
     fitter(&disk);
     damage(&disk);
 }

@@ -3,28 +3,28 @@ use Prim.Native.Nat.{ℕ, _+_, _*_, _/_, _%_, _^_, _≤_, _<_}
 use mathlib.Core.List.{List}
 use mathlib.Core.Bool.{Bool, true, false, not, _&&_, _||_}
 use mathlib.Core.Logic.{_⊎_, inl, inr, ⊎-elim}
-use mathlib.Core.Path.{_≡_, refl, sym, ap, _∙_, subst}
+use mathlib.Core.Path.{_≡_, sym, ap, _∙_, subst}
 use native.Mathlib.Nat.{add-zero}
 use native.Mathlib.Omega.{arith}
 use lib.Bits.{bitOr}
 use lib.ListN.{length, getD}
 use lib.Dec.{eqb, ltb, leb}
-use borrow.Author.Tests.{eqb-true, ltb-true, leb-true, eq-eqb, lt-ltb, le-leb}
+use borrow.Author.Tests.{eqb-true, ltb-true, leb-true, eq-eqb, lt-ltb, le-ltb, le-leb}
 use Rattle.numbers.specs.Bytes.{numberAt, Bytes}
 use Rattle.numbers.proofs.Laws.{number-one, number-split, number-high, number-low}
 use Rattle.protocol.specs.declared.Geometry.{Geometry}
 use Rattle.protocol.specs.declared.Entry.{Entry}
-use Rattle.protocol.specs.Layout.{entryPlace}
-use Rattle.protocol.specs.Entry.{FRESH, entryOf, unused, entryIn, entryAt, inUse, hasLogRole, goodEntry}
+use Rattle.protocol.specs.Layout.{entryPlace, versionOf}
+use Rattle.protocol.specs.Entry.{FRESH, entryOf, unused, entryIn, entryAt, inUse, hasLogRole, allowedFlags, isUnused, goodEntry}
 use Rattle.protocol.specs.Ring.{usedAt, roleFreeAt}
 use Rattle.protocol.specs.Check.{goodEntryAt, entriesFit}
-use Rattle.protocol.proofs.Below.{absurd-bool, either, and-left, and-right, or-left, or-right, or-true, below-or-above, same-or-other, all-at}
-use Rattle.protocol.proofs.Allowed.{Flag, clean, modified, logged, UsedEntry, good-cases, used-good, unused-good, flag-used, used-entry}
+use Rattle.protocol.proofs.Below.{absurd-bool, either, and-left, and-right, and-both, or-left, or-right, or-true, below-or-above, same-or-other, all-at}
+use Rattle.protocol.proofs.Allowed.{UsedEntry, good-cases, used-good, unused-good, flag-used, used-entry}
 use Rattle.freemap.proofs.Maps.{or-zero}
 use Rattle.ring.specs.Fitted.{Fitted}
 use Rattle.ring.proofs.Laws.{Room, room}
 use Rattle.checks.specs.Keys.{NONE, key, numberKey, currentKey}
-use Rattle.checks.specs.Fields.{fieldsEntry, Field}
+use Rattle.checks.specs.Fields.{fieldsEntry, Field, Numbered}
 
 -- entry i of a card that fits, read as a word and two blocks
 pub record Split (g : Geometry) (c : List ℕ) (i w p q : ℕ) : Type 0 where
@@ -46,7 +46,7 @@ entry-fields xs at bytes h =
 
 -- an entry in use at place i, with the number b and the current block q, and with R or not
 pub record Used (g : Geometry) (c : List ℕ) (i b q : ℕ) (role : Bool) : Type 0 where
-  pub allowed : UsedEntry (g .blocks) (g .disk) (entryAt g c i)
+  pub allowed : UsedEntry (versionOf c) (g .blocks) (g .disk) (entryAt g c i)
   pub number : entryAt g c i .number ≡ b
   pub current : entryAt g c i .current ≡ q
   pub logs : hasLogRole (entryAt g c i) ≡ role
@@ -58,7 +58,7 @@ module _ {g : Geometry} {c : List ℕ} {i b q : ℕ} {role : Bool} (u : Used g c
 
   pub used-allowed : goodEntryAt g c i ≡ true
   unfolding goodEntryAt
-  used-allowed = used-good (g .blocks) (g .disk) (entryAt g c i) (u .allowed)
+  used-allowed = used-good (versionOf c) (g .blocks) (g .disk) (entryAt g c i) (u .allowed)
 
   pub used-number : b ≡ numberKey g c i
   unfolding numberKey key
@@ -76,7 +76,8 @@ module _ {g : Geometry} {c : List ℕ} {i b q : ℕ} {role : Bool} (u : Used g c
 module _ (g : Geometry) (c : List ℕ) (i : ℕ) (e : entryAt g c i ≡ unused) where
   pub blank-allowed : goodEntryAt g c i ≡ true
   unfolding goodEntryAt
-  blank-allowed = subst (λ (x : Entry). goodEntry (g .blocks) (g .disk) x ≡ true) (sym e) (unused-good (g .blocks) (g .disk))
+  blank-allowed =
+      subst (λ (x : Entry). goodEntry (versionOf c) (g .blocks) (g .disk) x ≡ true) (sym e) (unused-good (versionOf c) (g .blocks) (g .disk))
 
   blank-off : usedAt g c i ≡ false
   unfolding usedAt inUse
@@ -115,22 +116,25 @@ module _ {g : Geometry} {c : List ℕ} {i w p q : ℕ} (s : Split g c i w p q) w
       let qz : q ≡ 0 = eqb-true q 0 (and-right (eqb p 0) _ b) in
       split-entry ∙ (λ t. entryOf (wz t / 2 ^ 56) (wz t % 2 ^ 56) (pz t) (qz t))
 
+  -- fields that are all zero
+  split-zeros : fieldsEntry w p q ≡ unused → bitOr w (bitOr p q) ≡ 0
+  unfolding fieldsEntry
+  split-zeros e =
+      let wf : w / 2 ^ 56 ≡ 0 = ap (λ (x : Entry). x .flags) e in
+      let wn : w % 2 ^ 56 ≡ 0 = ap (λ (x : Entry). x .number) e in
+      let pz : p ≡ 0 = ap (λ (x : Entry). x .previous) e in
+      let qz : q ≡ 0 = ap (λ (x : Entry). x .current) e in
+      let wz : w ≡ 0 = omega arith in
+      eqb-true (bitOr w (bitOr p q)) 0 (or-zero w (bitOr p q) ∙ (λ t. eqb (wz t) 0 && or-zero p q t) ∙ (λ t. eqb (pz t) 0 && eqb (qz t) 0))
+
   -- what is not blank and allowed is in use
-  split-used : (bitOr w (bitOr p q) ≡ 0 → ⊥) → goodEntryAt g c i ≡ true → UsedEntry (g .blocks) (g .disk) (fieldsEntry w p q)
-  unfolding goodEntryAt fieldsEntry
+  split-used : (bitOr w (bitOr p q) ≡ 0 → ⊥) → goodEntryAt g c i ≡ true → UsedEntry (versionOf c) (g .blocks) (g .disk) (fieldsEntry w p q)
+  unfolding goodEntryAt
   split-used z h =
       ⊎-elim
-      (λ (e : entryAt g c i ≡ unused).
-      let e′ = sym split-entry ∙ e in
-      let wf : w / 2 ^ 56 ≡ 0 = ap (λ (x : Entry). x .flags) e′ in
-      let wn : w % 2 ^ 56 ≡ 0 = ap (λ (x : Entry). x .number) e′ in
-      let pz : p ≡ 0 = ap (λ (x : Entry). x .previous) e′ in
-      let qz : q ≡ 0 = ap (λ (x : Entry). x .current) e′ in
-      let wz : w ≡ 0 = omega arith in
-      absurd
-      (z (eqb-true (bitOr w (bitOr p q)) 0 (or-zero w (bitOr p q) ∙ (λ t. eqb (wz t) 0 && or-zero p q t) ∙ (λ t. eqb (pz t) 0 && eqb (qz t) 0)))))
-      (λ u. subst (UsedEntry (g .blocks) (g .disk)) split-entry u)
-      (good-cases (g .blocks) (g .disk) (entryAt g c i) h)
+      (λ (e : entryAt g c i ≡ unused). absurd (z (split-zeros (sym split-entry ∙ e))))
+      (λ u. subst (UsedEntry (versionOf c) (g .blocks) (g .disk)) split-entry u)
+      (good-cases (versionOf c) (g .blocks) (g .disk) (entryAt g c i) h)
 
   -- ---- refused
 
@@ -174,60 +178,44 @@ module _ {g : Geometry} {c : List ℕ} {i w p q : ℕ} (s : Split g c i w p q) w
         absurd-bool (or-right (leb (g .blocks) q) _ (lt-ltb _ _ b)) o)
         (⊎-elim (λ a. inr a) (λ a. inl a) (below-or-above (g .blocks) ((p + 1) % 0x100000000)))
 
-    -- the word less a flag byte f is a number below D
-    used-by : (f b : ℕ) (role : Bool) → Flag f → f < 256 → eqb (f % 2) 1 ≡ role → b < g .disk → w / 2 ^ 56 ≡ f → w % 2 ^ 56 ≡ b
-        → Used g c i b q role
-    unfolding fieldsEntry hasLogRole
-    used-by f b role fl few r l wf wn =
-        let e = split-entry in
-        record {
-          allowed =
-              subst (UsedEntry (g .blocks) (g .disk)) (sym e)
-              (record {
-                flag = subst Flag (sym wf) fl;
-                numberBelow = omega arith;
-                currentBelow = current-below;
-                previousBelow = previous-below;
-              });
-          number = ap (λ (x : Entry). x .number) e ∙ wn;
-          current = ap (λ (x : Entry). x .current) e;
-          logs = ap (λ (x : Entry). eqb (x .flags % 2) 1) e ∙ ap (λ (x : ℕ). eqb (x % 2) 1) wf ∙ r;
-        }
+    module _ (b : ℕ) (n : Numbered (versionOf c) w (g .disk) b) where
+      pub split-number : b < g .disk → Used g c i b q (eqb (w / 2 ^ 56 % 2) 1)
+      unfolding goodEntryAt goodEntry fieldsEntry hasLogRole
+      split-number l =
+          let e = split-entry in
+          let both : allowedFlags (versionOf c) (w / 2 ^ 56) && ltb (w % 2 ^ 56) (g .disk) ≡ true = sym (n .tested) ∙ lt-ltb b (g .disk) l in
+          let blocks : ltb q (g .blocks) && (ltb p (g .blocks) || eqb p FRESH) ≡ true =
+          and-both (lt-ltb q (g .blocks) current-below)
+          (⊎-elim (λ x. or-left _ _ (lt-ltb p (g .blocks) x)) (λ x. or-right (ltb p (g .blocks)) _ (eq-eqb p FRESH x)) previous-below) in
+          let good : goodEntry (versionOf c) (g .blocks) (g .disk) (fieldsEntry w p q) ≡ true =
+          or-right (isUnused (fieldsEntry w p q)) _
+          (and-both (and-left (allowedFlags (versionOf c) (w / 2 ^ 56)) _ both)
+          (and-both (and-right (allowedFlags (versionOf c) (w / 2 ^ 56)) _ both) blocks)) in
+          record {
+            allowed =
+                subst (UsedEntry (versionOf c) (g .blocks) (g .disk)) (sym e)
+                (split-used z (ap (goodEntry (versionOf c) (g .blocks) (g .disk)) e ∙ good));
+            number = ap (λ (x : Entry). x .number) e ∙ sym (n .number l);
+            current = ap (λ (x : Entry). x .current) e;
+            logs = ap (λ (x : Entry). eqb (x .flags % 2) 1) e;
+          }
 
-    pub used-modified : (b x : ℕ) → b ≡ x → (x + 0x8200000000000000) % 2 ^ 64 ≡ w → x < g .disk → Used g c i b q false
-    used-modified b x v e l =
-        let k : Room g c = room g c (s .fitted) in
-        used-by 0x82 b false (modified refl) (omega arith) refl (omega arith) (omega arith) (omega arith)
-
-    pub used-clean : (b x : ℕ) → b ≡ x → (x + 0x8000000000000000) % 2 ^ 64 ≡ w → x < g .disk → Used g c i b q false
-    used-clean b x v e l =
-        let k : Room g c = room g c (s .fitted) in
-        used-by 0x80 b false (clean refl) (omega arith) refl (omega arith) (omega arith) (omega arith)
-
-    pub used-logged : (b x : ℕ) → b ≡ x → (x + 0x8300000000000000) % 2 ^ 64 ≡ w → x < g .disk → Used g c i b q true
-    used-logged b x v e l =
-        let k : Room g c = room g c (s .fitted) in
-        used-by 0x83 b true (logged refl) (omega arith) refl (omega arith) (omega arith) (omega arith)
-
-    -- no allowed flag byte leaves a number below D
-    pub split-flags : (x y v : ℕ) → x < 2 ^ 64 → y < 2 ^ 64 → v < 2 ^ 64 → (x + 0x8200000000000000) % 2 ^ 64 ≡ w → (y + 0x8000000000000000) % 2 ^ 64 ≡ w
-        → (v + 0x8300000000000000) % 2 ^ 64 ≡ w → g .disk ≤ x → g .disk ≤ y → g .disk ≤ v → goodEntryAt g c i ≡ false
-    unfolding fieldsEntry
-    split-flags x y v xl yl vl ex ey ev dx dy dv =
-        ⊎-elim
-        (λ h.
-        let u = split-used z h in
-        let k : Room g c = room g c (s .fitted) in
-        let lim : w < 256 ^ 8 = s .first .below in
-        let num : w % 2 ^ 56 < g .disk = u .numberBelow in
-        absurd (flags num (u .flag)))
-        (λ h. h)
-        (either (goodEntryAt g c i))
-      where
-        flags : w % 2 ^ 56 < g .disk → Flag (w / 2 ^ 56) → ⊥
-        flags num (modified f) = let k : Room g c = room g c (s .fitted) in let lim : w < 256 ^ 8 = s .first .below in omega arith
-        flags num (clean f) = let k : Room g c = room g c (s .fitted) in let lim : w < 256 ^ 8 = s .first .below in omega arith
-        flags num (logged f) = let k : Room g c = room g c (s .fitted) in let lim : w < 256 ^ 8 = s .first .below in omega arith
+      -- no allowed flag byte with a number below D
+      pub split-flags : g .disk ≤ b → goodEntryAt g c i ≡ false
+      unfolding goodEntryAt goodEntry fieldsEntry isUnused inUse
+      split-flags l = ⊎-elim (λ h. absurd-bool (used h) (sym (n .tested) ∙ le-ltb b (g .disk) l)) (λ h. h) (either (goodEntryAt g c i))
+        where
+          used : goodEntryAt g c i ≡ true → allowedFlags (versionOf c) (w / 2 ^ 56) && ltb (w % 2 ^ 56) (g .disk) ≡ true
+          used h =
+              let u = split-used z h in
+              ⊎-elim
+              (λ x.
+              absurd-bool (flag-used (fieldsEntry w p q) (u .flag))
+              (ap (λ (f : ℕ). eqb (f / 0x80 % 2) 1) (eqb-true (w / 2 ^ 56) 0 (and-left (eqb (w / 2 ^ 56) 0) _ x))))
+              (λ x.
+              and-both (and-left (allowedFlags (versionOf c) (w / 2 ^ 56)) _ x)
+              (and-left (ltb (w % 2 ^ 56) (g .disk)) _ (and-right (allowedFlags (versionOf c) (w / 2 ^ 56)) _ x)))
+              (or-true (isUnused (fieldsEntry w p q)) _ (sym (ap (goodEntry (versionOf c) (g .blocks) (g .disk)) split-entry) ∙ h))
 
 -- ---- an entry's number by its low bytes alone
 
@@ -240,7 +228,7 @@ low-number g c i r f fit bytes l b h =
     let at : ℕ = entryPlace g i in
     ⊎-elim
     (λ (u : inUse (entryAt g c i) ≡ true).
-    let a : UsedEntry (g .blocks) (g .disk) (entryAt g c i) = used-entry _ _ _ (all-at (goodEntryAt g c) (g .blocks) i fit l) u in
+    let a : UsedEntry (versionOf c) (g .blocks) (g .disk) (entryAt g c i) = used-entry _ _ _ _ (all-at (goodEntryAt g c) (g .blocks) i fit l) u in
     let low : numberAt c (at + 1) 7 < g .disk = a .numberBelow in
     let q : at + 1 + 3 ≡ at + 4 = omega arith in
     let n : numberAt c (at + 1) 7 ≡ numberAt c (at + 1) 3 * 256 ^ 4 + numberAt c (at + 4) 4 =

@@ -10,7 +10,7 @@ use lib.Dec.{eqb, ltb}
 use borrow.Author.Tests.{lt-ltb, ltb-true, eq-eqb, ne-eqb}
 use Rattle.protocol.specs.declared.Geometry.{Geometry}
 use Rattle.protocol.specs.Below.{anyBelow}
-use Rattle.protocol.specs.Layout.{goodGeometry}
+use Rattle.protocol.specs.Layout.{goodGeometry, versionOf}
 use Rattle.protocol.specs.Entry.{FRESH, entryAt}
 use Rattle.protocol.specs.Ring.{usedAt, undoableAt, settledBlock, isSettled}
 use Rattle.protocol.specs.Check.{goodEntryAt, entriesFit, alike, apart, apartBefore, entriesApart}
@@ -103,11 +103,11 @@ module _ (g : Geometry) (c : List ℕ) where
       distinct-at (keysOf p) l (g .blocks) i j d ji iN (rw ki b) (kj ∙ sym e ∙ sym ki)
 
   module _ (good : goodGeometry g ≡ true) (fit : entriesFit g c ≡ true) where
-    entry-used : (i : ℕ) → i < g .blocks → usedAt g c i ≡ true → UsedEntry (g .blocks) (g .disk) (entryAt g c i)
+    entry-used : (i : ℕ) → i < g .blocks → usedAt g c i ≡ true → UsedEntry (versionOf c) (g .blocks) (g .disk) (entryAt g c i)
     unfolding entriesFit goodEntryAt usedAt
-    entry-used i iN u = used-entry (g .blocks) (g .disk) (entryAt g c i) (all-at (goodEntryAt g c) (g .blocks) i fit iN) u
+    entry-used i iN u = used-entry (versionOf c) (g .blocks) (g .disk) (entryAt g c i) (all-at (goodEntryAt g c) (g .blocks) i fit iN) u
 
-    settled-limit : (i : ℕ) → UsedEntry (g .blocks) (g .disk) (entryAt g c i)
+    settled-limit : (i : ℕ) → UsedEntry (versionOf c) (g .blocks) (g .disk) (entryAt g c i)
         → (settledBlock g c i < g .blocks) ⊎ (settledBlock g c i ≡ FRESH)
     unfolding settledBlock
     settled-limit i a = ⊎-elim (λ u. rw u (a .previousBelow)) (λ u. rw u (inl (a .currentBelow))) (either (undoableAt g c i))
@@ -119,7 +119,7 @@ module _ (g : Geometry) (c : List ℕ) where
     unfolding alike numberKey currentKey settledKey
     pair-unlike i j dn dc ds ui uj ji iN =
         let l : Limits g = limits g good in
-        let a : UsedEntry (g .blocks) (g .disk) (entryAt g c i) = entry-used i iN ui in
+        let a : UsedEntry (versionOf c) (g .blocks) (g .disk) (entryAt g c i) = entry-used i iN ui in
         let n : eqb (entryAt g c i .number) (entryAt g c j .number) ≡ false =
         ne-eqb _ _ (keys-differ (λ k. entryAt g c k .number) NONE i j dn ui uj ji iN (omega arith)) in
         let q : eqb (entryAt g c i .current) (entryAt g c j .current) ≡ false =

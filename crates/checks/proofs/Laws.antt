@@ -77,7 +77,7 @@ silent-more : (g : Geometry) (c : List ℕ) (i : ℕ) (quiet free : Bool) → qu
 unfolding allBelow
 silent-more g c i quiet free h e = (λ t. h t && e t) ∙ ap (allBelow (roleFreeAt g c)) (sym (add-one i))
 
-pub and-true : (b : Bool) → b && true ≡ b
+and-true : (b : Bool) → b && true ≡ b
 and-true true = refl
 and-true false = refl
 

@@ -1,5 +1,6 @@
 pub mod Keys
 pub mod Chain
+pub mod Flags
 pub mod Fields
 pub mod Tally
 pub mod Settled

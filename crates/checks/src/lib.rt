@@ -6,15 +6,16 @@ use ring::Fit;
 use ring::Window;
 ghost use mathlib.Core.Path.{_≡_};
 ghost use mathlib.Core.Bool.{true, false};
-ghost use Prim.Native.Nat.{_+_, _≤_, _<_};
+ghost use Prim.Native.Nat.{ℕ, _+_, _≤_, _<_};
 ghost use lib.ListN.{length};
+ghost use Rattle.protocol.specs.Layout.{versionOf};
 ghost use Rattle.protocol.specs.Entry.{entryAt};
 ghost use Rattle.protocol.specs.Ring.{findEntry};
 ghost use Rattle.protocol.specs.Check.{entriesFit, entriesApart, damageRefusal, cardRefusal};
 ghost use Rattle.ring.specs.Fitted.{Fitted, Placed, WindowOf, Framed};
 ghost use Rattle.checks.specs.Keys.{NONE, settledKey, undoableEntry, numberKey, keyed, distinct};
 ghost use Rattle.checks.specs.Chain.{lastBelow, Chains, Blank, Entered, Chained};
-ghost use Rattle.checks.specs.Fields.{Field};
+ghost use Rattle.checks.specs.Fields.{Field, overOf, Numbered};
 ghost use Rattle.checks.specs.Passed.{Decoded, Comparable, Indexed, Inspected, Examined};
 
 // Entry i of the card.
@@ -88,14 +89,51 @@ fn misfit() -> Seen
     }
 }
 
-// One pass over the entries, each read once. Flag byte and number are read as one word, from which each allowed flag byte is subtracted: what is
-// left is below D only for that flag byte and a number below D. FRESH passes as the number before 0.
-fn decode(g: Geometry, card: &[u8], index: &mut [u8; 640]) -> Seen
-    requires { ⌜ Fitted g (now card) × Blank (now index) ⌝ }
+// The flag byte 82 with P, as a word: on a version 1 card without it.
+fn over_of(version: u64) -> u64
+    ensures { λ r. ⌜ r ≡ overOf version ⌝ }
+{
+    if version == 2 {
+        0x8600_0000_0000_0000
+    } else {
+        0x8200_0000_0000_0000
+    }
+}
+
+// The number in a word of flag byte and number, if the flag byte is allowed and the number below D, else something not below D. Each allowed flag
+// byte is subtracted in turn, 86 first: a block that is saved again and again has it. On a version 1 card `more` is 82, and is so subtracted twice.
+fn number_of(w: u64, disk: u64, more: u64) -> u64
+    requires { ⌜ (disk ≤ 65536) × (more ≤ 0x8600000000000000) ⌝ }
+    ensures { λ r. ⌜ ((v : ℕ) → more ≡ overOf v → Numbered v w disk r) ⌝ }
+{
+    let over = std::num::wrapping_sub_u64(w, more);
+    if over < disk {
+        return over;
+    }
+    let modified = std::num::wrapping_sub_u64(w, 0x8200_0000_0000_0000);
+    if modified < disk {
+        return modified;
+    }
+    let clean = std::num::wrapping_sub_u64(w, 0x8000_0000_0000_0000);
+    if clean < disk {
+        return clean;
+    }
+    let logged = std::num::wrapping_sub_u64(w, 0x8300_0000_0000_0000);
+    if logged < disk {
+        return logged;
+    }
+    std::num::wrapping_sub_u64(w, more + 0x0100_0000_0000_0000)
+}
+
+// One pass over the entries, each read once, flag byte and number as one word. FRESH passes as the number before 0. The words are laid over each
+// other and asked for R at the end: one that is used in parts is read byte by byte.
+fn decode(g: Geometry, version: u64, card: &[u8], index: &mut [u8; 640]) -> Seen
+    requires { ⌜ Fitted g (now card) × Blank (now index) × (version ≡ versionOf (now card)) ⌝ }
     ensures { λ r. ⌜ Decoded g (now (card .entry)) (now (index .exit)) r ⌝ }
 {
     let n = g.blocks as usize;
-    let mut quiet = true;
+    let more = over_of(version);
+    let mut roles: u64 = 0;
     let mut shared = 0;
     let mut count = 128 - g.blocks;
     let mut map = freemap::beyond(n);
@@ -110,22 +148,17 @@ fn decode(g: Geometry, card: &[u8], index: &mut [u8; 640]) -> Seen
             if (g.blocks <= q) | (g.blocks < (p + 1) % 0x1_0000_0000) {
                 return misfit();
             }
-            let mut b = std::num::wrapping_sub_u64(w, 0x8200_0000_0000_0000);
+            let b = number_of(w, g.disk, more);
             if g.disk <= b {
-                b = std::num::wrapping_sub_u64(w, 0x8000_0000_0000_0000);
-                if g.disk <= b {
-                    b = std::num::wrapping_sub_u64(w, 0x8300_0000_0000_0000);
-                    if g.disk <= b {
-                        return misfit();
-                    }
-                    quiet = false;
-                }
+                return misfit();
             }
+            roles = roles | w;
             map = freemap::with(map, narrow(q));
             count += 1;
             shared = shared | enter(index, at, b);
         }
     }
+    let quiet = roles / 0x0100_0000_0000_0000 % 2 != 1;
     found(quiet, shared, count, map)
 }
 
@@ -270,7 +303,7 @@ pub fn inspect(f: Fit, card: &[u8], index: &mut [u8; 640]) -> Verdict
     if !ring::ring_fits(f, card) {
         return refused(4);
     }
-    let seen = decode(f.geometry, card, index);
+    let seen = decode(f.geometry, f.version, card, index);
     if !seen.fits {
         return refused(5);
     }

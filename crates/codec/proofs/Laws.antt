@@ -7,6 +7,7 @@ use mathlib.Core.Path.{_≡_, refl, sym, ap, _∙_}
 use native.Mathlib.Nat.{one-mul}
 use native.Mathlib.Omega.{arith}
 use lib.ListN.{length, set, replicate}
+use lib.Dec.{leb}
 use lib.Pow.{shl-exact}
 use mir.Syntax.{w64, shl}
 use mir.Val.{vint, op2Val}
@@ -17,7 +18,7 @@ use Rattle.protocol.specs.declared.Entry.{Entry}
 use Rattle.protocol.specs.declared.Geometry.{Geometry}
 use Rattle.protocol.specs.Entry.{entryBytes, entryIn, goodEntry}
 use Rattle.protocol.proofs.Codec.{length-entry}
-use Rattle.protocol.specs.Layout.{goodBlocks, goodDisk, goodGeometry, blockSize}
+use Rattle.protocol.specs.Layout.{between, goodBlocks, goodDisk, goodGeometry, blockSize}
 use Rattle.protocol.proofs.Checks.{limits}
 use Rattle.protocol.specs.Check.{refuse, _orElse_}
 use Rattle.protocol.specs.Format.{outcomeOf, entryRefusal, decoded, encoded}
@@ -78,39 +79,40 @@ put-fields s₀ s₁ s₂ s₃ at e p q r =
 
 -- ---- a single entry: a and b are the tests of N and D, t that of check 5
 
-module _ (n d : ℕ) (e : Entry) (a b : Bool) (p : a ≡ goodBlocks n) (q : b ≡ goodDisk d) where
-  pub limits-refused : a && b ≡ false → 1 ≡ entryRefusal n d e
-  unfolding entryRefusal refuse _orElse_
+module _ (v n d : ℕ) (e : Entry) (a b : Bool) (p : a ≡ goodBlocks n) (q : b ≡ goodDisk d) where
+  pub limits-refused : (leb 1 v && leb v 2) && (a && b) ≡ false → 1 ≡ entryRefusal v n d e
+  unfolding entryRefusal between refuse _orElse_
   limits-refused h = rw (← p, ← q, h)
 
-  module _ (h : a && b ≡ true) (t : Bool) (r : t ≡ goodEntry n d e) where
-    pub entry-refused : t ≡ false → 5 ≡ entryRefusal n d e
-    unfolding entryRefusal refuse _orElse_
+  module _ (h : (leb 1 v && leb v 2) && (a && b) ≡ true) (t : Bool) (r : t ≡ goodEntry v n d e) where
+    pub entry-refused : t ≡ false → 5 ≡ entryRefusal v n d e
+    unfolding entryRefusal between refuse _orElse_
     entry-refused f = rw (← p, ← q, h, ← r, f)
 
-    pub entry-passed : t ≡ true → 0 ≡ entryRefusal n d e
-    unfolding entryRefusal refuse _orElse_
+    pub entry-passed : t ≡ true → 0 ≡ entryRefusal v n d e
+    unfolding entryRefusal between refuse _orElse_
     entry-passed f = rw (← p, ← q, h, ← r, f)
 
-pub fields-read : (n d : ℕ) (bs : List ℕ) (e : Entry) (r : ℕ) → e ≡ entryIn bs 0 → r ≡ entryRefusal n d e → r ≡ 0 → Fields e ≡ decoded n d bs
+pub fields-read : (v n d : ℕ) (bs : List ℕ) (e : Entry) (r : ℕ) → e ≡ entryIn bs 0 → r ≡ entryRefusal v n d e → r ≡ 0
+    → Fields e ≡ decoded v n d bs
 unfolding decoded
-fields-read n d bs e r p q z = rw (← p, ← q, eq-eqb r 0 z)
+fields-read v n d bs e r p q z = rw (← p, ← q, eq-eqb r 0 z)
 
-pub fields-refused : (n d : ℕ) (bs : List ℕ) (e : Entry) (r : ℕ) → e ≡ entryIn bs 0 → r ≡ entryRefusal n d e → (r ≡ 0 → ⊥)
-    → RefusedEntry r ≡ decoded n d bs
+pub fields-refused : (v n d : ℕ) (bs : List ℕ) (e : Entry) (r : ℕ) → e ≡ entryIn bs 0 → r ≡ entryRefusal v n d e → (r ≡ 0 → ⊥)
+    → RefusedEntry r ≡ decoded v n d bs
 unfolding decoded
-fields-refused n d bs e r p q z = rw (← p, ← q, ne-eqb r 0 z)
+fields-refused v n d bs e r p q z = rw (← p, ← q, ne-eqb r 0 z)
 
-pub entry-written : (n d : ℕ) (e : Entry) (r : ℕ) (xs bs : List ℕ) → length xs ≡ 16 → r ≡ entryRefusal n d e → r ≡ 0
+pub entry-written : (v n d : ℕ) (e : Entry) (r : ℕ) (xs bs : List ℕ) → length xs ≡ 16 → r ≡ entryRefusal v n d e → r ≡ 0
     → bs ≡ patch xs 0 (entryBytes e)
-    → _≡_ {A = Encoded} (record { outcome = Done; bytes = bs }) (encoded n d e)
+    → _≡_ {A = Encoded} (record { outcome = Done; bytes = bs }) (encoded v n d e)
 unfolding encoded outcomeOf
-entry-written n d e r xs bs l q z w =
+entry-written v n d e r xs bs l q z w =
     let whole : patch xs 0 (entryBytes e) ≡ entryBytes e =
     sym (part-all _ 16 (length-patch xs 0 (entryBytes e) ∙ l)) ∙ part-patch-same xs 0 (entryBytes e) 16 (length-entry e) (omega arith) in
     rw (← q, eq-eqb r 0 z) (λ t. record { outcome = Done; bytes = (w ∙ whole) t })
 
-pub entry-unwritten : (n d : ℕ) (e : Entry) (r : ℕ) → r ≡ entryRefusal n d e → (r ≡ 0 → ⊥)
-    → _≡_ {A = Encoded} (record { outcome = Refused r; bytes = replicate 16 0 }) (encoded n d e)
+pub entry-unwritten : (v n d : ℕ) (e : Entry) (r : ℕ) → r ≡ entryRefusal v n d e → (r ≡ 0 → ⊥)
+    → _≡_ {A = Encoded} (record { outcome = Refused r; bytes = replicate 16 0 }) (encoded v n d e)
 unfolding encoded outcomeOf
-entry-unwritten n d e r q z = rw (← q, ne-eqb r 0 z)
+entry-unwritten v n d e r q z = rw (← q, ne-eqb r 0 z)

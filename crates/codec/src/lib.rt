@@ -13,7 +13,7 @@ ghost use Prim.Native.Nat.{_+_, _*_, _≤_};
 ghost use lib.ListN.{length};
 ghost use Rattle.numbers.specs.Bytes.{patch};
 ghost use Rattle.protocol.specs.Layout.{goodK, goodSlots, goodBlocks, goodDisk, goodGeometry, blockSize, cardLength};
-ghost use Rattle.protocol.specs.Entry.{entryIn, entryBytes, inUse, isModified, hasLogRole, goodEntry};
+ghost use Rattle.protocol.specs.Entry.{entryIn, entryBytes, inUse, isModified, hasLogRole, wasModified, goodEntry};
 ghost use Rattle.protocol.specs.Format.{entryRefusal, decoded, encoded};
 
 // k, from 9 to 12.
@@ -96,12 +96,20 @@ pub fn has_log_role(e: Entry) -> bool
     e.flags % 2 == 1
 }
 
-// What check 5 allows with n data blocks and d disk blocks. No branch: all of it is computed, which is cheaper than to stop early.
-pub fn good_entry(n: u64, d: u64, e: Entry) -> bool
-    ensures { λ r. ⌜ r ≡ goodEntry n d e ⌝ }
+// P, bit 04.
+pub fn was_modified(e: Entry) -> bool
+    ensures { λ r. ⌜ r ≡ wasModified e ⌝ }
+{
+    e.flags / 0x04 % 2 == 1
+}
+
+// What check 5 allows with the version v, n data blocks and d disk blocks. No branch: all of it is computed, which is cheaper than to stop early.
+pub fn good_entry(v: u64, n: u64, d: u64, e: Entry) -> bool
+    ensures { λ r. ⌜ r ≡ goodEntry v n d e ⌝ }
 {
     let unused = (e.flags == 0) & ((e.number == 0) & ((e.previous == 0) & (e.current == 0)));
-    let allowed = (e.flags == 0x80) | ((e.flags == 0x82) | (e.flags == 0x83));
+    let over = (v == 2) & ((e.flags == 0x86) | (e.flags == 0x87));
+    let allowed = (e.flags == 0x80) | ((e.flags == 0x82) | ((e.flags == 0x83) | over));
     let held = ((e.previous as u64) < n) | (e.previous == FRESH);
     unused | (allowed & ((e.number < d) & (((e.current as u64) < n) & held)))
 }
@@ -133,23 +141,24 @@ pub fn put_entry(s: &mut [u8], at: usize, e: Entry)
     s[at] = e.flags;
 }
 
-// The refusal of a single entry: 1 for N or D outside its limits, 5 for an entry that check 5 forbids, 0 for none.
-fn entry_refusal(n: u64, d: u64, e: Entry) -> u8
-    ensures { λ r. ⌜ r ≡ entryRefusal n d e ⌝ }
+// The refusal of a single entry: 1 for a version not 1 or 2, and for N or D outside its limits, 5 for an entry that check 5 forbids, 0 for none.
+fn entry_refusal(v: u64, n: u64, d: u64, e: Entry) -> u8
+    ensures { λ r. ⌜ r ≡ entryRefusal v n d e ⌝ }
 {
-    if good_blocks(n) & good_disk(d) {
-        if good_entry(n, d, e) { 0 } else { 5 }
+    let known = (1 <= v) & (v <= 2);
+    if known & (good_blocks(n) & good_disk(d)) {
+        if good_entry(v, n, d, e) { 0 } else { 5 }
     } else {
         1
     }
 }
 
 // A single entry, read from sixteen bytes.
-pub fn read_entry(bytes: [u8; 16], n: u64, d: u64) -> Decoded
-    ensures { λ r. ⌜ r ≡ decoded n d bytes ⌝ }
+pub fn read_entry(bytes: [u8; 16], version: u64, n: u64, d: u64) -> Decoded
+    ensures { λ r. ⌜ r ≡ decoded version n d bytes ⌝ }
 {
     let e = entry_at(&bytes, 0);
-    let refusal = entry_refusal(n, d, e);
+    let refusal = entry_refusal(version, n, d, e);
     if refusal == 0 {
         Decoded::Fields(e)
     } else {
@@ -158,11 +167,11 @@ pub fn read_entry(bytes: [u8; 16], n: u64, d: u64) -> Decoded
 }
 
 // A single entry, written as sixteen bytes: zeros where it is refused.
-pub fn write_entry(e: Entry, n: u64, d: u64) -> Encoded
-    ensures { λ r. ⌜ r ≡ encoded n d e ⌝ }
+pub fn write_entry(e: Entry, version: u64, n: u64, d: u64) -> Encoded
+    ensures { λ r. ⌜ r ≡ encoded version n d e ⌝ }
 {
     let mut bytes = [0u8; 16];
-    let refusal = entry_refusal(n, d, e);
+    let refusal = entry_refusal(version, n, d, e);
     if refusal == 0 {
         put_entry(&mut bytes, 0, e);
         Encoded {

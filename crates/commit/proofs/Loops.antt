@@ -8,12 +8,12 @@ use Rattle.protocol.specs.declared.Entry.{Entry}
 use Rattle.protocol.specs.declared.Geometry.{Geometry}
 use Rattle.protocol.specs.Below.{eachBelow}
 use Rattle.protocol.specs.Layout.{blockSize, entryPlace}
-use Rattle.protocol.specs.Entry.{entryOf, entryBytes, switched}
+use Rattle.protocol.specs.Entry.{entryOf, entryBytes, logFlags, switched}
 use Rattle.protocol.specs.Store.{card, Run, single, entryStore}
 use Rattle.protocol.specs.Commit.{numberOf}
 use Rattle.protocol.proofs.Region.{block-ends, in-card, entry, place-entry}
 use Rattle.plan.specs.declared.Plan.{Plan}
-use Rattle.plan.specs.Planned.{previousOf}
+use Rattle.plan.specs.Planned.{previousOf, overOf}
 use Rattle.ring.specs.Fitted.{Fitted}
 use Rattle.stores.specs.Did.{cardStore, Did}
 use Rattle.stores.proofs.Laws.{did-same, did-each, entry-aligned}
@@ -25,8 +25,8 @@ module _ (g : Geometry) (p : Plan) (ns : List ℕ) (i : ℕ) (n : Named g p ns) 
   pub entry-on : (at : ℕ) → at ≡ getD (p .entries) i 0 → at < g .blocks
   entry-on at e = subst (λ (z : ℕ). z < g .blocks) (sym e) (n .entries i l)
 
-  pub block-on : (x : Entry) (b q : ℕ) → x ≡ entryOf 0x83 b q (getD (p .blocks) i 0) → x .current < g .blocks
-  block-on x b q e = subst (λ (z : Entry). z .current < g .blocks) (sym e) (n .blocks i l)
+  pub block-on : (x : Entry) (f b q : ℕ) → x ≡ entryOf f b q (getD (p .blocks) i 0) → x .current < g .blocks
+  block-on x f b q e = subst (λ (z : Entry). z .current < g .blocks) (sym e) (n .blocks i l)
 
 pub data-on : (g : Geometry) (p : Plan) (h : ℕ) (ns bs : List ℕ) (i : ℕ) → Ready g p h ns bs → i < length ns → i * blockSize g + blockSize g ≤ length bs
 data-on g p h ns bs i r l = omega (arith, block-ends i (length ns) (blockSize g) l, r .sized)
@@ -38,7 +38,7 @@ entry-lies g c i at n f q l e = (omega (arith, f .long, in-card g (entry i) (ome
 -- ---- one turn more
 
 module _ (g : Geometry) (p : Plan) (ns : List ℕ) (i at : ℕ) (x : Entry) (left a r : ℕ) (xs ys zs ch : List ℕ) (e : at ≡ getD (p .entries) i 0)
-    (q : x ≡ entryOf 0x83 (getD ns i 0) (previousOf (getD (p .previous) i 0)) (getD (p .blocks) i 0))
+    (q : x ≡ entryOf (logFlags 2 (overOf (getD (p .previous) i 0))) (getD ns i 0) (previousOf (getD (p .previous) i 0)) (getD (p .blocks) i 0))
   where
     pub block-turn : (h : ℕ) (bs : List ℕ)
         → Did card (eachBelow (plannedBlock g p h ns bs) i) ch left xs ys a → Did card (stepRuns g at x bs h i) ch a ys zs r

@@ -13,13 +13,13 @@ use Rattle.protocol.specs.declared.Entry.{Entry as Fields}
 use Rattle.protocol.specs.declared.Geometry.{Geometry}
 use Rattle.protocol.specs.Below.{eachBelow, around}
 use Rattle.protocol.specs.Layout.{goodGeometry, blockSize, slotPlace, entryPlace, blockPlace, cardLength}
-use Rattle.protocol.specs.Entry.{entryOf, switched}
+use Rattle.protocol.specs.Entry.{entryOf, logFlags, switched}
 use Rattle.protocol.specs.Store.{Run as Fenced, words, single, entryStore, slotStore, headStore, tailStore}
 use Rattle.protocol.specs.Commit.{numberOf, dataOf}
 use Rattle.protocol.proofs.Below.{below-or-above, around-below}
 use Rattle.protocol.proofs.Region.{block-ends, in-card, entry, slot, block, place-entry, place-slot, place-block}
 use Rattle.plan.specs.declared.Plan.{Plan}
-use Rattle.plan.specs.Planned.{previousOf}
+use Rattle.plan.specs.Planned.{previousOf, overOf}
 use Rattle.stores.specs.declared.Run.{Run}
 use Rattle.stores.specs.declared.Run.the-variants.{Words, Entry, Word}
 use Rattle.stores.specs.Told.{told, Placed}
@@ -46,7 +46,7 @@ module _ (g : Geometry) (es ps qs : List ℕ) (h : ℕ) (ns : List ℕ) (i part 
   at-words z e = e ∙ sym (rw (eq-eqb part 0 z))
 
   module _ (a : part ≡ 0 → ⊥) where
-    pub at-entry : part ≡ 1 → (x : Fields) → x ≡ entryOf 0x83 (getD ns i 0) (previousOf (getD ps i 0)) (getD qs i 0)
+    pub at-entry : part ≡ 1 → (x : Fields) → x ≡ entryOf (logFlags 2 (overOf (getD ps i 0))) (getD ns i 0) (previousOf (getD ps i 0)) (getD qs i 0)
         → r ≡ Entry (entryPlace g (getD es i 0)) x → r ≡ blockRun g (planBy es ps qs) h ns i part
     unfolding blockRun plannedEntry numberOf
     at-entry z x q e = e ∙ ap (λ (y : Fields). Entry (entryPlace g (getD es i 0)) y) q ∙ sym (rw (ne-eqb part 0 a, eq-eqb part 1 z))
@@ -61,7 +61,7 @@ module _ (g : Geometry) (es ps qs : List ℕ) (h : ℕ) (ns : List ℕ) (i part 
       at-head d e = e ∙ sym (rw (ne-eqb part 0 a, ne-eqb part 1 b, ne-eqb part 2 d))
 
 pub at-switch : (g : Geometry) (es ps qs ns : List ℕ) (i : ℕ) (r : Run) (x y : Fields)
-    → x ≡ entryOf 0x83 (getD ns i 0) (previousOf (getD ps i 0)) (getD qs i 0) → y ≡ switched x → r ≡ Entry (entryPlace g (getD es i 0)) y
+    → x ≡ entryOf (logFlags 2 (overOf (getD ps i 0))) (getD ns i 0) (previousOf (getD ps i 0)) (getD qs i 0) → y ≡ switched x → r ≡ Entry (entryPlace g (getD es i 0)) y
     → r ≡ switchRun g (planBy es ps qs) ns i
 unfolding switchRun plannedEntry numberOf
 at-switch g es ps qs ns i r x y p q e = e ∙ ap (λ (z : Fields). Entry (entryPlace g (getD es i 0)) z) (q ∙ ap switched p)

@@ -1,24 +1,24 @@
 -- A byte and the previous block that it stands for, where a slot lies, and the runs of one block and of all, put together under one credit.
 -- Assumes nothing.
-use Prim.Native.Nat.{ℕ, _+_, _*_, _/_, _^_, _≤_, _<_}
+use Prim.Native.Nat.{ℕ, _+_, _*_, _/_, _%_, _^_, _≤_, _<_}
 use mathlib.Core.List.{List, [], _∷_, _++_}
 use mathlib.Core.Bool.{true}
 use mathlib.Core.Path.{_≡_, sym, ap, _∙_}
 use native.Mathlib.Omega.{arith}
 use lib.ListN.{length}
-use borrow.Author.Tests.{lt-ltb, le-ltb}
+use borrow.Author.Tests.{eq-eqb, ne-eqb, lt-ltb, le-ltb}
 use Rattle.numbers.specs.Bytes.{part}
 use Rattle.protocol.specs.declared.Entry.{Entry}
 use Rattle.protocol.specs.declared.Geometry.{Geometry}
 use Rattle.protocol.specs.Below.{eachBelow, around}
-use Rattle.protocol.specs.Entry.{FRESH, entryBytes}
+use Rattle.protocol.specs.Entry.{FRESH, entryBytes, logFlags}
 use Rattle.protocol.specs.Layout.{goodGeometry, blockSize, slotPlace, entryPlace, blockPlace}
 use Rattle.protocol.specs.Store.{card, units, words, single, entryStore, wordStore, slotStore, headStore, tailStore}
 use Rattle.protocol.specs.Commit.{dataOf}
 use Rattle.protocol.proofs.Checks.{Limits, limits}
 use Rattle.protocol.proofs.Region.{in-card, block, place-block}
 use Rattle.plan.specs.declared.Plan.{Plan}
-use Rattle.plan.specs.Planned.{previousOf}
+use Rattle.plan.specs.Planned.{previousOf, overOf}
 use Rattle.ring.specs.Fitted.{Fitted}
 use Rattle.ring.proofs.Laws.{Room, room, fitted-long}
 use Rattle.stores.specs.declared.Run.{Run}
@@ -27,13 +27,22 @@ use Rattle.stores.specs.Did.{cardStore, unfenced, Did}
 use Rattle.stores.proofs.Laws.{did-then, did-same}
 use Rattle.commit.specs.Making.{stepRuns, plannedBlock, plannedSwitch, plannedRuns}
 
-pub byte-block : (x : ℕ) → x < 128 → x ≡ previousOf x
+pub byte-block : (x : ℕ) → x < 256 → x % 128 ≡ previousOf x
 unfolding previousOf
-byte-block x l = sym (rw (lt-ltb x 128 l))
+byte-block x l = sym (rw (lt-ltb x 256 l))
 
-pub byte-fresh : (x : ℕ) → 128 ≤ x → FRESH ≡ previousOf x
+pub byte-fresh : (x : ℕ) → 256 ≤ x → FRESH ≡ previousOf x
 unfolding previousOf
-byte-fresh x l = sym (rw (le-ltb x 128 l))
+byte-fresh x l = sym (rw (le-ltb x 256 l))
+
+-- the log entry's flag byte, over a modified entry or not
+pub over-flags : (x : ℕ) → x / 128 ≡ 1 → 0x87 ≡ logFlags 2 (overOf x)
+unfolding logFlags overOf
+over-flags x e = sym (rw (eq-eqb (x / 128) 1 e))
+
+pub other-flags : (x : ℕ) → (x / 128 ≡ 1 → ⊥) → 0x83 ≡ logFlags 2 (overOf x)
+unfolding logFlags overOf
+other-flags x h = sym (rw (ne-eqb (x / 128) 1 h))
 
 module _ (g : Geometry) (good : goodGeometry g ≡ true) where
   pub ring-slots : g .slots ≤ 256

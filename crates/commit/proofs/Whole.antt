@@ -8,15 +8,15 @@ use native.Mathlib.Nat.{mul-le-mul}
 use native.Mathlib.Omega.{arith}
 use lib.ListN.{length, getD}
 use lib.Dec.{ltb, leb}
-use borrow.Author.Tests.{ltb-true, leb-true, le-leb}
+use borrow.Author.Tests.{eqb-true, ltb-true, leb-true, le-leb}
 use Rattle.protocol.specs.declared.Answer.{Answer}
 use Rattle.protocol.specs.declared.Answer.the-variants.{Done, Cut, Refused}
 use Rattle.protocol.specs.declared.Geometry.{Geometry}
 use Rattle.protocol.specs.declared.Map.{Map}
 use Rattle.protocol.specs.declared.Stored.{Stored}
 use Rattle.protocol.specs.Below.{around}
-use Rattle.protocol.specs.Layout.{geometryOf, blockSize}
-use Rattle.protocol.specs.Entry.{entryOf, switched}
+use Rattle.protocol.specs.Layout.{geometryOf, versionOf, blockSize}
+use Rattle.protocol.specs.Entry.{entryOf, logFlags, switched}
 use Rattle.protocol.specs.Ring.{headOf}
 use Rattle.protocol.specs.Check.{refuse, fitRefusal, cardRefusal, choiceFits}
 use Rattle.protocol.specs.Store.{card, single, entryStore, tailStore, storesOf}
@@ -24,6 +24,7 @@ use Rattle.protocol.specs.Map.{mapBy, isMarked, mapOf, sameMap, mapRefusal, han
 use Rattle.protocol.specs.Commit.{numberOf, entryFound, logEntry, headAfter, blockRuns, switchRuns, commitRuns, commitRefusal, commitWork, numberFits, numbersFit, roomFor}
 use Rattle.protocol.proofs.Below.{all-at, and-left}
 use Rattle.protocol.proofs.Checks.{Limits, limits, orElse-none, refuse-none}
+use Rattle.protocol.proofs.Holds.{between-one, fit-header, header-version}
 use Rattle.protocol.proofs.Left.{commit-map}
 use Rattle.ring.specs.Fitted.{Fitted}
 use Rattle.checks.specs.Keys.{keyAt}
@@ -42,10 +43,11 @@ use Rattle.commit.proofs.Places.{each-same}
 
 -- ---- the plan's runs are the definition's
 
-module _ (g : Geometry) (c ns bs es ps qs : List ℕ) (m : Map) (x : Planned g c ns es ps qs m) where
+module _ (g : Geometry) (c ns bs es ps qs : List ℕ) (m : Map) (two : versionOf c ≡ 2) (x : Planned g c ns es ps qs m) where
   entry-same : (i : ℕ) → i < length ns → plannedEntry (planBy es ps qs) ns i ≡ logEntry g c ns i
   unfolding plannedEntry logEntry keyAt
-  entry-same i l = λ t. entryOf 0x83 (numberOf ns i) (x .previous i l t) (x .blocks i l t)
+  entry-same i l = λ t.
+      entryOf (logFlags (sym two t) (x .replaced .over i l t)) (numberOf ns i) (x .replaced .previous i l t) (x .blocks i l t)
 
   place-same : (i : ℕ) → i < length ns → getD es i 0 ≡ entryFound g c ns i
   unfolding keyAt
@@ -68,25 +70,28 @@ module _ (g : Geometry) (c ns bs es ps qs : List ℕ) (m : Map) (x : Planned g c
 
 -- ---- what the checks have passed
 
+fit-two : (c : List ℕ) → fitRefusal 2 2 c ≡ 0 → versionOf c ≡ 2
+fit-two c z = eqb-true _ _ (sym (between-one 2 (versionOf c)) ∙ header-version c 2 2 (fit-header c 2 2 z))
+
 -- the map that a commit gets is the card's
-own-map : (c : List ℕ) (m : Map) (ns bs ch : List ℕ) → commitRefusal c m ns bs ch ≡ 0 → m ≡ mapBy (isMarked (geometryOf c) c)
+own-map : (c : List ℕ) (m : Map) (ns bs ch : List ℕ) → commitRefusal 2 c m ns bs ch ≡ 0 → m ≡ mapBy (isMarked (geometryOf c) c)
 unfolding commitRefusal mapRefusal mapOf
 own-map c m ns bs ch z =
-    let rest = orElse-none (cardRefusal (geometryOf c) c) _ (orElse-none (fitRefusal c) _ z .1) .1 in
+    let rest = orElse-none (cardRefusal (geometryOf c) c) _ (orElse-none (fitRefusal 2 2 c) _ z .1) .1 in
     map-eq _ _ (refuse-none 15 _ (omega arith) (orElse-none (refuse 15 (sameMap m (mapBy (isMarked (geometryOf c) c)))) _ rest .0))
 
 module _ (c : List ℕ) (m : Map) (ns bs ch xs : List ℕ) (s : Admitted) (room : ℕ) (k : room ≡ choiceRoom ch)
     (x : Admission c m ns (length bs) room xs s) where
-  refusal-is : s .refusal ≡ commitRefusal c m ns bs ch
+  refusal-is : s .refusal ≡ commitRefusal 2 c m ns bs ch
   refusal-is = x .refusal-is bs ch refl (sym k)
 
   pub commit-refused : (a : ℕ) (r : Stored) → (s .refusal ≡ 0 → ⊥)
       → (r .answer ≡ Refused (s .refusal)) × (r .map ≡ handedOn (Refused (s .refusal)) m m) → Committed c m ns bs ch a r c
   unfolding commitWork handedOn
   commit-refused a r h e = record {
-    answers = e .0 ∙ refused-answer (commitWork c m ns bs ch) a (s .refusal) refusal-is h;
-    hands = e .1 ∙ refused-map (commitWork c m ns bs ch) a (s .refusal) c m refusal-is h;
-    leaves = refused-after (commitWork c m ns bs ch) a card (s .refusal) c refusal-is h;
+    answers = e .0 ∙ refused-answer (commitWork 2 c m ns bs ch) a (s .refusal) refusal-is h;
+    hands = e .1 ∙ refused-map (commitWork 2 c m ns bs ch) a (s .refusal) c m refusal-is h;
+    leaves = refused-after (commitWork 2 c m ns bs ch) a card (s .refusal) c refusal-is h;
   }
 
   module _ (z : s .refusal ≡ 0) where
@@ -172,7 +177,7 @@ module _ (g : Geometry) (c : List ℕ) (h : ℕ) (m : Map) (ns bs ch zs ps : Lis
     pub save-made : (a n k r : ℕ) (d : List ℕ) (w : Answer) (t : Stored) → n ≡ length ns * (blockSize g / 8 + 4) + 1 → k ≡ min n a + 1
         → Did card (plannedRuns g (planBy es ps qs) h ns bs) ch k c d r → w ≡ cond (ltb a n) Cut (Done n)
         → (t .answer ≡ w) × (t .map ≡ handedOn w m u) → Saved c m ns bs ch a t d es
-    unfolding commitWork storesOf
+    unfolding commitWork commitRefusal storesOf
     save-made a n k r d w t b f made j o =
         let g₀ = geometryOf c in
         let p = own-plan in
@@ -180,15 +185,15 @@ module _ (g : Geometry) (c : List ℕ) (h : ℕ) (m : Map) (ns bs ch zs ps : Lis
         let q = v .head in
         let z = v .passes in
         let count = b ∙ ap (λ (y : Geometry). length ns * (blockSize y / 8 + 4) + 1) e ∙ sym (runs-count g₀ c ns bs) in
-        let answered = made-answer (commitWork c m ns bs ch) a 0 (sym z) refl n w count j in
+        let answered = made-answer (commitWork 2 c m ns bs ch) a 0 (sym z) refl n w count j in
         let left = p .map-is ∙ sym (commit-map c m ns bs ch z) in
         record {
           committed = record {
             answers = o .0 ∙ answered;
-            hands = o .1 ∙ made-map (commitWork c m ns bs ch) a 0 (sym z) refl w c m u answered left;
+            hands = o .1 ∙ made-map (commitWork 2 c m ns bs ch) a 0 (sym z) refl w c m u answered left;
             leaves =
-                made-after (commitWork c m ns bs ch) a 0 (sym z) refl f (omega (arith, count))
-                (did-same ((λ i. plannedRuns (e i) (planBy es ps qs) (q i) ns bs) ∙ runs-same g₀ c ns bs es ps qs u p) made);
+                made-after (commitWork 2 c m ns bs ch) a 0 (sym z) refl f (omega (arith, count))
+                (did-same ((λ i. plannedRuns (e i) (planBy es ps qs) (q i) ns bs) ∙ runs-same g₀ c ns bs es ps qs u (fit-two c (orElse-none (fitRefusal 2 2 c) _ z .0)) p) made);
           };
           entries = p .entries;
         }

@@ -10,13 +10,13 @@ use Rattle.protocol.specs.declared.Entry.{Entry as Fields}
 use Rattle.protocol.specs.declared.Geometry.{Geometry}
 use Rattle.protocol.specs.Below.{eachBelow, around}
 use Rattle.protocol.specs.Layout.{blockSize, slotPlace, entryPlace, blockPlace}
-use Rattle.protocol.specs.Entry.{entryOf, switched}
+use Rattle.protocol.specs.Entry.{entryOf, logFlags, switched}
 use Rattle.protocol.specs.Store.{Run as Fenced, words, entryStore, slotStore, headStore, tailStore, single}
 use Rattle.protocol.specs.Commit.{numberOf, dataOf}
 use Rattle.stores.specs.declared.Run.{Run}
 use Rattle.stores.specs.declared.Run.the-variants.{Words, Entry, Word}
 use Rattle.plan.specs.declared.Plan.{Plan}
-use Rattle.plan.specs.Planned.{previousOf}
+use Rattle.plan.specs.Planned.{previousOf, overOf}
 
 -- a plan of these rows
 abbrev pub planBy : List ℕ → List ℕ → List ℕ → Plan
@@ -24,7 +24,7 @@ planBy es ps qs = record { entries = es; previous = ps; blocks = qs }
 
 -- the log entry of block i
 unfoldable pub plannedEntry : Plan → List ℕ → ℕ → Fields
-plannedEntry p ns i = entryOf 0x83 (numberOf ns i) (previousOf (getD (p .previous) i 0)) (getD (p .blocks) i 0)
+plannedEntry p ns i = entryOf (logFlags 2 (overOf (getD (p .previous) i 0))) (numberOf ns i) (previousOf (getD (p .previous) i 0)) (getD (p .blocks) i 0)
 
 -- block i with the entry e at the place `at`: its words, its entry, its number into the slot at Head, Head forward; h is Head at entry
 unfoldable pub stepRuns : Geometry → ℕ → Fields → List ℕ → ℕ → ℕ → List Fenced

@@ -13,11 +13,11 @@ ghost use Prim.Native.Nat.{ℕ, _+_, _*_, _/_, _≤_, _<_};
 ghost use lib.ListN.{length, getD};
 ghost use Rattle.protocol.specs.Below.{eachBelow, around};
 ghost use Rattle.protocol.specs.Layout.{goodGeometry, blockSize, slotPlace, entryPlace, blockPlace};
-ghost use Rattle.protocol.specs.Entry.{entryOf, switched};
+ghost use Rattle.protocol.specs.Entry.{entryOf, logFlags, switched};
 ghost use Rattle.protocol.specs.Store.{Medium, single, slotStore, headStore};
 ghost use Rattle.ring.specs.Fitted.{Fitted};
 ghost use Rattle.stores.specs.Did.{Did};
-ghost use Rattle.plan.specs.Planned.{previousOf};
+ghost use Rattle.plan.specs.Planned.{previousOf, overOf};
 ghost use Rattle.commit.specs.Making.{stepRuns, planBy, plannedBlock, plannedSwitch, plannedRuns, blockRun, switchRun, runAt, Named, Ready};
 ghost use Rattle.commit.specs.Committed.{Committed, Savable, Saved};
 
@@ -27,34 +27,41 @@ fn wide(x: u8) -> usize
     x as usize
 }
 
-// The previous block that a plan's byte stands for.
-fn previous_of(x: u8) -> u32
+// The previous block that a plan's number stands for.
+fn previous_of(x: u16) -> u32
     ensures { λ r. ⌜ r ≡ previousOf x ⌝ }
 {
-    if x < 128 { x as u32 } else { FRESH }
+    if x < 256 { (x % 128) as u32 } else { FRESH }
+}
+
+// The log entry's flag byte: with P where the version before is modified.
+fn log_flags(x: u16) -> u8
+    ensures { λ r. ⌜ r ≡ logFlags 2 (overOf x) ⌝ }
+{
+    if x / 128 == 1 { 0x87 } else { 0x83 }
 }
 
 // The entry of a block that is being saved, with the log role. Of the number the compiler is told that it has no high bytes.
-fn log_entry(number: u64, previous: u8, block: u8) -> Entry
+fn log_entry(number: u64, previous: u16, block: u8) -> Entry
     requires { ⌜ number < 4294967296 ⌝ }
-    ensures { λ r. ⌜ r ≡ entryOf 0x83 number (previousOf previous) block ⌝ }
+    ensures { λ r. ⌜ r ≡ entryOf (logFlags 2 (overOf previous)) number (previousOf previous) block ⌝ }
 {
     let low = number as u32;
     let before = previous_of(previous);
     Entry {
-        flags: 0x83,
+        flags: log_flags(previous),
         number: low as u64,
         previous: before,
         current: block as u32,
     }
 }
 
-// The role switch: flag 82 and nothing else changed. The previous block stays named, since a cut before Tail moves must find it.
+// The role switch: R cleared and nothing else changed. The previous block stays named, since a cut before Tail moves must find it.
 fn switch_role(e: Entry) -> Entry
     ensures { λ r. ⌜ r ≡ switched e ⌝ }
 {
     Entry {
-        flags: 0x82,
+        flags: e.flags / 2 * 2,
         number: e.number,
         previous: e.previous,
         current: e.current,
@@ -100,7 +107,7 @@ fn ring_run(g: Geometry, at: usize, head: u64, n: usize) -> Run
 fn block_run(
     g: Geometry,
     entries: &[u8; 128],
-    previous: &[u8; 128],
+    previous: &[u16; 128],
     blocks: &[u8; 128],
     numbers: &[u64],
     head: u64,
@@ -123,11 +130,11 @@ fn block_run(
     ring_run(g, 64, head, i + 1)
 }
 
-// The role switch of block i: its entry again, with flag 82.
+// The role switch of block i: its entry again, without R.
 fn switch_run(
     g: Geometry,
     entries: &[u8; 128],
-    previous: &[u8; 128],
+    previous: &[u16; 128],
     blocks: &[u8; 128],
     numbers: &[u64],
     i: usize,
@@ -144,7 +151,7 @@ fn switch_run(
 pub fn run_at(
     g: Geometry,
     entries: &[u8; 128],
-    previous: &[u8; 128],
+    previous: &[u16; 128],
     blocks: &[u8; 128],
     numbers: &[u64],
     head: u64,
@@ -203,7 +210,7 @@ fn make_blocks(
     g: Geometry,
     card: &mut [u8],
     entries: &[u8; 128],
-    previous: &[u8; 128],
+    previous: &[u16; 128],
     blocks: &[u8; 128],
     numbers: &[u64],
     data: &[u8],
@@ -225,12 +232,12 @@ fn make_blocks(
     a
 }
 
-// The role switches: each entry again, with flag 82.
+// The role switches: each entry again, without R.
 fn make_switches(
     g: Geometry,
     card: &mut [u8],
     entries: &[u8; 128],
-    previous: &[u8; 128],
+    previous: &[u16; 128],
     blocks: &[u8; 128],
     numbers: &[u64],
     left: u64,
@@ -255,7 +262,7 @@ fn make_list(
     g: Geometry,
     card: &mut [u8],
     entries: &[u8; 128],
-    previous: &[u8; 128],
+    previous: &[u16; 128],
     blocks: &[u8; 128],
     numbers: &[u64],
     data: &[u8],
@@ -292,7 +299,7 @@ pub fn save(
     numbers: &[u64],
     data: &[u8],
     entries: &mut [u8; 128],
-    previous: &[u8; 128],
+    previous: &[u16; 128],
     choice: &[u8],
     allowance: u64,
 ) -> Stored
@@ -344,7 +351,7 @@ pub fn commit(
     }
     let g = s.geometry;
     let mut entries = [0u8; 128];
-    let mut previous = [0u8; 128];
+    let mut previous = [0u16; 128];
     plan::find_homes(g, card, &index, numbers, &mut entries, &mut previous);
     save(
         g,

@@ -5,20 +5,19 @@ use mathlib.Core.Bool.{Bool, true, false, cond, not, _&&_, _||_}
 use mathlib.Core.Logic.{⊎-elim}
 use mathlib.Core.Path.{_≡_, refl, sym, ap, _∙_}
 use native.Mathlib.Omega.{arith}
-use lib.ListN.{length, getD}
+use lib.ListN.{length}
 use lib.Dec.{eqb, ltb}
 use borrow.Author.Tests.{lt-ltb, le-ltb, eq-eqb, ne-eqb, eqb-true, not-true, not-false}
 use Rattle.numbers.specs.Bytes.{numberAt}
 use Rattle.protocol.specs.declared.Geometry.{Geometry}
 use Rattle.protocol.specs.declared.Entry.{Entry}
 use Rattle.protocol.specs.Below.{allBelow, firstBelow}
-use Rattle.protocol.specs.Layout.{goodK, goodSlots, goodBlocks, goodDisk, goodGeometry, geometryOf, zeroFrom, goodHeader, cardLength}
+use Rattle.protocol.specs.Layout.{between, goodK, goodSlots, goodBlocks, goodDisk, goodGeometry, geometryOf, versionOf, zeroFrom, goodHeader, cardLength}
 use Rattle.protocol.specs.Entry.{entryAt, allowedFlags, isUnused, goodEntry}
 use Rattle.protocol.specs.Ring.{headOf, tailOf, windowOf, usedAt}
 use Rattle.protocol.specs.Check.{refuse, _orElse_, headerFits, cardFits, windowNumberFits, ringFits, goodEntryAt, entriesFit}
 use Rattle.protocol.specs.Check.{alike, apart, apartBefore, entriesApart, fitRefusal, damageRefusal}
-use Rattle.protocol.specs.Map.{makeRefusal}
-use Rattle.protocol.proofs.Below.{absurd-bool, either, below-or-above, same-or-other, and-right, all-at, all-of}
+use Rattle.protocol.proofs.Below.{absurd-bool, either, below-or-above, same-or-other, and-right, and-fails, all-at, all-of}
 use Rattle.protocol.proofs.Below.{first-none, first-found, first-missed}
 use Rattle.protocol.proofs.Checks.{orElse-first, orElse-next}
 use Rattle.survey.proofs.Laws.{pick-true, pick-false}
@@ -99,13 +98,13 @@ geometry-refusal g = go (goodK (g .k)) (goodSlots (g .slots)) (goodBlocks (g .bl
     go true true true false = refl
     go true true true true = refl
 
-pub header-refusal : (c : List ℕ) → refusalOf (headerFault c) ≡ refuse 1 (headerFits c)
+pub header-refusal : (low high : ℕ) (c : List ℕ) → refusalOf (headerFault low high c) ≡ refuse 1 (headerFits low high c)
 unfolding headerFault headerFits goodHeader refusalOf refuse _orElse_
-header-refusal c =
+header-refusal low high c =
     let z : Bool = allBelow (zeroFrom c 16) 48 in
     let g : Geometry = geometryOf c in
     let rest = refusal-next (geometryFault g) (cond z Sound Reserved) _ _ (geometry-refusal g) (refusal-unless z Reserved 1 unit) in
-    go (ltb (length c) 128) (eqb (numberAt c 0 4) 64) (eqb (getD c 4 0) 1) (goodGeometry (geometryOf c)) z _ rest
+    go (ltb (length c) 128) (eqb (numberAt c 0 4) 64) (between low high (versionOf c)) (goodGeometry (geometryOf c)) z _ rest
   where
     unit : refusalOf Reserved ≡ 1
     unit = refl
@@ -118,10 +117,10 @@ header-refusal c =
     go false true true true z f e = e
     go false true true false z f e = e
 
-pub fit-refusal : (c : List ℕ) → refusalOf (fitFault c) ≡ fitRefusal c
+pub fit-refusal : (low high : ℕ) (c : List ℕ) → refusalOf (fitFault low high c) ≡ fitRefusal low high c
 unfolding fitFault fitRefusal lengthFault refusalOf
-fit-refusal c =
-    refusal-next (headerFault c) (lengthFault (geometryOf c) c) _ _ (header-refusal c)
+fit-refusal low high c =
+    refusal-next (headerFault low high c) (lengthFault (geometryOf c) c) _ _ (header-refusal low high c)
     (refusal-unless (cardFits (geometryOf c) c) (Length (cardLength (geometryOf c))) 2 refl)
 
 -- ---- 4 to 6
@@ -137,14 +136,14 @@ module _ (g : Geometry) (c : List ℕ) where
       go true false a f e = refl
       go true true a f e = e
 
-entry-of-refusal : (n d i : ℕ) (e : Entry) → refusalOf (entryFaultOf n d i e) ≡ refuse 5 (goodEntry n d e)
+entry-of-refusal : (v n d i : ℕ) (e : Entry) → refusalOf (entryFaultOf v n d i e) ≡ refuse 5 (goodEntry v n d e)
 unfolding entryFaultOf goodEntry goodPrevious allowedFlags refusalOf refuse
-entry-of-refusal n d i e =
-    go (isUnused e) (eqb (e .flags) 0) (allowedFlags (e .flags)) (ltb (e .number) d) (goodPrevious n (e .previous)) (ltb (e .current) n)
+entry-of-refusal v n d i e =
+    go (isUnused e) (eqb (e .flags) 0) (allowedFlags v (e .flags)) (ltb (e .number) d) (goodPrevious n (e .previous)) (ltb (e .current) n)
     zero-flags
   where
-    zero-flags : eqb (e .flags) 0 ≡ true → allowedFlags (e .flags) ≡ false
-    zero-flags h = ap allowedFlags (eqb-true (e .flags) 0 h)
+    zero-flags : eqb (e .flags) 0 ≡ true → allowedFlags v (e .flags) ≡ false
+    zero-flags h = ap (allowedFlags v) (eqb-true (e .flags) 0 h) ∙ and-fails (eqb v 2) false refl
 
     go : (u z f b p q : Bool) → (z ≡ true → f ≡ false)
         → refusalOf
@@ -177,9 +176,9 @@ module _ (g : Geometry) (c : List ℕ) where
   unfolding entryFault entriesFit firstBad goodEntryAt refuse
   entry-refusal =
       refusal-first (goodEntryAt g c) (g .blocks) 5 _
-      (λ e. entry-of-refusal (g .blocks) (g .disk) _ _ ∙ failed (firstBad g c) (first-fails (goodEntryAt g c) (g .blocks) e))
+      (λ e. entry-of-refusal (versionOf c) (g .blocks) (g .disk) _ _ ∙ failed (firstBad g c) (first-fails (goodEntryAt g c) (g .blocks) e))
     where
-      failed : (i : ℕ) → goodEntryAt g c i ≡ false → refuse 5 (goodEntry (g .blocks) (g .disk) (entryAt g c i)) ≡ 5
+      failed : (i : ℕ) → goodEntryAt g c i ≡ false → refuse 5 (goodEntry (versionOf c) (g .blocks) (g .disk) (entryAt g c i)) ≡ 5
       failed i h = ap (refuse 5) h
 
   pub pair-refusal : refusalOf (pairFault g c) ≡ refuse 6 (entriesApart g c)
@@ -195,7 +194,8 @@ module _ (g : Geometry) (c : List ℕ) where
       refusal-next (ringFault g c) (entryFault g c orNext pairFault g c) _ _ (ring-refusal g c)
       (refusal-next (entryFault g c) (pairFault g c) _ _ entry-refusal pair-refusal)
 
--- the fault that is named has the number of the card's refusal
-pub fault-refusal : (c : List ℕ) → refusalOf (faultOf c) ≡ makeRefusal c
-unfolding faultOf makeRefusal
-fault-refusal c = refusal-next (fitFault c) (damageFault (geometryOf c) c) _ _ (fit-refusal c) (damage-refusal (geometryOf c) c)
+-- the fault that is named has the number of the card's refusal, whatever versions the call takes
+pub fault-refusal : (low high : ℕ) (c : List ℕ) → refusalOf (faultOf low high c) ≡ fitRefusal low high c orElse damageRefusal (geometryOf c) c
+unfolding faultOf
+fault-refusal low high c =
+    refusal-next (fitFault low high c) (damageFault (geometryOf c) c) _ _ (fit-refusal low high c) (damage-refusal (geometryOf c) c)

@@ -4,15 +4,15 @@ use mathlib.Core.List.{List}
 use mathlib.Core.Bool.{Bool, true, false, cond, not, _&&_, _||_}
 use mathlib.Core.Path.{_≡_, refl, sym, ap, _∙_, subst}
 use native.Mathlib.Omega.{arith}
-use lib.ListN.{length, getD}
-use lib.Dec.{eqb, ltb}
+use lib.ListN.{length}
+use lib.Dec.{eqb, ltb, leb}
 use borrow.Author.Tests.{lt-ltb, le-ltb, ltb-true, eq-eqb, ne-eqb, not-true, not-false}
 use Rattle.numbers.specs.Bytes.{numberAt}
 use Rattle.numbers.specs.Post.{Number}
 use Rattle.protocol.specs.declared.Geometry.{Geometry}
 use Rattle.protocol.specs.declared.Entry.{Entry}
 use Rattle.protocol.specs.Below.{allBelow, anyBelow, firstBelow, around}
-use Rattle.protocol.specs.Layout.{goodK, goodSlots, goodBlocks, goodDisk, goodGeometry, geometryOf, zeroFrom, goodHeader, cardLength}
+use Rattle.protocol.specs.Layout.{between, goodK, goodSlots, goodBlocks, goodDisk, goodGeometry, geometryOf, versionOf, zeroFrom, goodHeader, cardLength}
 use Rattle.protocol.specs.Entry.{entryAt, inUse, allowedFlags, isUnused, goodEntry}
 use Rattle.protocol.specs.Ring.{headOf, tailOf, windowOf, windowNumber, usedAt, undoableAt, settledBlock}
 use Rattle.protocol.specs.Check.{refuse, _orElse_, headerFits, cardFits, windowNumberFits, ringFits, goodEntryAt, entriesFit}
@@ -117,34 +117,42 @@ module _ (g : Geometry) (k : Bool) (ek : k ≡ goodK (g .k)) where
         pub limit-none : not d ≡ false → Sound ≡ geometryFault g
         limit-none h = limit-rest Sound (on-not _ _ _ _ d ed h refl)
 
-pub header-under : (c : List ℕ) → length c < 128 → Short ≡ headerFault c
+pub header-under : (low high : ℕ) (c : List ℕ) → length c < 128 → Short ≡ headerFault low high c
 unfolding headerFault
-header-under c h = pick-true (ltb (length c) 128) _ _ (lt-ltb _ _ h)
+header-under low high c h = pick-true (ltb (length c) 128) _ _ (lt-ltb _ _ h)
 
-module _ (c : List ℕ) (r : ℕ) (long : 128 ≤ length c) (n : Number c 0 4 r) where
-  pub header-length : (r ≡ 64 → ⊥) → HeaderLength ≡ headerFault c
+module _ (low high : ℕ) (c : List ℕ) (r : ℕ) (long : 128 ≤ length c) (n : Number c 0 4 r) where
+  pub header-length : (r ≡ 64 → ⊥) → HeaderLength ≡ headerFault low high c
   unfolding headerFault
   header-length h =
       pick-false (eqb (numberAt c 0 4) 64) _ _ (ne-eqb _ _ (λ z. h (n .value ∙ z))) ∙ pick-false (ltb (length c) 128) _ _ (le-ltb _ _ long)
 
-  module _ (sixty : r ≡ 64) where
+  -- v is the version that was read
+  module _ (sixty : r ≡ 64) (v : ℕ) (version : v ≡ versionOf c) where
     length-told : eqb (numberAt c 0 4) 64 ≡ true
     length-told = eq-eqb _ _ (sym (n .value) ∙ sixty)
 
-    pub header-version : (getD c 4 0 ≡ 1 → ⊥) → Version ≡ headerFault c
+    version-told : (b : Bool) → leb low v && leb v high ≡ b → between low high (versionOf c) ≡ b
+    unfolding between
+    version-told b h = ap (λ (x : ℕ). leb low x && leb x high) (sym version) ∙ h
+
+    pub header-version : not (leb low v && leb v high) ≡ true → Version ≡ headerFault low high c
     unfolding headerFault
     header-version h =
-        pick-false (eqb (getD c 4 0) 1) _ _ (ne-eqb _ _ h)
+        pick-false (between low high (versionOf c)) _ _ (version-told false (not-true _ h))
         ∙ pick-true (eqb (numberAt c 0 4) 64) _ _ length-told
         ∙ pick-false (ltb (length c) 128) _ _ (le-ltb _ _ long)
 
-    module _ (one : getD c 4 0 ≡ 1) (g : Geometry) (q : g ≡ geometryOf c) (ok : Bool) (good : ok ≡ goodGeometry g) where
+    module _ (taken : not (leb low v && leb v high) ≡ false) (g : Geometry) (q : g ≡ geometryOf c) (ok : Bool) (good : ok ≡ goodGeometry g) where
+      taken-told : between low high (versionOf c) ≡ true
+      taken-told = version-told true (not-false _ taken)
+
       header-past : (f : Fault) → f ≡ geometryFault (geometryOf c) orNext cond (allBelow (zeroFrom c 16) 48) Sound Reserved
-          → f ≡ headerFault c
+          → f ≡ headerFault low high c
       unfolding headerFault
       header-past f e =
           e
-          ∙ pick-true (eqb (getD c 4 0) 1) _ _ (eq-eqb _ _ one)
+          ∙ pick-true (between low high (versionOf c)) _ _ taken-told
           ∙ pick-true (eqb (numberAt c 0 4) 64) _ _ length-told
           ∙ pick-false (ltb (length c) 128) _ _ (le-ltb _ _ long)
 
@@ -154,32 +162,32 @@ module _ (c : List ℕ) (r : ℕ) (long : 128 ≤ length c) (n : Number c 0 4 r)
       limits-refusal : (b : Bool) → ok ≡ b → refusalOf (geometryFault (geometryOf c)) ≡ refuse 1 b
       limits-refusal b h = geometry-refusal (geometryOf c) ∙ ap (refuse 1) (good-is b h)
 
-      pub header-limits : (f : Fault) → not ok ≡ true → f ≡ geometryFault g → f ≡ headerFault c
+      pub header-limits : (f : Fault) → not ok ≡ true → f ≡ geometryFault g → f ≡ headerFault low high c
       unfolding refuse
       header-limits f h p =
           let o : refusalOf (geometryFault (geometryOf c)) ≡ 1 = limits-refusal false (not-true ok h) in
           header-past f (p ∙ ap geometryFault q ∙ next-first (geometryFault (geometryOf c)) _ (λ z. omega arith))
 
-      module _ (yes : not ok ≡ false) (fit : Bool) (fits : fit ≡ headerFits c) where
-        rest-is : headerFits c ≡ allBelow (zeroFrom c 16) 48
+      module _ (yes : not ok ≡ false) (fit : Bool) (fits : fit ≡ headerFits low high c) where
+        rest-is : headerFits low high c ≡ allBelow (zeroFrom c 16) 48
         unfolding headerFits goodHeader
         rest-is =
             let a : ltb (length c) 128 ≡ false = le-ltb _ _ long in
-            let v : eqb (getD c 4 0) 1 ≡ true = eq-eqb _ _ one in
             let l : eqb (numberAt c 0 4) 64 ≡ true = length-told in
+            let t : between low high (versionOf c) ≡ true = taken-told in
             let k : goodGeometry (geometryOf c) ≡ true = good-is true (not-false ok yes) in
-            rw (a, l, v, k)
+            rw (a, l, t, k)
 
-        header-rest : (f : Fault) → f ≡ cond (allBelow (zeroFrom c 16) 48) Sound Reserved → f ≡ headerFault c
+        header-rest : (f : Fault) → f ≡ cond (allBelow (zeroFrom c 16) 48) Sound Reserved → f ≡ headerFault low high c
         unfolding refuse
         header-rest f p =
             let o : refusalOf (geometryFault (geometryOf c)) ≡ 0 = limits-refusal true (not-false ok yes) in
             header-past f (p ∙ next-on (geometryFault (geometryOf c)) _ o)
 
-        pub header-sound : fit ≡ true → Sound ≡ headerFault c
+        pub header-sound : fit ≡ true → Sound ≡ headerFault low high c
         header-sound h = header-rest Sound (pick-true (allBelow (zeroFrom c 16) 48) _ _ (sym rest-is ∙ sym fits ∙ h))
 
-        pub header-reserved : fit ≡ false → Reserved ≡ headerFault c
+        pub header-reserved : fit ≡ false → Reserved ≡ headerFault low high c
         header-reserved h = header-rest Reserved (pick-false (allBelow (zeroFrom c 16) 48) _ _ (sym rest-is ∙ sym fits ∙ h))
 
 -- ---- 4
@@ -221,18 +229,18 @@ module _ (g : Geometry) (c : List ℕ) (h : ℕ) (eh : h ≡ headOf c) where
 
 -- ---- 5
 
-module _ (n d i : ℕ) (e : Entry) (u : Bool) (eu : u ≡ isUnused e) where
-  pub entry-unused : u ≡ true → Sound ≡ entryFaultOf n d i e
+module _ (v n d i : ℕ) (e : Entry) (u : Bool) (eu : u ≡ isUnused e) where
+  pub entry-unused : u ≡ true → Sound ≡ entryFaultOf v n d i e
   unfolding entryFaultOf
   entry-unused h = on-yes _ _ _ _ u eu h refl
 
   module _ (hu : u ≡ false) where
-    pub entry-not-zero : e .flags ≡ 0 → NotZero i ≡ entryFaultOf n d i e
+    pub entry-not-zero : e .flags ≡ 0 → NotZero i ≡ entryFaultOf v n d i e
     unfolding entryFaultOf
     entry-not-zero h = off-no _ _ _ _ u eu hu (on-eq _ _ _ (e .flags) 0 h refl)
 
-    module _ (a : Bool) (z : e .flags ≡ 0 → ⊥) (ea : a ≡ allowedFlags (e .flags)) where
-      pub entry-flags : not a ≡ true → Flags i ≡ entryFaultOf n d i e
+    module _ (a : Bool) (z : e .flags ≡ 0 → ⊥) (ea : a ≡ allowedFlags v (e .flags)) where
+      pub entry-flags : not a ≡ true → Flags i ≡ entryFaultOf v n d i e
       unfolding entryFaultOf
       entry-flags h = off-no _ _ _ _ u eu hu (off-eq _ _ _ (e .flags) 0 z (off-not _ _ _ _ a ea h refl))
 
@@ -240,36 +248,36 @@ module _ (n d i : ℕ) (e : Entry) (u : Bool) (eu : u ≡ isUnused e) where
         flags-past : (f : Fault)
             → f ≡ cond (ltb (e .number) d) (cond (goodPrevious n (e .previous)) (cond (ltb (e .current) n) Sound (Current i)) (Previous i))
             (NumberFault i)
-            → f ≡ entryFaultOf n d i e
+            → f ≡ entryFaultOf v n d i e
         unfolding entryFaultOf
         flags-past f p = off-no _ _ _ _ u eu hu (off-eq _ _ _ (e .flags) 0 z (on-not _ _ _ _ a ea ha p))
 
-        pub entry-number : d ≤ e .number → NumberFault i ≡ entryFaultOf n d i e
+        pub entry-number : d ≤ e .number → NumberFault i ≡ entryFaultOf v n d i e
         entry-number h = flags-past (NumberFault i) (off-lt _ _ _ (e .number) d h refl)
 
         module _ (p : Bool) (l : e .number < d) (ep : p ≡ goodPrevious n (e .previous)) where
-          pub entry-previous : not p ≡ true → Previous i ≡ entryFaultOf n d i e
+          pub entry-previous : not p ≡ true → Previous i ≡ entryFaultOf v n d i e
           entry-previous h = flags-past (Previous i) (on-lt _ _ _ (e .number) d l (off-not _ _ _ _ p ep h refl))
 
           module _ (hp : not p ≡ false) (q : Bool) (eq : q ≡ ltb (e .current) n) where
-            pub entry-current : not q ≡ true → Current i ≡ entryFaultOf n d i e
+            pub entry-current : not q ≡ true → Current i ≡ entryFaultOf v n d i e
             entry-current h = flags-past (Current i) (on-lt _ _ _ (e .number) d l (on-not _ _ _ _ p ep hp (off-not _ _ _ _ q eq h refl)))
 
-            pub entry-fine : not q ≡ false → Sound ≡ entryFaultOf n d i e
+            pub entry-fine : not q ≡ false → Sound ≡ entryFaultOf v n d i e
             entry-fine h = flags-past Sound (on-lt _ _ _ (e .number) d l (on-not _ _ _ _ p ep hp (on-not _ _ _ _ q eq h refl)))
 
 module _ (g : Geometry) (c : List ℕ) (i : ℕ) (none : anyBelow (fails (goodEntryAt g c)) i ≡ false) where
-  module _ (e : Entry) (ok : Bool) (is : e ≡ entryAt g c i) (good : ok ≡ goodEntry (g .blocks) (g .disk) e) where
+  module _ (v : ℕ) (version : v ≡ versionOf c) (e : Entry) (ok : Bool) (is : e ≡ entryAt g c i) (good : ok ≡ goodEntry v (g .blocks) (g .disk) e) where
     good-told : (b : Bool) → ok ≡ b → goodEntryAt g c i ≡ b
     unfolding goodEntryAt
-    good-told b h = ap (goodEntry (g .blocks) (g .disk)) (sym is) ∙ sym good ∙ h
+    good-told b h = (λ t. goodEntry (sym version t) (g .blocks) (g .disk) (sym is t)) ∙ sym good ∙ h
 
-    pub entry-named : (f : Fault) → i < g .blocks → not ok ≡ true → f ≡ entryFaultOf (g .blocks) (g .disk) i e → f ≡ entryFault g c
+    pub entry-named : (f : Fault) → i < g .blocks → not ok ≡ true → f ≡ entryFaultOf v (g .blocks) (g .disk) i e → f ≡ entryFault g c
     unfolding entryFault firstBad
     entry-named f l h q =
-        named-here (goodEntryAt g c) (g .blocks) i none (λ x. entryFaultOf (g .blocks) (g .disk) x (entryAt g c x)) f l
+        named-here (goodEntryAt g c) (g .blocks) i none (λ x. entryFaultOf (versionOf c) (g .blocks) (g .disk) x (entryAt g c x)) f l
         (good-told false (not-true ok h))
-        (q ∙ ap (entryFaultOf (g .blocks) (g .disk) i) is)
+        (q ∙ (λ t. entryFaultOf (version t) (g .blocks) (g .disk) i (is t)))
 
     pub entry-next : not ok ≡ false → anyBelow (fails (goodEntryAt g c)) (i + 1) ≡ false
     entry-next h = passed-one (goodEntryAt g c) 0 i none (good-told true (not-false ok h))
@@ -435,39 +443,42 @@ module _ (g : Geometry) (c : List ℕ) (r : ℕ) (e : r ≡ damageRefusal g c) w
         tail = ltb-true _ _ (and-left (ltb (tailOf c) (g .slots)) _ (and-right (ltb (headOf c) (g .slots)) _ p));
       }
 
-pub fault-damage : (c : List ℕ) (k : Fit) (f : Fault) → Opened c k → k .refusal ≡ 0 → f ≡ damageFault (k .geometry) c → f ≡ faultOf c
+pub fault-damage : (low high : ℕ) (c : List ℕ) (k : Fit) (f : Fault) → Opened low high c k → k .refusal ≡ 0 → f ≡ damageFault (k .geometry) c
+    → f ≡ faultOf low high c
 unfolding faultOf
-fault-damage c k f o z p =
-    p ∙ ap (λ (y : Geometry). damageFault y c) (o .framed z .geometry-is) ∙ next-on (fitFault c) _ (fit-refusal c ∙ sym (o .refusal-is) ∙ z)
+fault-damage low high c k f o z p =
+    p
+    ∙ ap (λ (y : Geometry). damageFault y c) (o .framed z .geometry-is)
+    ∙ next-on (fitFault low high c) _ (fit-refusal low high c ∙ sym (o .refusal-is) ∙ z)
 
-module _ (c : List ℕ) (r : ℕ) (e : r ≡ fitRefusal c) (some : r ≡ 0 → ⊥) where
-  fault-fit : (f : Fault) → f ≡ fitFault c → f ≡ faultOf c
+module _ (low high : ℕ) (c : List ℕ) (r : ℕ) (e : r ≡ fitRefusal low high c) (some : r ≡ 0 → ⊥) where
+  fault-fit : (f : Fault) → f ≡ fitFault low high c → f ≡ faultOf low high c
   unfolding faultOf
-  fault-fit f p = p ∙ next-first (fitFault c) _ (λ z. some (e ∙ sym (fit-refusal c) ∙ z))
+  fault-fit f p = p ∙ next-first (fitFault low high c) _ (λ z. some (e ∙ sym (fit-refusal low high c) ∙ z))
 
-  pub fault-header : (f : Fault) → r ≡ 1 → f ≡ headerFault c → f ≡ faultOf c
+  pub fault-header : (f : Fault) → r ≡ 1 → f ≡ headerFault low high c → f ≡ faultOf low high c
   unfolding fitFault fitRefusal
   fault-header f h p =
-      let bad : headerFits c ≡ false = refused-one _ _ (sym h ∙ e) in
-      fault-fit f (p ∙ next-first (headerFault c) _ (part-failed _ 1 (headerFits c) (omega arith) (header-refusal c) bad))
+      let bad : headerFits low high c ≡ false = refused-one _ _ (sym h ∙ e) in
+      fault-fit f (p ∙ next-first (headerFault low high c) _ (part-failed _ 1 (headerFits low high c) (omega arith) (header-refusal low high c) bad))
 
   module _ (h : r ≡ 1 → ⊥) where
-    header-passed : (headerFits c ≡ true) × (r ≡ refuse 2 (cardFits (geometryOf c) c))
+    header-passed : (headerFits low high c ≡ true) × (r ≡ refuse 2 (cardFits (geometryOf c) c))
     unfolding fitRefusal
-    header-passed = passed-on 1 r _ (headerFits c) e h (omega arith)
+    header-passed = passed-on 1 r _ (headerFits low high c) e h (omega arith)
 
     pub fault-long : 128 ≤ length c
-    fault-long = header-long c true (sym (header-passed .0)) refl
+    fault-long = header-long low high c true (sym (header-passed .0)) refl
 
     module _ (g : Geometry) (q : g ≡ geometryOf c) where
       pub fault-good : goodGeometry g ≡ true
-      fault-good = header-geometry c true g (sym (header-passed .0)) refl q
+      fault-good = header-geometry low high c true g (sym (header-passed .0)) refl q
 
-      pub fault-length : (n : ℕ) → n ≡ cardLength g → Length n ≡ faultOf c
+      pub fault-length : (n : ℕ) → n ≡ cardLength g → Length n ≡ faultOf low high c
       unfolding fitFault lengthFault
       fault-length n p =
           let bad : cardFits (geometryOf c) c ≡ false = refused-last 2 r _ (header-passed .1) some in
           fault-fit (Length n)
           (ap Length (p ∙ ap cardLength q)
           ∙ pick-false (cardFits (geometryOf c) c) _ _ bad
-          ∙ next-on (headerFault c) _ (part-passed _ 1 (headerFits c) (header-refusal c) (header-passed .0)))
+          ∙ next-on (headerFault low high c) _ (part-passed _ 1 (headerFits low high c) (header-refusal low high c) (header-passed .0)))

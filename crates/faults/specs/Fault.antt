@@ -1,15 +1,15 @@
--- What is wrong with a refused card: checks 1, 2 and 4 to 6 of document 01, each with the first thing that it forbids. A part is `Sound`
--- where its check passes, so that the parts in their order give the first fault of the card.
+-- What is wrong with a refused card: checks 1, 2 and 4 to 6 of document 01, each with the first thing that it forbids, of a call that takes versions
+-- from low to high. A part is `Sound` where its check passes, so that the parts in their order give the first fault of the card.
 use Prim.Native.Nat.{ℕ}
 use mathlib.Core.List.{List}
 use mathlib.Core.Bool.{Bool, cond, not, _&&_, _||_}
-use lib.ListN.{length, getD}
+use lib.ListN.{length}
 use lib.Dec.{eqb, ltb}
 use Rattle.numbers.specs.Bytes.{numberAt}
 use Rattle.protocol.specs.declared.Geometry.{Geometry}
 use Rattle.protocol.specs.declared.Entry.{Entry}
 use Rattle.protocol.specs.Below.{allBelow, firstBelow, around}
-use Rattle.protocol.specs.Layout.{goodK, goodSlots, goodBlocks, goodDisk, geometryOf, zeroFrom, cardLength}
+use Rattle.protocol.specs.Layout.{between, goodK, goodSlots, goodBlocks, goodDisk, geometryOf, versionOf, zeroFrom, cardLength}
 use Rattle.protocol.specs.Entry.{FRESH, entryAt, allowedFlags, isUnused}
 use Rattle.protocol.specs.Ring.{headOf, tailOf, windowOf, settledBlock}
 use Rattle.protocol.specs.Check.{cardFits, windowNumberFits, goodEntryAt, apart, apartBefore}
@@ -57,11 +57,11 @@ geometryFault g =
     cond (goodK (g .k)) (cond (goodSlots (g .slots)) (cond (goodBlocks (g .blocks)) (cond (goodDisk (g .disk)) Sound Disk) Blocks) Slots) K
 
 -- 1: under 128 bytes, or the first header field in the order of the bytes that is not as document 01 says
-unfoldable pub headerFault : List ℕ → Fault
-headerFault c =
+unfoldable pub headerFault : ℕ → ℕ → List ℕ → Fault
+headerFault low high c =
     cond (ltb (length c) 128) Short
     (cond (eqb (numberAt c 0 4) 64)
-    (cond (eqb (getD c 4 0) 1) (geometryFault (geometryOf c) orNext cond (allBelow (zeroFrom c 16) 48) Sound Reserved) Version)
+    (cond (between low high (versionOf c)) (geometryFault (geometryOf c) orNext cond (allBelow (zeroFrom c 16) 48) Sound Reserved) Version)
     HeaderLength)
 
 -- 2: the length that the header asks for
@@ -86,12 +86,12 @@ ringFault g c =
 unfoldable pub goodPrevious : ℕ → ℕ → Bool
 goodPrevious n p = ltb p n || eqb p FRESH
 
--- 5: what is wrong with the entry e at place i, with N data blocks and D disk blocks: its first wrong field in the entry's order
-unfoldable pub entryFaultOf : ℕ → ℕ → ℕ → Entry → Fault
-entryFaultOf n d i e =
+-- 5: what is wrong with the entry e at place i, with the version v, N data blocks and D disk blocks: its first wrong field in the entry's order
+unfoldable pub entryFaultOf : ℕ → ℕ → ℕ → ℕ → Entry → Fault
+entryFaultOf v n d i e =
     cond (isUnused e) Sound
     (cond (eqb (e .flags) 0) (NotZero i)
-    (cond (allowedFlags (e .flags))
+    (cond (allowedFlags v (e .flags))
     (cond (ltb (e .number) d)
     (cond (goodPrevious n (e .previous)) (cond (ltb (e .current) n) Sound (Current i)) (Previous i))
     (Number i))
@@ -104,7 +104,9 @@ firstBad g c = firstBelow (fails (goodEntryAt g c)) (g .blocks)
 -- 5: that entry's fault
 unfoldable pub entryFault : Geometry → List ℕ → Fault
 entryFault g c =
-    cond (ltb (firstBad g c) (g .blocks)) (entryFaultOf (g .blocks) (g .disk) (firstBad g c) (entryAt g c (firstBad g c))) Sound
+    cond (ltb (firstBad g c) (g .blocks))
+    (entryFaultOf (versionOf c) (g .blocks) (g .disk) (firstBad g c) (entryAt g c (firstBad g c)))
+    Sound
 
 -- 6: entries i and j have "equal settled blocks (two that have none are not equal)"
 unfoldable pub sameSettled : Geometry → List ℕ → ℕ → ℕ → Bool
@@ -135,9 +137,9 @@ unfoldable pub damageFault : Geometry → List ℕ → Fault
 damageFault g c = ringFault g c orNext entryFault g c orNext pairFault g c
 
 -- 1 and 2: the fitter
-unfoldable pub fitFault : List ℕ → Fault
-fitFault c = headerFault c orNext lengthFault (geometryOf c) c
+unfoldable pub fitFault : ℕ → ℕ → List ℕ → Fault
+fitFault low high c = headerFault low high c orNext lengthFault (geometryOf c) c
 
 -- the first fault of the card c
-unfoldable pub faultOf : List ℕ → Fault
-faultOf c = fitFault c orNext damageFault (geometryOf c) c
+unfoldable pub faultOf : ℕ → ℕ → List ℕ → Fault
+faultOf low high c = fitFault low high c orNext damageFault (geometryOf c) c

@@ -1,4 +1,4 @@
-// What is wrong with a refused card image, at every row of bytes, however damaged.
+// What is wrong with a refused card image, for a call that takes versions from low to high, at every row of bytes, however damaged.
 use protocol::Entry;
 use protocol::FRESH;
 use protocol::Geometry;
@@ -7,6 +7,7 @@ use ring::Window;
 ghost use mathlib.Core.Path.{_≡_};
 ghost use Prim.Native.Nat.{_<_};
 ghost use lib.Dec.{ltb};
+ghost use Rattle.protocol.specs.Layout.{versionOf};
 ghost use Rattle.protocol.specs.Ring.{settledBlock};
 ghost use Rattle.protocol.specs.Check.{apart};
 ghost use Rattle.ring.specs.Fitted.{Fitted, Placed, WindowOf, Framed};
@@ -64,8 +65,8 @@ pub fn geometry_fault(g: Geometry) -> Fault
 }
 
 // 1: under 128 bytes, or the first header field that is not as it should be.
-fn header_fault(card: &[u8]) -> Fault
-    ensures { λ r. ⌜ r ≡ headerFault (now (card .entry)) ⌝ }
+fn header_fault(card: &[u8], low: u64, high: u64) -> Fault
+    ensures { λ r. ⌜ r ≡ headerFault low high (now (card .entry)) ⌝ }
 {
     if card.len() < 128 {
         return Fault::Short;
@@ -73,14 +74,15 @@ fn header_fault(card: &[u8]) -> Fault
     if numbers::get(card, 0, 4) != 64 {
         return Fault::HeaderLength;
     }
-    if card[4] != 1 {
+    let version = ring::version_of(card);
+    if !((low <= version) & (version <= high)) {
         return Fault::Version;
     }
     let g = ring::geometry_of(card);
     if !codec::good_geometry(g) {
         return geometry_fault(g);
     }
-    if ring::header_fits(card) {
+    if ring::header_fits(card, low, high) {
         Fault::Sound
     } else {
         Fault::Reserved
@@ -130,9 +132,9 @@ fn good_previous(n: u64, p: u32) -> bool
     below(p, n) | (p == FRESH)
 }
 
-// 5: the first wrong field of the entry e at place i.
-fn entry_fault_of(n: u64, d: u64, i: u64, e: Entry) -> Fault
-    ensures { λ r. ⌜ r ≡ entryFaultOf n d i e ⌝ }
+// 5: the first wrong field of the entry e at place i, with the version v.
+fn entry_fault_of(v: u64, n: u64, d: u64, i: u64, e: Entry) -> Fault
+    ensures { λ r. ⌜ r ≡ entryFaultOf v n d i e ⌝ }
 {
     if survey::is_unused(e) {
         return Fault::Sound;
@@ -140,7 +142,8 @@ fn entry_fault_of(n: u64, d: u64, i: u64, e: Entry) -> Fault
     if e.flags == 0 {
         return Fault::NotZero(i);
     }
-    if !((e.flags == 0x80) | ((e.flags == 0x82) | (e.flags == 0x83))) {
+    let over = (v == 2) & ((e.flags == 0x86) | (e.flags == 0x87));
+    if !((e.flags == 0x80) | ((e.flags == 0x82) | ((e.flags == 0x83) | over))) {
         return Fault::Flags(i);
     }
     if e.number >= d {
@@ -156,16 +159,16 @@ fn entry_fault_of(n: u64, d: u64, i: u64, e: Entry) -> Fault
 }
 
 // 5: what is wrong with the first entry that check 5 forbids.
-fn entry_fault(g: Geometry, card: &[u8]) -> Fault
-    requires { ⌜ Fitted g (now card) ⌝ }
+fn entry_fault(g: Geometry, version: u64, card: &[u8]) -> Fault
+    requires { ⌜ Fitted g (now card) × (version ≡ versionOf (now card)) ⌝ }
     ensures { λ r. ⌜ r ≡ entryFault g (now (card .entry)) ⌝ }
 {
     let n = g.blocks as usize;
     let mut i: usize = 0;
     while i < n {
         let e = checks::entry_of(g, card, i);
-        if !codec::good_entry(g.blocks, g.disk, e) {
-            return entry_fault_of(g.blocks, g.disk, i as u64, e);
+        if !codec::good_entry(version, g.blocks, g.disk, e) {
+            return entry_fault_of(version, g.blocks, g.disk, i as u64, e);
         }
         i += 1;
     }
@@ -270,21 +273,21 @@ fn damage_fault(f: Fit, card: &[u8]) -> Fault
         return ring_fault(g, card);
     }
     if refusal == 5 {
-        return entry_fault(g, card);
+        return entry_fault(g, f.version, card);
     }
     pair_fault(g, card)
 }
 
-// The first fault of the card.
-pub fn fault_of(card: &[u8]) -> Fault
-    ensures { λ r. ⌜ r ≡ faultOf (now (card .entry)) ⌝ }
+// The first fault of the card, for a call that takes versions from low to high.
+pub fn fault_of(card: &[u8], low: u64, high: u64) -> Fault
+    ensures { λ r. ⌜ r ≡ faultOf low high (now (card .entry)) ⌝ }
 {
-    let f = ring::fit_of(card);
+    let f = ring::fit_of(card, low, high);
     if f.refusal == 0 {
         return damage_fault(f, card);
     }
     if f.refusal == 1 {
-        header_fault(card)
+        header_fault(card, low, high)
     } else {
         Fault::Length(codec::card_length(ring::geometry_of(card)))
     }

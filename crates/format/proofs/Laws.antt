@@ -23,7 +23,7 @@ pub fields-put : (g : Geometry) (s₀ s₁ s₂ s₃ s₄ s₅ s₆ : List ℕ) 
     → s₂ ≡ patch s₁ 8 (bytesBE 4 (g .blocks))
     → s₃ ≡ patch s₂ 6 (bytesBE 2 (g .slots))
     → s₄ ≡ patch s₃ 5 (bytesBE 1 (g .k))
-    → s₅ ≡ patch s₄ 4 (bytesBE 1 1)
+    → s₅ ≡ patch s₄ 4 (bytesBE 1 2)
     → s₆ ≡ patch s₅ 0 (bytesBE 4 64)
     → s₆ ≡ patch s₀ 0 (fieldBytes g)
 unfolding fieldBytes bytesBE
@@ -31,18 +31,18 @@ fields-put g s₀ s₁ s₂ s₃ s₄ s₅ s₆ p₁ p₂ p₃ p₄ p₅ p₆ =
     let q₂ = put-before s₀ s₁ s₂ 8 (bytesBE 4 (g .blocks)) 12 (bytesBE 4 (g .disk)) p₁ p₂ refl in
     let q₃ = put-before s₀ s₂ s₃ 6 (bytesBE 2 (g .slots)) 8 _ q₂ p₃ refl in
     let q₄ = put-before s₀ s₃ s₄ 5 (bytesBE 1 (g .k)) 6 _ q₃ p₄ refl in
-    let q₅ = put-before s₀ s₄ s₅ 4 (bytesBE 1 1) 5 _ q₄ p₅ refl in
+    let q₅ = put-before s₀ s₄ s₅ 4 (bytesBE 1 2) 5 _ q₄ p₅ refl in
     put-before s₀ s₅ s₆ 0 (bytesBE 4 64) 4 _ q₅ p₆ refl
 
 -- the header is its fields and zeros: k fits a byte
-header-fields : (g : Geometry) → goodGeometry g ≡ true → fieldBytes g ++ replicate 48 0 ≡ headerBytes g
+header-fields : (g : Geometry) → goodGeometry g ≡ true → fieldBytes g ++ replicate 48 0 ≡ headerBytes 2 g
 unfolding fieldBytes headerBytes bytesBE
 header-fields g h =
     let l : Limits g = limits g h in
     let byte : g .k / 1 % 256 ≡ g .k = omega arith in
     λ t.
     bytesBE 4 64
-    ++ (1 ∷ byte t ∷ (bytesBE 2 (g .slots) ++ (bytesBE 4 (g .blocks) ++ (bytesBE 4 (g .disk) ++ replicate 48 0))))
+    ++ (2 ∷ byte t ∷ (bytesBE 2 (g .slots) ++ (bytesBE 4 (g .blocks) ++ (bytesBE 4 (g .disk) ++ replicate 48 0))))
 
 length-fields : (g : Geometry) → length (fieldBytes g) ≡ 16
 unfolding fieldBytes bytesBE
@@ -62,7 +62,7 @@ put-over s₀ s₁ s₂ at bs cs ds p q e =
 pub laid-out : (g : Geometry) (c s₁ s₂ : List ℕ) → goodGeometry g ≡ true
     → s₁ ≡ patch c 0 (replicate (128 + 8 * g .slots + 16 * g .blocks) 0)
     → s₂ ≡ patch s₁ 0 (fieldBytes g)
-    → s₂ ≡ formatted g c
+    → s₂ ≡ formatted 2 g c
 unfolding formatted
 laid-out g c s₁ s₂ h p q =
     let m : ℕ = 64 + 8 * g .slots + 16 * g .blocks in
@@ -78,12 +78,12 @@ laid-out g c s₁ s₂ h p q =
 -- ---- the answers: t is the test of the limits, n the length that was computed
 
 refused : (r : ℕ) (g : Geometry) (c : List ℕ) → r ≡ formatRefusal g c → (r ≡ 0 → ⊥)
-    → (Refused r ≡ outcomeOf (formatRefusal g c)) × (c ≡ afterFormat g c)
+    → (Refused r ≡ outcomeOf (formatRefusal g c)) × (c ≡ afterFormat 2 g c)
 unfolding outcomeOf afterFormat
 refused r g c e h = rw (← e, ne-eqb r 0 h) (refl, refl)
 
 module _ (g : Geometry) (c : List ℕ) (t : Bool) (p : t ≡ goodGeometry g) where
-  pub refused-limits : t ≡ false → (Refused 1 ≡ outcomeOf (formatRefusal g c)) × (c ≡ afterFormat g c)
+  pub refused-limits : t ≡ false → (Refused 1 ≡ outcomeOf (formatRefusal g c)) × (c ≡ afterFormat 2 g c)
   unfolding formatRefusal
   refused-limits f =
       refused 1 g c
@@ -95,14 +95,14 @@ module _ (g : Geometry) (c : List ℕ) (t : Bool) (p : t ≡ goodGeometry g) whe
   past-limits r f e = orElse-next r (refuse 1 (goodGeometry g)) _ (refuse-passed 1 (goodGeometry g) (sym p ∙ f)) e
 
   pub refused-length : (n : ℕ) → t ≡ true → n ≡ cardLength g → (length c ≡ n → ⊥)
-      → (Refused 2 ≡ outcomeOf (formatRefusal g c)) × (c ≡ afterFormat g c)
+      → (Refused 2 ≡ outcomeOf (formatRefusal g c)) × (c ≡ afterFormat 2 g c)
   unfolding cardFits
   refused-length n f q l =
       refused 2 g c
       (past-limits 2 f (refuse-failed 2 (cardFits g c) (ne-eqb (length c) (cardLength g) (λ e. l (e ∙ sym q))))) (omega arith)
 
-  pub done : (n : ℕ) (c′ : List ℕ) → t ≡ true → n ≡ cardLength g → length c ≡ n → c′ ≡ formatted g c
-      → (Done ≡ outcomeOf (formatRefusal g c)) × (c′ ≡ afterFormat g c)
+  pub done : (n : ℕ) (c′ : List ℕ) → t ≡ true → n ≡ cardLength g → length c ≡ n → c′ ≡ formatted 2 g c
+      → (Done ≡ outcomeOf (formatRefusal g c)) × (c′ ≡ afterFormat 2 g c)
   unfolding cardFits outcomeOf afterFormat
   done n c′ f q l e =
       let none : 0 ≡ formatRefusal g c = past-limits 0 f (refuse-passed 2 (cardFits g c) (eq-eqb (length c) (cardLength g) (l ∙ q))) in

@@ -1,4 +1,4 @@
-// Format: the control bytes, slots and entries zeroed, the header written, the data blocks left.
+// Format: the control bytes, slots and entries zeroed, the header of version 2 written, the data blocks left.
 use codec::card_length;
 use codec::good_geometry;
 use numbers::fill;
@@ -24,7 +24,7 @@ fn put_fields(card: &mut [u8], g: Geometry)
     put(card, 8, 4, g.blocks);
     put(card, 6, 2, g.slots);
     put(card, 5, 1, g.k);
-    put(card, 4, 1, 1);
+    put(card, 4, 1, 2);
     put(card, 0, 4, 64);
 }
 
@@ -32,7 +32,7 @@ fn put_fields(card: &mut [u8], g: Geometry)
 // a part of what it held before.
 fn lay_out(card: &mut [u8], g: Geometry)
     requires { ⌜ (goodGeometry g ≡ true) × (length (now card) ≡ cardLength g) ⌝ }
-    ensures { λ _. ⌜ now (card .exit) ≡ formatted g (now (card .entry)) ⌝ }
+    ensures { λ _. ⌜ now (card .exit) ≡ formatted 2 g (now (card .entry)) ⌝ }
 {
     fill(card, 0, (128 + 8 * g.slots + 16 * g.blocks) as usize, 0);
     put_fields(card, g);
@@ -41,7 +41,7 @@ fn lay_out(card: &mut [u8], g: Geometry)
 // Formats the card, or refuses and leaves every byte of it. The limits are tested first: outside of them the length may not fit a number.
 pub fn format(k: u64, slots: u64, blocks: u64, disk: u64, card: &mut [u8]) -> Outcome
     ensures answer { λ r. ⌜ r ≡ outcomeOf (formatRefusal (geometry k slots blocks disk) (now (card .entry))) ⌝ }
-    ensures card { λ _. ⌜ now (card .exit) ≡ afterFormat (geometry k slots blocks disk) (now (card .entry)) ⌝ }
+    ensures card { λ _. ⌜ now (card .exit) ≡ afterFormat 2 (geometry k slots blocks disk) (now (card .entry)) ⌝ }
 {
     let g = Geometry {
         k: k,

@@ -1,4 +1,4 @@
-// Card images in files: read, made new, and recovered store by store, each store durable before the next. No contract can speak of a file's
+// Card images in files: read, made new, upgraded, and recovered store by store, each store durable before the next. No contract can speak of a file's
 // bytes; so each store is made in memory too, only after the file has it, and the contracts speak of that.
 use protocol::Geometry;
 use recovery::Step;
@@ -13,7 +13,7 @@ ghost use Rattle.protocol.specs.Store.{Run};
 ghost use Rattle.protocol.specs.Recover.{recoverRuns};
 ghost use Rattle.recovery.specs.Step.{stepRuns, undoes};
 ghost use Rattle.ring.specs.Fitted.{Fitted, WindowOf};
-ghost use Rattle.image.specs.Walked.{Walked, Repaired};
+ghost use Rattle.image.specs.Walked.{Walked, Repaired, Upgraded};
 
 // Room for the largest card and one byte more, by which a longer file is seen to be longer.
 pub fn buffer() -> [u8; 528513]
@@ -151,7 +151,7 @@ fn walk_list(fd: i32, g: Geometry, card: &mut [u8], w: Window, allowance: u64) -
     so
 }
 
-// What a recovery of a file came to: its refusal; the stores of its list and how many of them are made; whether a write failed.
+// What a recovery or an upgrade of a file came to: its refusal; the stores of its list and how many of them are made; whether a write failed.
 pub struct Repair {
     pub refusal: u8,
     pub count: u64,
@@ -179,5 +179,45 @@ pub fn recover(fd: i32, card: &mut [u8], allowance: u64) -> Repair
         count: r.count,
         made: r.made,
         failed: r.failed,
+    }
+}
+
+fn stopped(failed: bool) -> Repair
+    ensures { λ r. ⌜ r ≡ record { refusal = 0; count = 1; made = 0; failed = failed } ⌝ }
+{
+    Repair {
+        refusal: 0,
+        count: 1,
+        made: 0,
+        failed: failed,
+    }
+}
+
+// Upgrades the card in the file, whose bytes were read into `card`: its one store, durable, where the allowance lets it happen.
+pub fn upgrade(fd: i32, card: &mut [u8], allowance: u64) -> Repair
+    ensures { λ r. ⌜ Upgraded allowance (now (card .entry)) (now (card .exit)) r ⌝ }
+{
+    let u = upgrade::examine(card);
+    if u.refusal != 0 {
+        return Repair {
+            refusal: u.refusal,
+            count: 0,
+            made: 0,
+            failed: false,
+        };
+    }
+    if allowance == 0 {
+        return stopped(false);
+    }
+    let bytes = upgrade::word_bytes(u.geometry);
+    if !put(fd, 0, &bytes, 8) {
+        return stopped(true);
+    }
+    upgrade::upgrade(card, 1);
+    Repair {
+        refusal: 0,
+        count: 1,
+        made: 1,
+        failed: false,
     }
 }

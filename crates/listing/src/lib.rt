@@ -4,6 +4,7 @@ mod marks;
 
 pub use list::block;
 pub use list::stores;
+pub use list::version;
 pub use marks::count;
 pub use marks::entry;
 pub use marks::plain;

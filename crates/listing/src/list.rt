@@ -10,6 +10,8 @@ use recovery::Spelled;
 use recovery::Step;
 use ring::Window;
 ghost use mathlib.Core.Path.{_≡_};
+ghost use mathlib.Core.Bool.{true};
+ghost use Rattle.protocol.specs.Layout.{goodGeometry};
 ghost use Prim.Native.Nat.{_+_, _≤_};
 ghost use lib.ListN.{length};
 ghost use Rattle.numbers.specs.Bytes.{part};
@@ -97,15 +99,31 @@ fn lines(g: Geometry, card: &[u8], w: Window) -> u64
     count
 }
 
+fn heading() {
+    say(
+        STDOUT_FILENO,
+        b"  store   byte  bytes                               what\n",
+    );
+}
+
+// Upgrade's one store under the same heading.
+pub fn version(g: Geometry)
+    requires { ⌜ goodGeometry g ≡ true ⌝ }
+{
+    heading();
+    plain(STDOUT_FILENO, 1, 7);
+    plain(STDOUT_FILENO, 0, 7);
+    say(STDOUT_FILENO, b"  ");
+    word(STDOUT_FILENO, upgrade::word_bytes(g));
+    say(STDOUT_FILENO, b"  version 2\n");
+}
+
 // Recovery's list under a heading, and the count of its stores.
 pub fn stores(g: Geometry, card: &[u8], w: Window) -> u64
     requires { ⌜ Fitted g (now card) × WindowOf g (now card) w ⌝ }
     ensures { λ r. ⌜ r ≡ length (flat (recoverRuns g (now (card .entry)))) ⌝ }
 {
-    say(
-        STDOUT_FILENO,
-        b"  store   byte  bytes                               what\n",
-    );
+    heading();
     let n = lines(g, card, w);
     if n == 0 {
         say(STDOUT_FILENO, b"  none\n");

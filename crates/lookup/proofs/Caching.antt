@@ -44,10 +44,10 @@ unfolding cachedAt
 refused c i r e h =
     ap Refused e ∙ sym (ap (λ (t : Bool). cond t (cachedIn (geometryOf c) c i) (Refused (cachedRefusal c))) (ne-eqb _ _ (λ z. h (e ∙ z))))
 
-module _ (c : List ℕ) (i : ℕ) (f : Fit) (o : Opened c f) where
+module _ (c : List ℕ) (i : ℕ) (f : Fit) (o : Opened 2 2 c f) where
   pub cached-unfit : (f .refusal ≡ 0 → ⊥) → Refused (f .refusal) ≡ cachedAt c i
   unfolding cachedRefusal
-  cached-unfit h = refused c i (f .refusal) (orElse-first (f .refusal) (fitRefusal c) _ (o .refusal-is) h) h
+  cached-unfit h = refused c i (f .refusal) (orElse-first (f .refusal) (fitRefusal 2 2 c) _ (o .refusal-is) h) h
 
   module _ (z : f .refusal ≡ 0) (r : ℕ) (re : r ≡ cardRefusal (f .geometry) c) where
     own : f .geometry ≡ geometryOf c
@@ -55,7 +55,7 @@ module _ (c : List ℕ) (i : ℕ) (f : Fit) (o : Opened c f) where
 
     refusal-is : r ≡ cachedRefusal c
     unfolding cachedRefusal
-    refusal-is = orElse-next r (fitRefusal c) _ (sym z ∙ o .refusal-is) (re ∙ ap (λ (x : Geometry). cardRefusal x c) own)
+    refusal-is = orElse-next r (fitRefusal 2 2 c) _ (sym z ∙ o .refusal-is) (re ∙ ap (λ (x : Geometry). cardRefusal x c) own)
 
     pub cached-refused : (r ≡ 0 → ⊥) → Refused r ≡ cachedAt c i
     cached-refused h = refused c i r refusal-is h

@@ -77,10 +77,10 @@ unfolding stateOf
 state-refused c r e h =
     ap Refused e ∙ sym (ap (λ (t : Bool). cond t (Is (record { geometry = geometryOf c; condition = conditionOf (geometryOf c) c })) (Refused (stateRefusal c))) (ne-eqb _ _ (λ z. h (e ∙ z))))
 
-module _ (c : List ℕ) (f : Fit) (o : Opened c f) where
+module _ (c : List ℕ) (f : Fit) (o : Opened 2 2 c f) where
   pub state-unfit : (f .refusal ≡ 0 → ⊥) → Refused (f .refusal) ≡ stateOf c
   unfolding stateRefusal
-  state-unfit h = state-refused c (f .refusal) (orElse-first (f .refusal) (fitRefusal c) _ (o .refusal-is) h) h
+  state-unfit h = state-refused c (f .refusal) (orElse-first (f .refusal) (fitRefusal 2 2 c) _ (o .refusal-is) h) h
 
   module _ (xs : List ℕ) (v : Verdict) (z : f .refusal ≡ 0) (s : Inspected (f .geometry) c xs v) where
     own : f .geometry ≡ geometryOf c
@@ -89,7 +89,7 @@ module _ (c : List ℕ) (f : Fit) (o : Opened c f) where
     damage-is : v .refusal ≡ stateRefusal c
     unfolding stateRefusal
     damage-is =
-        orElse-next (v .refusal) (fitRefusal c) _ (sym z ∙ o .refusal-is) (s .refusal-is ∙ ap (λ (y : Geometry). damageRefusal y c) own)
+        orElse-next (v .refusal) (fitRefusal 2 2 c) _ (sym z ∙ o .refusal-is) (s .refusal-is ∙ ap (λ (y : Geometry). damageRefusal y c) own)
 
     pub state-damaged : (v .refusal ≡ 0 → ⊥) → Refused (v .refusal) ≡ stateOf c
     state-damaged h = state-refused c (v .refusal) damage-is h

@@ -47,7 +47,7 @@ module _ (g : Geometry) (c xs : List ℕ) (b i : ℕ) (h : Indexed g c xs) (is :
     unfolding entriesFit goodEntryAt usedAt
     current-below =
         subst (λ (z : ℕ). z < g .blocks) (sym is-current)
-        (used-entry (g .blocks) (g .disk) (entryAt g c i) (all-at _ (g .blocks) i (h .fits) l) used .currentBelow)
+        (used-entry _ (g .blocks) (g .disk) (entryAt g c i) (all-at _ (g .blocks) i (h .fits) l) used .currentBelow)
 
     pub located-card : (place n : ℕ) → place ≡ blockPlace g k → n ≡ blockSize g → Card place n i ≡ placeIn g c b
     unfolding placeIn cached currentOf
@@ -97,10 +97,10 @@ module _ (g : Geometry) (c xs : List ℕ) (b : ℕ) (v : Verdict) (s : Examined 
 
 -- ---- checks 1 to 3 before those
 
-module _ (c : List ℕ) (n b : ℕ) (f : Fit) (o : Opened c f) where
+module _ (c : List ℕ) (n b : ℕ) (f : Fit) (o : Opened 2 2 c f) where
   pub find-unfit : (f .refusal ≡ 0 → ⊥) → Refused (f .refusal) ≡ foundIn c n b
   unfolding foundIn
-  find-unfit h = found-refused (geometryOf c) c b _ (f .refusal) (orElse-first (f .refusal) (fitRefusal c) _ (o .refusal-is) h) h
+  find-unfit h = found-refused (geometryOf c) c b _ (f .refusal) (orElse-first (f .refusal) (fitRefusal 2 2 c) _ (o .refusal-is) h) h
 
   module _ (z : f .refusal ≡ 0) (r : ℕ) (re : r ≡ diskLength (f .geometry)) where
     own-length : r ≡ diskLength (geometryOf c)
@@ -110,7 +110,7 @@ module _ (c : List ℕ) (n b : ℕ) (f : Fit) (o : Opened c f) where
     unfolding foundIn lengthRefusal
     find-no-disk h =
         found-refused (geometryOf c) c b _ 3
-        (orElse-next 3 (fitRefusal c) _ (sym z ∙ o .refusal-is)
+        (orElse-next 3 (fitRefusal 2 2 c) _ (sym z ∙ o .refusal-is)
         (orElse-first 3 (lengthRefusal (geometryOf c) n) _
         (refuse-failed 3 _ (ne-eqb n (diskLength (geometryOf c)) (λ e. h (e ∙ sym own-length))))
         (λ e. omega arith)))
@@ -122,7 +122,7 @@ module _ (c : List ℕ) (n b : ℕ) (f : Fit) (o : Opened c f) where
         q
         ∙ ap (λ (x : Geometry). foundBy x c b (cardRefusal x c)) (o .framed z .geometry-is)
         ∙ ap (foundBy (geometryOf c) c b)
-        (orElse-next (cardRefusal (geometryOf c) c) (fitRefusal c) _ (sym z ∙ o .refusal-is)
+        (orElse-next (cardRefusal (geometryOf c) c) (fitRefusal 2 2 c) _ (sym z ∙ o .refusal-is)
         (orElse-next (cardRefusal (geometryOf c) c) (lengthRefusal (geometryOf c) n) _
         (refuse-passed 3 _ (eq-eqb n (diskLength (geometryOf c)) (y ∙ own-length)))
         refl))

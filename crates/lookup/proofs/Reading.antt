@@ -39,17 +39,17 @@ abbrev G : List ℕ → Geometry
 G c = geometryOf c
 
 data Where (c d : List ℕ) (b : ℕ) (f : Found) : Type 0 where
-  in-none : f ≡ Refused (pairRefusal c d) → (pairRefusal c d ≡ 0 → ⊥) → Where c d b f
-  in-nothing : f ≡ Outside (blockSize (G c)) → pairRefusal c d ≡ 0 → G c .disk ≤ b → Where c d b f
-  in-cache : f ≡ Card (blockPlace (G c) (currentOf (G c) c b)) (blockSize (G c)) (findEntry (G c) c b) → pairRefusal c d ≡ 0 → b < G c .disk → cached (G c) c b ≡ true
+  in-none : f ≡ Refused (pairRefusal 2 c d) → (pairRefusal 2 c d ≡ 0 → ⊥) → Where c d b f
+  in-nothing : f ≡ Outside (blockSize (G c)) → pairRefusal 2 c d ≡ 0 → G c .disk ≤ b → Where c d b f
+  in-cache : f ≡ Card (blockPlace (G c) (currentOf (G c) c b)) (blockSize (G c)) (findEntry (G c) c b) → pairRefusal 2 c d ≡ 0 → b < G c .disk → cached (G c) c b ≡ true
       → Where c d b f
-  in-home : f ≡ Disk (diskPlace (G c) b) (blockSize (G c)) → pairRefusal c d ≡ 0 → b < G c .disk → cached (G c) c b ≡ false → Where c d b f
+  in-home : f ≡ Disk (diskPlace (G c) b) (blockSize (G c)) → pairRefusal 2 c d ≡ 0 → b < G c .disk → cached (G c) c b ≡ false → Where c d b f
 
 where-is : (c d : List ℕ) (b : ℕ) (f : Found) → f ≡ foundAt c d b → Where c d b f
 unfolding foundAt foundBy placeIn
-where-is c d b f e = go (either (eqb (pairRefusal c d) 0)) (either (ltb b (G c .disk))) (either (cached (G c) c b))
+where-is c d b f e = go (either (eqb (pairRefusal 2 c d) 0)) (either (ltb b (G c .disk))) (either (cached (G c) c b))
   where
-    go : (eqb (pairRefusal c d) 0 ≡ true) ⊎ (eqb (pairRefusal c d) 0 ≡ false) → (ltb b (G c .disk) ≡ true) ⊎ (ltb b (G c .disk) ≡ false)
+    go : (eqb (pairRefusal 2 c d) 0 ≡ true) ⊎ (eqb (pairRefusal 2 c d) 0 ≡ false) → (ltb b (G c .disk) ≡ true) ⊎ (ltb b (G c .disk) ≡ false)
         → (cached (G c) c b ≡ true) ⊎ (cached (G c) c b ≡ false) → Where c d b f
     go (inr r) l k = in-none (e ∙ rw r) (eqb-false _ _ r)
     go (inl r) (inr l) k = in-nothing (e ∙ rw (r, l)) (eqb-true _ _ r) (ltb-false _ _ l)
@@ -58,31 +58,31 @@ where-is c d b f e = go (either (eqb (pairRefusal c d) 0)) (either (ltb b (G c .
 
 -- ---- what passed
 
-module _ (c d : List ℕ) (z : pairRefusal c d ≡ 0) where
+module _ (c d : List ℕ) (z : pairRefusal 2 c d ≡ 0) where
   card-long : length c ≡ cardLength (G c)
   unfolding pairRefusal fitRefusal cardFits
-  card-long = eqb-true _ _ (passed 1 _ (second-zero (refuse 1 _) _ (first-zero (fitRefusal c) _ z)))
+  card-long = eqb-true _ _ (passed 1 _ (second-zero (refuse 1 _) _ (first-zero (fitRefusal 2 2 c) _ z)))
 
-  fits-first : fitRefusal c ≡ 0
+  fits-first : fitRefusal 2 2 c ≡ 0
   unfolding pairRefusal
-  fits-first = first-zero (fitRefusal c) _ z
+  fits-first = first-zero (fitRefusal 2 2 c) _ z
 
   disk-long : length d ≡ diskLength (G c)
   unfolding pairRefusal diskRefusal diskFits
-  disk-long = eqb-true _ _ (passed 2 _ (first-zero (refuse 3 _) _ (second-zero (fitRefusal c) _ z)))
+  disk-long = eqb-true _ _ (passed 2 _ (first-zero (refuse 3 _) _ (second-zero (fitRefusal 2 2 c) _ z)))
 
   all-fit : entriesFit (G c) c ≡ true
   unfolding pairRefusal cardRefusal damageRefusal
   all-fit =
       passed 4 (entriesFit (G c) c)
       (first-zero (refuse 5 (entriesFit (G c) c)) _
-      (second-zero (refuse 4 _) _ (first-zero (damageRefusal (G c) c) _ (second-zero (diskRefusal (G c) d) _ (second-zero (fitRefusal c) _ z)))))
+      (second-zero (refuse 4 _) _ (first-zero (damageRefusal (G c) c) _ (second-zero (diskRefusal (G c) d) _ (second-zero (fitRefusal 2 2 c) _ z)))))
 
   current-within : (b : ℕ) → cached (G c) c b ≡ true → blockPlace (G c) (currentOf (G c) c b) + blockSize (G c) ≤ length c
   unfolding currentOf entriesFit goodEntryAt usedAt
   current-within b k =
       let e = cached-entry (G c) c b k in
-      let l = used-entry (G c .blocks) (G c .disk) (entryAt (G c) c (findEntry (G c) c b)) (all-at _ (G c .blocks) (findEntry (G c) c b) all-fit (e .below)) (e .used) .currentBelow in
+      let l = used-entry _ (G c .blocks) (G c .disk) (entryAt (G c) c (findEntry (G c) c b)) (all-at _ (G c .blocks) (findEntry (G c) c b) all-fit (e .below)) (e .used) .currentBelow in
       omega (arith, card-long, in-card (G c) (block (entryAt (G c) c (findEntry (G c) c b) .current)) (omega arith) l, place-block (G c) (entryAt (G c) c (findEntry (G c) c b) .current))
 
   home-within : (b : ℕ) → b < G c .disk → diskPlace (G c) b + blockSize (G c) ≤ length d
@@ -123,7 +123,7 @@ module _ (c d : List ℕ) (b : ℕ) where
           let ea : at ≡ diskPlace (G c) b = cc in
           let en : n ≡ blockSize (G c) = cc in
           let inside : at + n ≤ length d = omega (arith, home-within c d z b l) in
-          let m : Limits (G c) = limits (G c) (fit-fitted c (G c) (fitRefusal c) refl (fits-first c d z) refl .good) in
+          let m : Limits (G c) = limits (G c) (fit-fitted 2 2 c (G c) (fitRefusal 2 2 c) refl (fits-first c d z) refl .good) in
           (inside, omega arith, omega (arith, disk-long c d z))
 
   pub disk-part : (at n : ℕ) → Disk at n ≡ foundAt c d b → at + n ≤ length d
@@ -171,7 +171,7 @@ module _ (c d : List ℕ) (b : ℕ) where
   look-refused r e = go (where-is c d b (Refused r) e)
     where
       go : Where c d b (Refused r) → [] ≡ lookedAt c d b
-      go (in-none p z) = sym (ap (λ (t : Bool). cond t (contents (G c) c d b) []) (ne-eqb (lookRefusal c d b) 0 (λ h. z (first-zero (pairRefusal c d) (blockRefusal (G c) b) h))))
+      go (in-none p z) = sym (ap (λ (t : Bool). cond t (contents (G c) c d b) []) (ne-eqb (lookRefusal c d b) 0 (λ h. z (first-zero (pairRefusal 2 c d) (blockRefusal (G c) b) h))))
       go (in-nothing p z l) = let w : _≡_ {A = ℕ} 0 1 = cc in absurd (omega arith)
       go (in-cache p z l k) = let w : _≡_ {A = ℕ} 0 1 = cc in absurd (omega arith)
       go (in-home p z l k) = let w : _≡_ {A = ℕ} 0 1 = cc in absurd (omega arith)
@@ -223,8 +223,8 @@ module _ (c d : List ℕ) (b : ℕ) (out : List ℕ) where
     where
       go : Where c d b (Refused r) → Promised c d b out out (Refused r)
       go (in-none p z) =
-          let er : r ≡ pairRefusal c d = cc in
-          refused-so c d b out r (orElse-first r (pairRefusal c d) _ er (λ h. z (sym er ∙ h))) (λ h. z (sym er ∙ h))
+          let er : r ≡ pairRefusal 2 c d = cc in
+          refused-so c d b out r (orElse-first r (pairRefusal 2 c d) _ er (λ h. z (sym er ∙ h))) (λ h. z (sym er ∙ h))
       go (in-nothing p z l) = let w : _≡_ {A = ℕ} 0 1 = cc in absurd (omega arith)
       go (in-cache p z l k) = let w : _≡_ {A = ℕ} 0 1 = cc in absurd (omega arith)
       go (in-home p z l k) = let w : _≡_ {A = ℕ} 0 1 = cc in absurd (omega arith)
@@ -243,7 +243,7 @@ module _ (c d : List ℕ) (b : ℕ) (out : List ℕ) where
       go (in-home p z l k) = let w : _≡_ {A = ℕ} 0 1 = cc in absurd (omega arith)
 
   -- an output that is not B bytes
-  wrong-output : (n : ℕ) → pairRefusal c d ≡ 0 → n ≡ blockSize (G c) → (length out ≡ n → ⊥) → Promised c d b out out (Refused 9)
+  wrong-output : (n : ℕ) → pairRefusal 2 c d ≡ 0 → n ≡ blockSize (G c) → (length out ≡ n → ⊥) → Promised c d b out out (Refused 9)
   unfolding refuse _orElse_
   wrong-output n z en h =
       refused-so c d b out 9 (sym (read-by c d z out b ∙ rw (ne-eqb (length out) (blockSize (G c)) (λ q. h (q ∙ sym en))))) (λ q. omega arith)
@@ -258,7 +258,7 @@ module _ (c d : List ℕ) (b : ℕ) (out : List ℕ) where
       go (in-home p z l k) = let w : _≡_ {A = ℕ} 0 1 = cc in absurd (omega arith)
 
   -- found, with the output right or wrong
-  taken : (held : Found) (after : List ℕ) (z : pairRefusal c d ≡ 0) → b < G c .disk → length out ≡ blockSize (G c)
+  taken : (held : Found) (after : List ℕ) (z : pairRefusal 2 c d ≡ 0) → b < G c .disk → length out ≡ blockSize (G c)
       → placeIn (G c) c b ≡ held → after ≡ contents (G c) c d b → Promised c d b out after held
   unfolding fetchedBy outputAfter refuse _orElse_
   taken held after z l len eh ea =

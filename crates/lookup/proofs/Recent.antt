@@ -60,7 +60,7 @@ module _ (c d : List ℕ) (b : ℕ) (t out : List ℕ) where
 
   -- ---- with any other table
 
-  asks-table : isArranged t ≡ false → recentRefusal c d t out b ≡ pairRefusal c d orElse 16
+  asks-table : isArranged t ≡ false → recentRefusal c d t out b ≡ pairRefusal 2 c d orElse 16
   unfolding recentRefusal tableRefusal refuse _orElse_
   asks-table h = rw h
 
@@ -75,19 +75,19 @@ module _ (c d : List ℕ) (b : ℕ) (t out : List ℕ) where
         ),
       )
 
-  found-untabled : untabled (foundAt c d b) ≡ Refused (pairRefusal c d orElse 16)
+  found-untabled : untabled (foundAt c d b) ≡ Refused (pairRefusal 2 c d orElse 16)
   unfolding untabled foundAt foundBy placeIn _orElse_
-  found-untabled = go (either (eqb (pairRefusal c d) 0)) (either (ltb b (geometryOf c .disk))) (either (cached (geometryOf c) c b))
+  found-untabled = go (either (eqb (pairRefusal 2 c d) 0)) (either (ltb b (geometryOf c .disk))) (either (cached (geometryOf c) c b))
     where
-      after : eqb (pairRefusal c d) 0 ≡ true → Refused 16 ≡ Refused (pairRefusal c d orElse 16)
-      after r = ap Refused (orElse-next 16 (pairRefusal c d) 16 (sym (eqb-true _ _ r)) refl)
+      after : eqb (pairRefusal 2 c d) 0 ≡ true → Refused 16 ≡ Refused (pairRefusal 2 c d orElse 16)
+      after r = ap Refused (orElse-next 16 (pairRefusal 2 c d) 16 (sym (eqb-true _ _ r)) refl)
 
-      go : (eqb (pairRefusal c d) 0 ≡ true) ⊎ (eqb (pairRefusal c d) 0 ≡ false)
+      go : (eqb (pairRefusal 2 c d) 0 ≡ true) ⊎ (eqb (pairRefusal 2 c d) 0 ≡ false)
           → (ltb b (geometryOf c .disk) ≡ true) ⊎ (ltb b (geometryOf c .disk) ≡ false)
           → (cached (geometryOf c) c b ≡ true) ⊎ (cached (geometryOf c) c b ≡ false)
-          → untabled (foundAt c d b) ≡ Refused (pairRefusal c d orElse 16)
+          → untabled (foundAt c d b) ≡ Refused (pairRefusal 2 c d orElse 16)
       go (inr r) l k =
-          rw r (ap Refused (orElse-first (pairRefusal c d) (pairRefusal c d) 16 refl (eqb-false _ _ r)))
+          rw r (ap Refused (orElse-first (pairRefusal 2 c d) (pairRefusal 2 c d) 16 refl (eqb-false _ _ r)))
       go (inl r) (inr l) k = rw (r, l) (after r)
       go (inl r) (inl l) (inl k) = rw (r, l, k) (after r)
       go (inl r) (inl l) (inr k) = rw (r, l, k) (after r)
@@ -95,8 +95,8 @@ module _ (c d : List ℕ) (b : ℕ) (t out : List ℕ) where
   pub read-untabled : (f r : Found) (a : Bool) → a ≡ isArranged t → not a ≡ true → f ≡ foundAt c d b → r ≡ untabled f → Used c d b t out t out r
   read-untabled f r a h n e q =
       subst (Used c d b t out t out) (sym (q ∙ ap untabled e ∙ found-untabled))
-      (table-refused (pairRefusal c d orElse 16) (sym (asks-table (sym h ∙ not-true a n)))
-      (λ z. let w = orElse-none (pairRefusal c d) 16 z .1 in omega arith))
+      (table-refused (pairRefusal 2 c d orElse 16) (sym (asks-table (sym h ∙ not-true a n)))
+      (λ z. let w = orElse-none (pairRefusal 2 c d) 16 z .1 in omega arith))
 
 -- ---- the entry of what was fetched
 
@@ -110,8 +110,8 @@ module _ (c d : List ℕ) (b : ℕ) (out : List ℕ) where
       go (inl r) (inl k) =
           let w : Card at n i ≡ Card (blockPlace (geometryOf c) (currentOf (geometryOf c) c b)) (blockSize (geometryOf c)) (findEntry (geometryOf c) c b) = sym q ∙ e ∙ rw (r, k) in
           let ei : i ≡ findEntry (geometryOf c) c b = cc in
-          let z : fitRefusal c ≡ 0 = first-zero (fitRefusal c) _ (first-zero (pairRefusal c d) _ (eqb-true _ _ r)) in
-          let m : Limits (geometryOf c) = limits (geometryOf c) (fit-fitted c (geometryOf c) (fitRefusal c) refl z refl .good) in
+          let z : fitRefusal 2 2 c ≡ 0 = first-zero (fitRefusal 2 2 c) _ (first-zero (pairRefusal 2 c d) _ (eqb-true _ _ r)) in
+          let m : Limits (geometryOf c) = limits (geometryOf c) (fit-fitted 2 2 c (geometryOf c) (fitRefusal 2 2 c) refl z refl .good) in
           omega (arith, cached-entry (geometryOf c) c b k .below)
       go (inl r) (inr k) =
           let w : Card at n i ≡ Disk (diskPlace (geometryOf c) b) (blockSize (geometryOf c)) = sym q ∙ e ∙ rw (r, k) in

@@ -18,7 +18,7 @@ cachedIn g c i =
 
 -- 1, 2 and 4 to 7: what is cached is told of a settled card
 unfoldable pub cachedRefusal : List ℕ → ℕ
-cachedRefusal c = fitRefusal c orElse cardRefusal (geometryOf c) c
+cachedRefusal c = fitRefusal 2 2 c orElse cardRefusal (geometryOf c) c
 
 -- refused, or what is cached at place i
 unfoldable pub cachedAt : List ℕ → ℕ → Cached

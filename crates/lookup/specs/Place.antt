@@ -38,11 +38,11 @@ lengthRefusal g n = refuse 3 (eqb n (diskLength g))
 -- by checks 1 to 7 of a card over a disk of n bytes
 unfoldable pub foundIn : List ℕ → ℕ → ℕ → Found
 foundIn c n b =
-    foundBy (geometryOf c) c b (fitRefusal c orElse lengthRefusal (geometryOf c) n orElse cardRefusal (geometryOf c) c)
+    foundBy (geometryOf c) c b (fitRefusal 2 2 c orElse lengthRefusal (geometryOf c) n orElse cardRefusal (geometryOf c) c)
 
 -- by checks 1 to 7
 unfoldable pub foundAt : List ℕ → List ℕ → ℕ → Found
-foundAt c d b = foundBy (geometryOf c) c b (pairRefusal c d)
+foundAt c d b = foundBy (geometryOf c) c b (pairRefusal 2 c d)
 
 -- what a read comes to, after the refusal r by all its checks: refused, or where it was copied from
 unfoldable pub fetchedBy : ℕ → List ℕ → ℕ → Found

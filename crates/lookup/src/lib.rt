@@ -88,7 +88,7 @@ fn seek(f: Fit, card: &[u8], b: u64) -> Found
 pub fn find_in(card: &[u8], long: u64, b: u64) -> Found
     ensures { λ r. ⌜ r ≡ foundIn (now (card .entry)) long b ⌝ }
 {
-    let f = ring::fit_of(card);
+    let f = ring::fit_of(card, 2, 2);
     if f.refusal != 0 {
         return Found::Refused(f.refusal);
     }
@@ -284,16 +284,16 @@ fn condition(g: Geometry, card: &[u8], settled: bool) -> Condition
 pub fn state(card: &[u8]) -> Reported
     ensures { λ r. ⌜ r ≡ stateOf (now (card .entry)) ⌝ }
 {
-    let f = ring::fit_of(card);
-    if f.refusal != 0 {
-        return Reported::Refused(f.refusal);
+    let fit = ring::fit_of(card, 2, 2);
+    if fit.refusal != 0 {
+        return Reported::Refused(fit.refusal);
     }
     let mut index = [0u8; 640];
-    let v = checks::inspect(f, card, &mut index);
+    let v = checks::inspect(fit, card, &mut index);
     if v.refusal != 0 {
         return Reported::Refused(v.refusal);
     }
-    let g = f.geometry;
+    let g = fit.geometry;
     let c = condition(g, card, v.settled);
     Reported::Is(State {
         geometry: g,
@@ -321,7 +321,7 @@ fn cached_in(g: Geometry, card: &[u8], i: u64) -> Cached
 pub fn cached_at(card: &[u8], i: u64) -> Cached
     ensures { λ r. ⌜ r ≡ cachedAt (now (card .entry)) i ⌝ }
 {
-    let f = ring::fit_of(card);
+    let f = ring::fit_of(card, 2, 2);
     if f.refusal != 0 {
         return Cached::Refused(f.refusal);
     }

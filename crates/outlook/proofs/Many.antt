@@ -35,19 +35,19 @@ module _ (g : Geometry) (small : g .slots ≤ 256) (ns : List ℕ) (many : 256 �
 
 module _ (c : List ℕ) (m : Map) where
   many-refused : (ns bs ch : List ℕ) → 256 ≤ length ns
-      → commitRefusal c m ns bs ch ≡ fitRefusal c orElse (cardRefusal (geometryOf c) c orElse (mapRefusal c m orElse 8))
+      → commitRefusal 2 c m ns bs ch ≡ fitRefusal 2 2 c orElse (cardRefusal (geometryOf c) c orElse (mapRefusal c m orElse 8))
   unfolding commitRefusal _orElse_
-  many-refused ns bs ch h = go (fitRefusal c) refl
+  many-refused ns bs ch h = go (fitRefusal 2 2 c) refl
     where
-      go : (f : ℕ) → f ≡ fitRefusal c
+      go : (f : ℕ) → f ≡ fitRefusal 2 2 c
           → f orElse (cardRefusal (geometryOf c) c orElse (mapRefusal c m orElse saveRefusal (geometryOf c) ns bs ch (roomFor (geometryOf c) c (length ns))))
           ≡ f orElse (cardRefusal (geometryOf c) c orElse (mapRefusal c m orElse 8))
       go zero e =
-          let fit : Fitted (geometryOf c) c = fit-fitted c (geometryOf c) 0 e refl refl in
+          let fit : Fitted (geometryOf c) c = fit-fitted 2 2 c (geometryOf c) 0 e refl refl in
           let l : Limits (geometryOf c) = limits (geometryOf c) (fit .good) in
           ap (λ (r : ℕ). cardRefusal (geometryOf c) c orElse (mapRefusal c m orElse r)) (save-eight (geometryOf c) (l .slots .1) ns h bs ch _)
       go (suc f) e = refl
 
   -- two saves of 256 blocks or more are refused with the same number
-  pub many-alike : (ns bs ch ms ds dh : List ℕ) → 256 ≤ length ns → 256 ≤ length ms → commitRefusal c m ns bs ch ≡ commitRefusal c m ms ds dh
+  pub many-alike : (ns bs ch ms ds dh : List ℕ) → 256 ≤ length ns → 256 ≤ length ms → commitRefusal 2 c m ns bs ch ≡ commitRefusal 2 c m ms ds dh
   many-alike ns bs ch ms ds dh h k = many-refused ns bs ch h ∙ sym (many-refused ms ds dh k)

@@ -13,11 +13,16 @@ ghost use Prim.Native.Nat.{_≤_};
 ghost use lib.ListN.{length};
 ghost use Rattle.outlook.specs.Foreseen.{Foreseen};
 
-// What a commit of the numbers comes to on this card, with the map that the card gives, data of the right length and a choice that fits.
+// What a commit of the numbers comes to on this card, with the map that the card gives, data of the right length and a choice that fits. A map is
+// made of a version 1 card too, which no commit takes: that is asked first.
 pub fn foresee(card: &[u8], numbers: &[u64]) -> Saving
     requires { ⌜ length (now numbers) ≤ 256 ⌝ }
     ensures { λ r. ⌜ Foreseen (now (card .entry)) (now (numbers .entry)) r ⌝ }
 {
+    let unfit = ring::fit_refusal(card, 2, 2);
+    if unfit != 0 {
+        return plan::unplanned(unfit);
+    }
     match recovery::make_map(card) {
         Mapped::Refused(r) => plan::unplanned(r),
         Mapped::Is(map) => {
@@ -43,13 +48,13 @@ fn heading(n: usize) {
     out(b"  number  data block  entry  replaces\n");
 }
 
-// The previous data block is a byte, 255 for FRESH.
-fn row(number: u64, block: u8, entry: u8, previous: u8) {
+// The previous data block has 128 added where it is modified, and is 256 for FRESH.
+fn row(number: u64, block: u8, entry: u8, previous: u16) {
     plain(STDOUT_FILENO, number, 8);
     plain(STDOUT_FILENO, block as u64, 12);
     plain(STDOUT_FILENO, entry as u64, 7);
-    if previous < 128 {
-        plain(STDOUT_FILENO, previous as u64, 10);
+    if previous < 256 {
+        plain(STDOUT_FILENO, (previous % 128) as u64, 10);
     } else {
         out(b"      none");
     }
@@ -80,7 +85,7 @@ fn tell(path: &[u8], card: &[u8], numbers: &[u64])
 {
     let s = foresee(card, numbers);
     if s.refusal != 0 {
-        refuse(path, card, s.refusal);
+        refuse(path, card, 2, 2, s.refusal);
         return;
     }
     let p = s.plan;

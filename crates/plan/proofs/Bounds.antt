@@ -13,7 +13,7 @@ use borrow.Author.Tests.{eqb-true, leb-true, ltb-true}
 use Rattle.protocol.specs.declared.Geometry.{Geometry}
 use Rattle.protocol.specs.declared.Map.{Map}
 use Rattle.protocol.specs.Below.{countBelow, walked}
-use Rattle.protocol.specs.Layout.{geometryOf, blockSize}
+use Rattle.protocol.specs.Layout.{geometryOf, versionOf, blockSize}
 use Rattle.protocol.specs.Entry.{entryAt}
 use Rattle.protocol.specs.Ring.{headOf, usedAt, findEntry, cached}
 use Rattle.protocol.specs.Check.{refuse, ringFits, goodEntryAt, entriesFit, entriesApart, fitRefusal, damageRefusal, cardRefusal, choiceFits, choiceRefusal}
@@ -42,11 +42,11 @@ pub record Passed (g : Geometry) (c ns bs : List ℕ) : Type 0 where
   pub sized : length bs ≡ length ns * blockSize g
   pub room : length ns ≤ length (freeBlocks g c)
 
-pub passed : (c : List ℕ) (m : Map) (ns bs ch : List ℕ) → commitRefusal c m ns bs ch ≡ 0 → Passed (geometryOf c) c ns bs
+pub passed : (c : List ℕ) (m : Map) (ns bs ch : List ℕ) → commitRefusal 2 c m ns bs ch ≡ 0 → Passed (geometryOf c) c ns bs
 unfolding commitRefusal cardRefusal damageRefusal ringFits saveRefusal countFits dataFits roomFor
 passed c m ns bs ch z =
     let g : Geometry = geometryOf c in
-    let (fit, more) = orElse-none (fitRefusal c) _ z in
+    let (fit, more) = orElse-none (fitRefusal 2 2 c) _ z in
     let (whole, rest) = orElse-none (cardRefusal g c) _ more in
     let own = orElse-none (mapRefusal c m) _ rest .1 in
     let damage = orElse-none (damageRefusal g c) _ whole .0 in
@@ -57,7 +57,7 @@ passed c m ns bs ch z =
     let own₄ = orElse-none (refuse 10 (numbersFit g ns)) _ (orElse-none (choiceRefusal g ch) _ own₃ .1) .1 in
     let last = orElse-none (refuse 11 (numbersApart ns)) _ own₄ .1 in
     record {
-      fitted = fit-fitted c g 0 (sym fit) refl refl;
+      fitted = fit-fitted 2 2 c g 0 (sym fit) refl refl;
       head = ltb-true _ _ (and-left (ltb (headOf c) (g .slots)) _ (refuse-none 4 (ringFits g c) (omega arith) ring));
       fits = refuse-none 5 (entriesFit g c) (omega arith) five;
       distinct = refuse-none 6 (entriesApart g c) (omega arith) six;
@@ -67,12 +67,12 @@ passed c m ns bs ch z =
     }
 
 -- and its choice and its numbers fit
-pub late-passed : (c : List ℕ) (m : Map) (ns bs ch : List ℕ) → commitRefusal c m ns bs ch ≡ 0
+pub late-passed : (c : List ℕ) (m : Map) (ns bs ch : List ℕ) → commitRefusal 2 c m ns bs ch ≡ 0
     → (choiceFits (geometryOf c) ch ≡ true) × (numbersFit (geometryOf c) ns ≡ true)
 unfolding commitRefusal saveRefusal choiceRefusal
 late-passed c m ns bs ch z =
     let g : Geometry = geometryOf c in
-    let rest = orElse-none (cardRefusal g c) _ (orElse-none (fitRefusal c) _ z .1) .1 in
+    let rest = orElse-none (cardRefusal g c) _ (orElse-none (fitRefusal 2 2 c) _ z .1) .1 in
     let own = orElse-none (refuse 8 (countFits g ns)) _ (orElse-none (mapRefusal c m) _ rest .1) .1 in
     let (seventeen, more) = orElse-none (choiceRefusal g ch) _ (orElse-none (refuse 9 (dataFits g ns bs)) _ own .1) in
     (refuse-none 17 _ (omega arith) seventeen, refuse-none 10 _ (omega arith) (orElse-none (refuse 10 (numbersFit g ns)) _ more .0))
@@ -105,7 +105,7 @@ module _ {g : Geometry} {c ns bs : List ℕ} (v : Passed g c ns bs) where
   unfolding entriesFit goodEntryAt
   current-below i l =
       let m : Limits g = limits g (v .fitted .good) in
-      bounded (g .blocks) (g .disk) (entryAt g c i) (omega arith) (omega arith) (all-at (goodEntryAt g c) (g .blocks) i (v .fits) l) .current
+      bounded (versionOf c) (g .blocks) (g .disk) (entryAt g c i) (omega arith) (omega arith) (all-at (goodEntryAt g c) (g .blocks) i (v .fits) l) .current
 
   -- "commit never lacks an entry"
   enough-unused : length (freeBlocks g c) ≤ length (unusedEntries g c)

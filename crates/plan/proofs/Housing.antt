@@ -1,6 +1,6 @@
 -- The entries of a commit's blocks: what is found by the index and the walk is what the plan's definitions name, one number after the other.
 -- Assumes nothing.
-use Prim.Native.Nat.{ℕ, _+_, _≤_, _<_}
+use Prim.Native.Nat.{ℕ, _+_, _/_, _%_, _≤_, _<_}
 use mathlib.Core.List.{List}
 use mathlib.Core.Bool.{Bool, true, false, cond, not}
 use mathlib.Core.Path.{_≡_, refl, sym, ap, _∙_, subst}
@@ -11,17 +11,17 @@ use native.Mathlib.Omega.{arith}
 use lib.ListN.{length, getD, set, length-set}
 use lib.Seq.{getD-set-same, getD-set-other}
 use lib.Dec.{ltb, leb}
-use borrow.Author.Tests.{lt-ltb, le-ltb, ltb-true, lt-leb, le-leb, not-false}
+use borrow.Author.Tests.{eq-eqb, ne-eqb, lt-ltb, le-ltb, ltb-true, lt-leb, le-leb, not-false}
 use Rattle.protocol.specs.declared.Geometry.{Geometry}
 use Rattle.protocol.specs.declared.Entry.{Entry}
 use Rattle.protocol.specs.Below.{countBelow, around}
-use Rattle.protocol.specs.Entry.{FRESH, entryAt, inUse}
+use Rattle.protocol.specs.Entry.{entryAt, inUse, isModified}
 use Rattle.protocol.specs.Ring.{usedAt, entryFor, findEntry, cached, currentOf}
 use Rattle.protocol.specs.Check.{goodEntryAt, entriesFit}
 use Rattle.protocol.specs.Search.{unusedAt, searchStart, unusedEntries}
-use Rattle.protocol.specs.Commit.{numberOf, uncachedAt, entryFound, oldBlock, numberFits, numbersFit}
+use Rattle.protocol.specs.Commit.{numberOf, uncachedAt, entryFound, oldBlock, overModified, numberFits, numbersFit}
 use Rattle.protocol.proofs.Below.{either, all-at, last-or-before, count-hit, count-miss, count-le}
-use Rattle.protocol.specs.Layout.{goodGeometry}
+use Rattle.protocol.specs.Layout.{goodGeometry, versionOf}
 use Rattle.protocol.proofs.Checks.{Limits, limits}
 use Rattle.protocol.proofs.Searches.{count-cong}
 use Rattle.protocol.proofs.Allowed.{bounded}
@@ -30,7 +30,7 @@ use Rattle.checks.specs.Passed.{Indexed}
 use Rattle.checks.proofs.Laws.{lists-none, lists-more, lists-all}
 use Rattle.plan.specs.declared.Home.{Home}
 use Rattle.plan.specs.Walked.{passedBy, unusedBefore, Reached}
-use Rattle.plan.specs.Planned.{previousOf, NOWHERE, Housed, homeAt, Homes, isNowhere, housedAt}
+use Rattle.plan.specs.Planned.{previousOf, overOf, NOWHERE, Housed, Replaced, homeAt, Homes, isNowhere, housedAt}
 use Rattle.plan.proofs.Rows.{walk-nth, reach-found, reach-next}
 
 -- ---- one entry of the walk
@@ -66,30 +66,51 @@ module _ (g : Geometry) (c : List ℕ) (start from j : ℕ) (s : start ≡ searc
 
 -- ---- one number
 
+-- what an entry's data block stands for, with 128 added where it is modified
+module _ (e : Entry) (l : e .current < 128) (m : Bool) (k : m ≡ isModified e) where
+  pub replaced-modified : m ≡ true → (previousOf (e .current + 128) ≡ e .current) × (overOf (e .current + 128) ≡ isModified e)
+  unfolding previousOf overOf
+  replaced-modified h =
+      let q : ℕ = e .current in
+      let few : q + 128 < 256 = omega arith in
+      let rest : (q + 128) % 128 ≡ q = omega arith in
+      let one : (q + 128) / 128 ≡ 1 = omega arith in
+      (rw (lt-ltb (q + 128) 256 few) rest, eq-eqb _ _ one ∙ sym h ∙ k)
+
+  pub replaced-clean : m ≡ false → (previousOf (e .current) ≡ e .current) × (overOf (e .current) ≡ isModified e)
+  unfolding previousOf overOf
+  replaced-clean h =
+      let q : ℕ = e .current in
+      let few : q < 256 = omega arith in
+      let rest : q % 128 ≡ q = omega arith in
+      let none : q / 128 ≡ 0 = omega arith in
+      (rw (lt-ltb q 256 few) rest, ne-eqb (q / 128) 1 (omega arith) ∙ sym h ∙ k)
+
 module _ (g : Geometry) (c xs : List ℕ) (b at : ℕ) (k : Indexed g c xs) (e : at ≡ findEntry g c b) where
   -- a cached one has its entry, whose current block is a byte
   pub found-few : at < g .blocks → (at < 128) × (entryAt g c at .current < 128)
   unfolding entriesFit goodEntryAt
   found-few l =
       let m : Limits g = limits g (k .fitted .good) in
-      let a = bounded (g .blocks) (g .disk) (entryAt g c at) (omega arith) (omega arith) (all-at (goodEntryAt g c) (g .blocks) at (k .fits) l) in
+      let a = bounded (versionOf c) (g .blocks) (g .disk) (entryAt g c at) (omega arith) (omega arith) (all-at (goodEntryAt g c) (g .blocks) at (k .fits) l) in
       (omega arith, omega (arith, a .current))
 
-  pub housed-found : (u : Entry) → at < g .blocks → u ≡ entryAt g c at → Housed g c b (record { entry = at; previous = u .current })
-  unfolding cached currentOf previousOf
-  housed-found u l q =
+  pub housed-found : (u : Entry) → at < g .blocks → u ≡ entryAt g c at → (p : ℕ) → (previousOf p ≡ u .current) × (overOf p ≡ isModified u)
+      → Housed g c b (record { entry = at; previous = p })
+  unfolding cached currentOf
+  housed-found u l q p k =
       let on : ltb (findEntry g c b) (g .blocks) ≡ true = lt-ltb (findEntry g c b) (g .blocks) (omega arith) in
-      let small : u .current < 128 = rw q (found-few l .1) in
       record {
         entry = rw on e;
-        previous = rw (on, lt-ltb (u .current) 128 small) (ap (λ (x : Entry). x .current) q ∙ ap (λ (i : ℕ). entryAt g c i .current) e);
+        previous = rw on (k .0 ∙ ap (λ (x : Entry). x .current) q ∙ ap (λ (i : ℕ). entryAt g c i .current) e);
+        over = rw on (k .1 ∙ ap isModified q ∙ ap (λ (i : ℕ). isModified (entryAt g c i)) e);
       }
 
-  pub housed-missed : g .blocks ≤ at → Housed g c b (record { entry = NOWHERE; previous = 255 })
-  unfolding cached previousOf
+  pub housed-missed : g .blocks ≤ at → Housed g c b (record { entry = NOWHERE; previous = 256 })
+  unfolding cached previousOf overOf
   housed-missed n =
       let off : ltb (findEntry g c b) (g .blocks) ≡ false = le-ltb (findEntry g c b) (g .blocks) (omega arith) in
-      record { entry = rw off; previous = rw off }
+      record { entry = rw off; previous = rw off; over = rw off }
 
 cond-not : {A : Type 0} (t : Bool) (x y : A) → cond t x y ≡ cond (not t) y x
 cond-not true x y = refl
@@ -108,38 +129,43 @@ number-key g c xs ns i k h l =
 -- what i turns have found
 pub record Found (g : Geometry) (c ns : List ℕ) (i : ℕ) (es ps : List ℕ) : Type 0 where
   pub entries : Lists (homeAt g c ns) es i
-  pub previous : (j : ℕ) → j < i → previousOf (getD ps j 0) ≡ oldBlock g c ns j
+  pub replaced : Replaced g c ns ps i
   pub long : (length es ≡ 128) × (length ps ≡ 128)
 
 pub found-start : (g : Geometry) (c ns es ps : List ℕ) → length es ≡ 128 → length ps ≡ 128 → Found g c ns 0 es ps
 found-start g c ns es ps a b = record {
   entries = lists-none (homeAt g c ns) es;
-  previous = λ j l. absurd (not-suc-le-zero l);
+  replaced = record { previous = λ j l. absurd (not-suc-le-zero l); over = λ j l. absurd (not-suc-le-zero l) };
   long = (a, b);
 }
 
 module _ (g : Geometry) (c ns : List ℕ) (i : ℕ) (es ps : List ℕ) (f : Found g c ns i es ps) where
   pub found-turn : (r : Home) → i < length ns → length ns ≤ 128 → Housed g c (getD ns i 0) r
       → Found g c ns (i + 1) (set es i (r .entry)) (set ps i (r .previous))
-  unfolding homeAt numberOf oldBlock uncachedAt
+  unfolding homeAt numberOf oldBlock overModified uncachedAt
   found-turn r l few h = record {
     entries = lists-more (homeAt g c ns) es i (r .entry) (omega (arith, f .long)) (f .entries) (h .entry);
-    previous =
-        λ j k.
-        ⊎-elim
-        (λ (q : j ≡ i).
-        subst (λ (x : ℕ). previousOf (getD (set ps i (r .previous)) x 0) ≡ oldBlock g c ns x) (sym q)
-        (ap previousOf (getD-set-same ps i (r .previous) 0 (omega (arith, f .long)))
-        ∙ h .previous ∙ cond-not (cached g c (getD ns i 0)) _ _))
-        (λ (q : j < i). ap previousOf (getD-set-other ps i j (r .previous) 0 (omega arith)) ∙ f .previous j q)
-        (last-or-before j i (rw add-one at k));
+    replaced = record {
+      previous = each previousOf (oldBlock g c ns) (h .previous ∙ cond-not (cached g c (getD ns i 0)) _ _) (f .replaced .previous);
+      over = each overOf (overModified g c ns) (h .over) (f .replaced .over);
+    };
     long = (length-set es i (r .entry) ∙ f .long .0, length-set ps i (r .previous) ∙ f .long .1);
   }
+    where
+      each : {A : Type 0} (of : ℕ → A) (is : ℕ → A) → of (r .previous) ≡ is i → ((j : ℕ) → j < i → of (getD ps j 0) ≡ is j)
+          → (j : ℕ) → j < i + 1 → of (getD (set ps i (r .previous)) j 0) ≡ is j
+      each of is now before j k =
+          ⊎-elim
+          (λ (q : j ≡ i).
+          subst (λ (x : ℕ). of (getD (set ps i (r .previous)) x 0) ≡ is x) (sym q)
+          (ap of (getD-set-same ps i (r .previous) 0 (omega (arith, f .long))) ∙ now))
+          (λ (q : j < i). ap of (getD-set-other ps i j (r .previous) 0 (omega arith)) ∙ before j q)
+          (last-or-before j i (rw add-one at k))
 
   pub found-end : length ns ≤ i → Homes g c ns es ps
   found-end l = record {
     entries = lists-all (homeAt g c ns) es i (length ns) l (f .entries);
-    previous = λ j b. f .previous j (omega arith);
+    replaced = record { previous = λ j b. f .replaced .previous j (omega arith); over = λ j b. f .replaced .over j (omega arith) };
     long = f .long .0;
   }
 

@@ -19,7 +19,7 @@ use Rattle.plan.specs.declared.Basis.{Basis}
 use Rattle.plan.specs.Met.{metRefusal, Met}
 use Rattle.plan.proofs.Order.{map-eq}
 
-module _ (c d : List ℕ) (m : Map) (arranged : Bool) (xs : List ℕ) (f : Fit) (o : Opened c f) where
+module _ (c d : List ℕ) (m : Map) (arranged : Bool) (xs : List ℕ) (f : Fit) (o : Opened 2 2 c f) where
   -- a refusal comes alone
   given : (t : ℕ) (r : Basis) → t ≡ metRefusal c d m arranged → (t ≡ 0 → ⊥) → r .refusal ≡ t → Met c d m arranged xs r
   given t r e h q = record {
@@ -28,26 +28,26 @@ module _ (c d : List ℕ) (m : Map) (arranged : Bool) (xs : List ℕ) (f : Fit) 
     searchable = λ z. absurd (h (sym q ∙ z));
   }
 
-  of-pair : (t : ℕ) → t ≡ pairRefusal c d → (t ≡ 0 → ⊥) → t ≡ metRefusal c d m arranged
+  of-pair : (t : ℕ) → t ≡ pairRefusal 2 c d → (t ≡ 0 → ⊥) → t ≡ metRefusal c d m arranged
   unfolding metRefusal
-  of-pair t e h = orElse-first t (pairRefusal c d) _ e h
+  of-pair t e h = orElse-first t (pairRefusal 2 c d) _ e h
 
   pub met-misfit : (r : Basis) → (f .refusal ≡ 0 → ⊥) → r .refusal ≡ f .refusal → Met c d m arranged xs r
   unfolding pairRefusal
-  met-misfit r h q = given (f .refusal) r (of-pair (f .refusal) (orElse-first (f .refusal) (fitRefusal c) _ (o .refusal-is) h) h) h q
+  met-misfit r h q = given (f .refusal) r (of-pair (f .refusal) (orElse-first (f .refusal) (fitRefusal 2 2 c) _ (o .refusal-is) h) h) h q
 
   module _ (z : f .refusal ≡ 0) (s : ℕ) (e : s ≡ diskRefusal (f .geometry) d) where
-    past-fit : (t : ℕ) → t ≡ diskRefusal (f .geometry) d orElse cardRefusal (f .geometry) c → t ≡ pairRefusal c d
+    past-fit : (t : ℕ) → t ≡ diskRefusal (f .geometry) d orElse cardRefusal (f .geometry) c → t ≡ pairRefusal 2 c d
     unfolding pairRefusal
     past-fit t p =
-        orElse-next t (fitRefusal c) _ (sym z ∙ o .refusal-is)
+        orElse-next t (fitRefusal 2 2 c) _ (sym z ∙ o .refusal-is)
         (p ∙ ap (λ (y : Geometry). diskRefusal y d orElse cardRefusal y c) (o .framed z .geometry-is))
 
     pub met-disk : (r : Basis) → (s ≡ 0 → ⊥) → r .refusal ≡ s → Met c d m arranged xs r
     met-disk r h q = given s r (of-pair s (past-fit s (orElse-first s (diskRefusal (f .geometry) d) _ e h)) h) h q
 
     module _ (y : s ≡ 0) (v : Verdict) (x : Checked (f .geometry) c xs v) where
-      past-disk : (t : ℕ) → t ≡ cardRefusal (f .geometry) c → t ≡ pairRefusal c d
+      past-disk : (t : ℕ) → t ≡ cardRefusal (f .geometry) c → t ≡ pairRefusal 2 c d
       past-disk t p = past-fit t (orElse-next t (diskRefusal (f .geometry) d) _ (sym y ∙ e) p)
 
       pub met-damaged : (r : Basis) → (v .refusal ≡ 0 → ⊥) → r .refusal ≡ v .refusal → Met c d m arranged xs r
@@ -56,7 +56,7 @@ module _ (c d : List ℕ) (m : Map) (arranged : Bool) (xs : List ℕ) (f : Fit) 
       module _ (w : v .refusal ≡ 0) (t : Bool) (k : t ≡ sameMap m (v .map)) where
         past-card : (p : ℕ) → p ≡ mapRefusal c m orElse refuse 16 arranged → p ≡ metRefusal c d m arranged
         unfolding metRefusal
-        past-card p h = orElse-next p (pairRefusal c d) _ (past-disk 0 (sym w ∙ x .refusal-is)) h
+        past-card p h = orElse-next p (pairRefusal 2 c d) _ (past-disk 0 (sym w ∙ x .refusal-is)) h
 
         same-is : sameMap m (mapOf c) ≡ t
         unfolding mapOf

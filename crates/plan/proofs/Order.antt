@@ -2,23 +2,21 @@
 use Prim.Native.Nat.{ℕ, zero, suc, _≤_, _<_}
 use mathlib.Core.List.{List}
 use mathlib.Core.Bool.{Bool, true, false, not, _&&_, _||_}
-use mathlib.Core.Logic.{⊎-elim}
 use mathlib.Core.Path.{_≡_, refl, sym, ap, subst, _∙_}
 use native.Mathlib.Omega.{arith}
-use lib.ListN.{length, getD, replicate, length-replicate}
+use lib.ListN.{length, replicate, length-replicate}
 use lib.Dec.{eqb}
-use borrow.Author.Tests.{eqb-true, ne-eqb, lt-ltb, le-ltb, not-true, not-false}
+use borrow.Author.Tests.{eqb-true, not-true, not-false}
 use Rattle.protocol.specs.declared.Geometry.{Geometry}
 use Rattle.protocol.specs.declared.Map.{Map}
-use Rattle.protocol.specs.Entry.{FRESH}
 use Rattle.protocol.specs.Layout.{goodGeometry, geometryOf}
 use Rattle.protocol.specs.Check.{refuse, _orElse_, fitRefusal, cardRefusal, choiceFits, choiceRefusal}
 use Rattle.protocol.specs.Search.{searchStart}
 use Rattle.protocol.specs.Map.{mapBy, isMarked, mapOf, freeCount, sameMap, mapRefusal}
 use Rattle.protocol.specs.Below.{anyBelow}
-use Rattle.protocol.specs.Commit.{newBlock, oldBlock, countFits, dataFits, numbersFit, numbersApart, roomFor, saveRefusal, commitRefusal}
+use Rattle.protocol.specs.Commit.{newBlock, countFits, dataFits, numbersFit, numbersApart, roomFor, saveRefusal, commitRefusal}
 use Rattle.protocol.proofs.Checks.{refuse-passed, refuse-failed, orElse-first, orElse-next, orElse-none, refuse-none}
-use Rattle.protocol.proofs.Below.{and-left, and-right, any-cong, below-or-above}
+use Rattle.protocol.proofs.Below.{and-left, and-right, any-cong}
 use Rattle.protocol.proofs.Words.{map-cong}
 use Rattle.freemap.specs.Bits.{takenAt}
 use Rattle.freemap.specs.Taken.{Took}
@@ -34,7 +32,7 @@ use Rattle.plan.proofs.Request.{room-is, quiet-room, quiet-fits}
 use Rattle.plan.proofs.Bounds.{passed, unused-room}
 use Rattle.plan.proofs.Housing.{housed-is}
 use Rattle.plan.proofs.Room.{enough-free, no-room, room as has-room, room-few, taken-block, taken-map, take-ready}
-use Rattle.plan.specs.Planned.{previousOf, released, Homes, housedAt, Planned, Examined, Admission, Findable, Prepared}
+use Rattle.plan.specs.Planned.{released, Homes, housedAt, Planned, Examined, Admission, Findable, Prepared}
 
 -- two maps that are the same, word for word
 pub map-eq : (m n : Map) → sameMap m n ≡ true → m ≡ n
@@ -43,17 +41,6 @@ map-eq m n h =
     let a = eqb-true _ _ (and-left (eqb (m .low) (n .low)) _ h) in
     let b = eqb-true _ _ (and-right (eqb (m .low) (n .low)) _ h) in
     λ t. record { low = a t; high = b t }
-
--- a byte and the previous block that it stands for are the same data blocks
-byte-block : (x o d : ℕ) → d < 128 → previousOf x ≡ o → eqb x d ≡ eqb o d
-unfolding previousOf
-byte-block x o d l h =
-    ⊎-elim
-    (λ (b : x < 128). let e : x ≡ o = sym (rw (lt-ltb x 128 b)) ∙ h in ap (λ (y : ℕ). eqb y d) e)
-    (λ (b : 128 ≤ x).
-    let e : FRESH ≡ o = sym (rw (le-ltb x 128 b)) ∙ h in
-    ne-eqb x d (omega arith) ∙ sym (ne-eqb o d (omega arith)))
-    (below-or-above x 128)
 
 -- what stands behind a refusal that is one of several
 pub orElse-assoc : (a b c : ℕ) → (a orElse b) orElse c ≡ a orElse (b orElse c)
@@ -80,10 +67,10 @@ request-is g ns bs ch size room ok good l k =
     orElse refuse 14 ok))
 
 -- commit asks of the choice only whether it fits, and only of a card that does
-choice-alike : (c : List ℕ) (m : Map) (ns bs ch dh : List ℕ) → (fitRefusal c ≡ 0 → choiceFits (geometryOf c) ch ≡ choiceFits (geometryOf c) dh)
-    → commitRefusal c m ns bs ch ≡ commitRefusal c m ns bs dh
+choice-alike : (c : List ℕ) (m : Map) (ns bs ch dh : List ℕ) → (fitRefusal 2 2 c ≡ 0 → choiceFits (geometryOf c) ch ≡ choiceFits (geometryOf c) dh)
+    → commitRefusal 2 c m ns bs ch ≡ commitRefusal 2 c m ns bs dh
 unfolding commitRefusal saveRefusal choiceRefusal
-choice-alike c m ns bs ch dh f = go (fitRefusal c) refl
+choice-alike c m ns bs ch dh f = go (fitRefusal 2 2 c) refl
   where
     behind : Bool → ℕ
     behind b =
@@ -96,7 +83,7 @@ choice-alike c m ns bs ch dh f = go (fitRefusal c) refl
         orElse refuse 11 (numbersApart ns)
         orElse refuse 14 (roomFor (geometryOf c) c (length ns))
 
-    go : (r : ℕ) → fitRefusal c ≡ r → r orElse behind (choiceFits (geometryOf c) ch) ≡ r orElse behind (choiceFits (geometryOf c) dh)
+    go : (r : ℕ) → fitRefusal 2 2 c ≡ r → r orElse behind (choiceFits (geometryOf c) ch) ≡ r orElse behind (choiceFits (geometryOf c) dh)
     go zero e = unfold _orElse_ in ap behind (f e)
     go (suc r) e = unfold _orElse_ in refl
 
@@ -140,14 +127,14 @@ module _ (g : Geometry) (c ns : List ℕ) (good : goodGeometry g ≡ true) (m : 
           let n = length ns in
           record {
             entries = λ i l. k i l ∙ housed-is g c ns zs good (w .entries) i l;
-            previous = w .previous;
+            replaced = w .replaced;
             blocks = λ i k. x .blocks i k ∙ taken-block g c good m q (freeCount m) refl n enough start b i k;
             map-is =
                 r _ (x .map ∙ taken-map g c good m q (freeCount m) refl n enough start b)
                 ∙ map-cong _ _
                 (λ d k.
                 ap (λ (o : Bool). (isMarked g c d || anyBelow (λ j. eqb (newBlock g c j) d) n) && not o)
-                (any-cong _ _ n (λ j l. byte-block (getD ps j 0) (oldBlock g c ns j) d k (w .previous j l))));
+                (any-cong _ _ n (λ j l. ap (λ (o : ℕ). eqb o d) (w .replaced .previous j l))));
           }
 
 -- ---- the card's refusals before them
@@ -186,22 +173,22 @@ module _ (g : Geometry) (c xs : List ℕ) (m : Map) (ns : List ℕ) (size room :
 
 -- ---- all of them
 
-module _ (c : List ℕ) (m : Map) (ns : List ℕ) (size room : ℕ) (xs : List ℕ) (f : Fit) (o : Opened c f) where
+module _ (c : List ℕ) (m : Map) (ns : List ℕ) (size room : ℕ) (xs : List ℕ) (f : Fit) (o : Opened 2 2 c f) where
   pub admit-misfit : (u : Admitted) → (f .refusal ≡ 0 → ⊥) → u .refusal ≡ f .refusal → Admission c m ns size room xs u
   unfolding commitRefusal
   admit-misfit u n q = record {
-    refusal-is = λ bs ch l k. q ∙ orElse-first (f .refusal) (fitRefusal c) _ (o .refusal-is) n;
+    refusal-is = λ bs ch l k. q ∙ orElse-first (f .refusal) (fitRefusal 2 2 c) _ (o .refusal-is) n;
     geometry-is = λ z. absurd (n (sym q ∙ z));
     findable = λ z. absurd (n (sym q ∙ z));
   }
 
   module _ (z : f .refusal ≡ 0) (r : ℕ) (x : Examined (f .geometry) c m ns size room xs r) where
-    refusal-of : (bs ch : List ℕ) → length bs ≡ size → choiceRoom ch ≡ room → r ≡ commitRefusal c m ns bs ch
+    refusal-of : (bs ch : List ℕ) → length bs ≡ size → choiceRoom ch ≡ room → r ≡ commitRefusal 2 c m ns bs ch
     unfolding commitRefusal mapRefusal mapOf sizedRefusal
     refusal-of bs ch l k =
         let q = o .framed z .geometry-is in
         let good = ap goodGeometry (sym q) ∙ o .framed z .fitted .good in
-        orElse-next r (fitRefusal c) _ (sym z ∙ o .refusal-is)
+        orElse-next r (fitRefusal 2 2 c) _ (sym z ∙ o .refusal-is)
         (x .refusal-is
         ∙ (λ t. cardRefusal (q t) c orElse refuse 15 (sameMap m (mapBy (isMarked (q t) c))) orElse sizedRefusal (q t) c ns size room)
         ∙ ap (λ (s : ℕ). cardRefusal (geometryOf c) c orElse refuse 15 (sameMap m (mapBy (isMarked (geometryOf c) c))) orElse s)
@@ -214,7 +201,7 @@ module _ (c : List ℕ) (m : Map) (ns : List ℕ) (size room : ℕ) (xs : List �
       quiet : List ℕ
       quiet = replicate room 0
 
-      none : commitRefusal c m ns bytes quiet ≡ 0
+      none : commitRefusal 2 c m ns bytes quiet ≡ 0
       unfolding bytes quiet
       none = sym (refusal-of (replicate size 0) (replicate room 0) (length-replicate {A = ℕ} size 0) (quiet-room room)) ∙ y
 
@@ -222,7 +209,7 @@ module _ (c : List ℕ) (m : Map) (ns : List ℕ) (size room : ℕ) (xs : List �
       unfolding commitRefusal saveRefusal
       late =
           let g = geometryOf c in
-          let w = orElse-none (fitRefusal c) _ none .1 in
+          let w = orElse-none (fitRefusal 2 2 c) _ none .1 in
           let v = orElse-none (mapRefusal c m) _ (orElse-none (cardRefusal g c) _ w .1) .1 in
           orElse-none (choiceRefusal g quiet) _ (orElse-none (refuse 9 (dataFits g ns bytes)) _ (orElse-none (refuse 8 (countFits g ns)) _ v .1) .1) .1
 
@@ -255,7 +242,7 @@ module _ (c : List ℕ) (m : Map) (ns : List ℕ) (size room : ℕ) (xs : List �
 
 module _ (c : List ℕ) (m : Map) (ns : List ℕ) (size : ℕ) (xs : List ℕ) (a : Admitted) (x : Admission c m ns size 512 xs a) where
   -- the choice of 512 zeros fits, so any that fits is refused as it is
-  prepared-refusal : (bs ch : List ℕ) → length bs ≡ size → choiceFits (geometryOf c) ch ≡ true → a .refusal ≡ commitRefusal c m ns bs ch
+  prepared-refusal : (bs ch : List ℕ) → length bs ≡ size → choiceFits (geometryOf c) ch ≡ true → a .refusal ≡ commitRefusal 2 c m ns bs ch
   prepared-refusal bs ch l k =
       x .refusal-is bs (replicate 512 0) l (quiet-room 512) ∙ choice-alike c m ns bs (replicate 512 0) ch (λ z. quiet-fits c z ∙ sym k)
 
@@ -263,7 +250,7 @@ module _ (c : List ℕ) (m : Map) (ns : List ℕ) (size : ℕ) (xs : List ℕ) (
   prepared-refused u o q = record {
     refusal-is = λ bs ch l k. q ∙ prepared-refusal bs ch l k;
     entries = λ z. absurd (o (sym q ∙ z));
-    previous = λ z. absurd (o (sym q ∙ z));
+    replaced = λ z. absurd (o (sym q ∙ z));
     blocks = λ z. absurd (o (sym q ∙ z));
   }
 
@@ -274,6 +261,6 @@ module _ (c : List ℕ) (m : Map) (ns : List ℕ) (size : ℕ) (xs : List ℕ) (
       record {
         refusal-is = λ bs ch l k. sym z ∙ prepared-refusal bs ch l k;
         entries = λ v. w .entries;
-        previous = λ v. w .previous;
+        replaced = λ v. w .replaced;
         blocks = λ v. w .blocks;
       }

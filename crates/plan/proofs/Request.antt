@@ -121,10 +121,10 @@ zeros-fit g =
     and-both (le-leb n (length {A = ℕ} (replicate n 0)) k) (all-quiet n)
 
 -- 512 of them are enough on every card that fits
-pub quiet-fits : (c : List ℕ) → fitRefusal c ≡ 0 → choiceFits (geometryOf c) (replicate 512 0) ≡ true
+pub quiet-fits : (c : List ℕ) → fitRefusal 2 2 c ≡ 0 → choiceFits (geometryOf c) (replicate 512 0) ≡ true
 quiet-fits c z =
     let g = geometryOf c in
-    let good = fit-fitted c g 0 (sym z) refl refl .good in
+    let good = fit-fitted 2 2 c g 0 (sym z) refl refl .good in
     let l : Limits g = limits g good in
     let k : blockSize g / 8 ≤ 512 = omega arith in
     sym (room-is g (replicate 512 0) 512 good (quiet-room 512)) ∙ enough-room g k

@@ -15,7 +15,7 @@ use Rattle.plan.specs.declared.Basis.{Basis}
 
 -- 1 to 7, 15, and 16 where the table is not arranged
 unfoldable pub metRefusal : List ℕ → List ℕ → Map → Bool → ℕ
-metRefusal c d m arranged = pairRefusal c d orElse mapRefusal c m orElse refuse 16 arranged
+metRefusal c d m arranged = pairRefusal 2 c d orElse mapRefusal c m orElse refuse 16 arranged
 
 -- what a search goes on from: a card that passed its checks, its Head, the index of its numbers, its map and how many blocks are free
 pub record Searchable (g : Geometry) (c : List ℕ) (h : ℕ) (xs : List ℕ) (m : Map) (free : ℕ) : Type 0 where

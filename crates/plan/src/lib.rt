@@ -1,4 +1,5 @@
 // The plan of a commit, from the card at entry: its own refusals, and for each block its entry, its previous and its new data block.
+use protocol::Entry;
 use protocol::Geometry;
 use protocol::Map;
 use ring::Fit;
@@ -9,6 +10,7 @@ ghost use Prim.Native.Nat.{ℕ, _+_, _*_, _/_, _%_, _≤_, _<_};
 ghost use lib.ListN.{length};
 ghost use Rattle.protocol.specs.Below.{around};
 ghost use Rattle.protocol.specs.Layout.{goodGeometry, blockSize};
+ghost use Rattle.protocol.specs.Entry.{isModified};
 ghost use Rattle.protocol.specs.Search.{unusedAt, searchStart, unusedEntries};
 ghost use Rattle.protocol.specs.Map.{mapBy, isMarked, freeCount};
 ghost use Rattle.protocol.specs.Commit.{numbersFit, newNumber, numbersApart, roomFor};
@@ -19,7 +21,7 @@ ghost use Rattle.checks.specs.Passed.{Indexed};
 ghost use Rattle.plan.specs.Request.{choiceRoom, requestRefusal, sizedRefusal};
 ghost use Rattle.plan.specs.Walked.{Reached};
 ghost use Rattle.plan.specs.Met.{Met};
-ghost use Rattle.plan.specs.Planned.{released, Housed, Homes, housedAt, Planned, Examined, Admission, Plannable, Prepared};
+ghost use Rattle.plan.specs.Planned.{previousOf, overOf, released, Housed, Homes, housedAt, Planned, Examined, Admission, Plannable, Prepared};
 
 // Not 10: each number is below D.
 fn numbers_fit(g: Geometry, numbers: &[u64]) -> bool
@@ -152,10 +154,23 @@ pub fn next_unused(g: Geometry, card: &[u8], start: usize, from: usize) -> usize
     n
 }
 
-// Where one block of a commit is cached: its entry and its data block as bytes, 255 for both where it is not.
+// Where one block of a commit is cached: its entry's place, 255 where it is not; and what a commit of it replaces: its data block, with 128 added
+// where it is modified, and 256 where it is not cached.
 pub struct Home {
     pub entry: u8,
-    pub previous: u8,
+    pub previous: u16,
+}
+
+// An entry's data block, with 128 added where it is modified.
+fn replaced(e: Entry) -> u16
+    requires { ⌜ e .current < 128 ⌝ }
+    ensures { λ r. ⌜ (previousOf r ≡ e .current) × (overOf r ≡ isModified e) ⌝ }
+{
+    let block = e.current as u16;
+    if codec::is_modified(e) {
+        return block + 128;
+    }
+    block
 }
 
 fn home_of(g: Geometry, card: &[u8], index: &[u8; 640], b: u64) -> Home
@@ -166,15 +181,14 @@ fn home_of(g: Geometry, card: &[u8], index: &[u8; 640], b: u64) -> Home
     if at < g.blocks as usize {
         let e = checks::entry_of(g, card, at);
         let found = at as u8;
-        let current = e.current as u8;
         return Home {
             entry: found,
-            previous: current,
+            previous: replaced(e),
         };
     }
     Home {
         entry: 255,
-        previous: 255,
+        previous: 256,
     }
 }
 
@@ -185,7 +199,7 @@ pub fn find_homes(
     index: &[u8; 640],
     numbers: &[u64],
     entries: &mut [u8; 128],
-    previous: &mut [u8; 128],
+    previous: &mut [u16; 128],
 )
     requires { ⌜ Indexed g (now card) (now index) × (numbersFit g (now numbers) ≡ true) × (length (now numbers) ≤ 128) × (length (now entries) ≡ 128) × (length (now previous) ≡ 128) ⌝ }
     ensures { λ _. ⌜ Homes g (now (card .entry)) (now (numbers .entry)) (now (entries .exit)) (now (previous .exit)) ⌝ }
@@ -217,14 +231,14 @@ fn house(g: Geometry, card: &[u8], start: usize, n: usize, entries: &mut [u8; 12
     }
 }
 
-fn wide(x: u8) -> usize
+fn wide(x: u16) -> usize
     ensures { λ r. ⌜ r ≡ x ⌝ }
 {
     x as usize
 }
 
 // The map with the bits of the first n previous blocks cleared: a finished commit gives them up. FRESH is no block.
-pub fn release(map: Map, previous: &[u8; 128], n: usize) -> Map
+pub fn release(map: Map, previous: &[u16; 128], n: usize) -> Map
     requires { ⌜ n ≤ 128 ⌝ }
     ensures { λ r. ⌜ ((p : ℕ → Bool) → map ≡ mapBy p → r ≡ mapBy (released p (now (previous .entry)) n)) ⌝ }
 {
@@ -233,8 +247,8 @@ pub fn release(map: Map, previous: &[u8; 128], n: usize) -> Map
     while i < n {
         let d = wide(previous[i]);
         i += 1;
-        if d < 128 {
-            left = freemap::without(left, d);
+        if d < 256 {
+            left = freemap::without(left, d % 128);
         }
     }
     left
@@ -294,7 +308,7 @@ pub fn admit(
     requires { ⌜ Blank (now index) ⌝ }
     ensures { λ r. ⌜ Admission (now (card .entry)) map (now (numbers .entry)) size room (now (index .exit)) r ⌝ }
 {
-    let f = ring::fit_of(card);
+    let f = ring::fit_of(card, 2, 2);
     let g = f.geometry;
     if f.refusal != 0 {
         return Admitted {
@@ -335,7 +349,7 @@ pub fn meet(card: &[u8], disk: &[u8], map: Map, arranged: bool, index: &mut [u8;
     requires { ⌜ Blank (now index) ⌝ }
     ensures { λ r. ⌜ Met (now (card .entry)) (now (disk .entry)) map arranged (now (index .exit)) r ⌝ }
 {
-    let f = ring::fit_of(card);
+    let f = ring::fit_of(card, 2, 2);
     let g = f.geometry;
     if f.refusal != 0 {
         return stopped(g, f.refusal);
@@ -372,7 +386,7 @@ pub fn plan_of(
     map: Map,
     numbers: &[u64],
     entries: &mut [u8; 128],
-    previous: &[u8; 128],
+    previous: &[u16; 128],
     blocks: &mut [u8; 128],
 ) -> Map
     requires { ⌜ Plannable g (now card) head map (now numbers) × Homes g (now card) (now numbers) (now entries) (now previous) × (length (now blocks) ≡ 128) ⌝ }
@@ -388,7 +402,7 @@ pub fn plan_of(
 // A plan as a whole, for whoever shows it.
 pub struct Plan {
     pub entries: [u8; 128],
-    pub previous: [u8; 128],
+    pub previous: [u16; 128],
     pub blocks: [u8; 128],
 }
 
@@ -405,7 +419,7 @@ pub fn unplanned(refusal: u8) -> Saving
         refusal: refusal,
         plan: Plan {
             entries: [0u8; 128],
-            previous: [0u8; 128],
+            previous: [0u16; 128],
             blocks: [0u8; 128],
         },
     }
@@ -421,7 +435,7 @@ pub fn prepare(card: &[u8], map: Map, numbers: &[u64], size: usize) -> Saving
         return unplanned(a.refusal);
     }
     let mut entries = [0u8; 128];
-    let mut previous = [0u8; 128];
+    let mut previous = [0u16; 128];
     let mut blocks = [0u8; 128];
     let g = a.geometry;
     find_homes(g, card, &index, numbers, &mut entries, &mut previous);

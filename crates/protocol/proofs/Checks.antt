@@ -94,9 +94,9 @@ pub record Allowed (n d : ℕ) (e : Entry) : Type 0 where
   pub current : e .current < n
   pub previous : (e .previous < n) ⊎ (e .previous ≡ FRESH)
 
-pub allowed : (n d : ℕ) (e : Entry) → 0 < n → 0 < d → goodEntry n d e ≡ true → Allowed n d e
-allowed n d e hn hd h =
+pub allowed : (v n d : ℕ) (e : Entry) → 0 < n → 0 < d → goodEntry v n d e ≡ true → Allowed n d e
+allowed v n d e hn hd h =
     ⊎-elim
     (λ (q : e ≡ unused). subst (Allowed n d) (sym q) (record { number = hd; current = hn; previous = inl hn }))
-    (λ (u : UsedEntry n d e). record { number = u .numberBelow; current = u .currentBelow; previous = u .previousBelow })
-    (good-cases n d e h)
+    (λ (u : UsedEntry v n d e). record { number = u .numberBelow; current = u .currentBelow; previous = u .previousBelow })
+    (good-cases v n d e h)

@@ -15,7 +15,7 @@ use Rattle.numbers.proofs.Laws.{be-bytes, bytes-be, bytes-part, length-part, ge
 use Rattle.protocol.specs.declared.Geometry.{Geometry}
 use Rattle.protocol.specs.declared.Entry.{Entry}
 use Rattle.protocol.specs.declared.Decoded.the-variants.{Fields, Refused}
-use Rattle.protocol.specs.Layout.{between, goodK, goodSlots, goodBlocks, goodDisk, goodGeometry, cardLength, headerBytes, geometryOf, zeroFrom, goodHeader}
+use Rattle.protocol.specs.Layout.{between, goodK, goodSlots, goodBlocks, goodDisk, goodGeometry, cardLength, headerBytes, geometryOf, versionOf, zeroFrom, goodHeader}
 use Rattle.protocol.specs.Entry.{FRESH, entryOf, unused, entryBytes, entryIn, goodEntry}
 use Rattle.protocol.specs.Check.{refuse, _orElse_}
 use Rattle.protocol.specs.Format.{formatted, entryRefusal, decoded, encoded}
@@ -32,21 +32,21 @@ pub record EntryFits (e : Entry) : Type 0 where
   pub previous : e .previous < 256 ^ 4
   pub current : e .current < 256 ^ 4
 
-used-fits : (n d : ℕ) (e : Entry) → n ≤ 128 → d ≤ 65536 → UsedEntry n d e → EntryFits e
-used-fits n d e hn hd u = record {
+used-fits : (v n d : ℕ) (e : Entry) → n ≤ 128 → d ≤ 65536 → UsedEntry v n d e → EntryFits e
+used-fits v n d e hn hd u = record {
   number = omega arith;
   previous = ⊎-elim (λ (q : e .previous < n). omega arith) (λ (q : e .previous ≡ FRESH). omega arith) (u .previousBelow);
   current = omega arith;
 }
 
-pub good-fits : (n d : ℕ) (e : Entry) → goodBlocks n ≡ true → goodDisk d ≡ true → goodEntry n d e ≡ true → EntryFits e
+pub good-fits : (v n d : ℕ) (e : Entry) → goodBlocks n ≡ true → goodDisk d ≡ true → goodEntry v n d e ≡ true → EntryFits e
 unfolding between goodK goodSlots goodGeometry
-good-fits n d e hn hd h =
+good-fits v n d e hn hd h =
     let l : Limits (record { k = 9; slots = 8; blocks = n; disk = d }) = limits _ (and-both hn hd) in
     ⊎-elim
     (λ (q : e ≡ unused). subst EntryFits (sym q) (record { number = omega arith; previous = omega arith; current = omega arith }))
-    (used-fits n d e (l .blocks .1) (l .disk .1))
-    (good-cases n d e h)
+    (used-fits v n d e (l .blocks .1) (l .disk .1))
+    (good-cases v n d e h)
 
 pub length-entry : (e : Entry) → length (entryBytes e) ≡ 16
 unfolding entryBytes bytesBE
@@ -120,32 +120,32 @@ holds r true e = refl
 holds r false e = absurd (omega arith)
 
 -- an entry that is not refused fits its bytes
-pub allowed-fits : (n d : ℕ) (e : Entry) → entryRefusal n d e ≡ 0 → EntryFits e
+pub allowed-fits : (v n d : ℕ) (e : Entry) → entryRefusal v n d e ≡ 0 → EntryFits e
 unfolding entryRefusal
-allowed-fits n d e h =
-    let (a, b) = none-of (refuse 1 (goodBlocks n && goodDisk d)) (refuse 5 (goodEntry n d e)) h in
-    let limits = holds 0 (goodBlocks n && goodDisk d) a in
-    good-fits n d e (and-left (goodBlocks n) _ limits) (and-right (goodBlocks n) _ limits) (holds 4 (goodEntry n d e) b)
+allowed-fits v n d e h =
+    let (a, b) = none-of (refuse 1 (between 1 2 v && (goodBlocks n && goodDisk d))) (refuse 5 (goodEntry v n d e)) h in
+    let limits = and-right (between 1 2 v) _ (holds 0 (between 1 2 v && (goodBlocks n && goodDisk d)) a) in
+    good-fits v n d e (and-left (goodBlocks n) _ limits) (and-right (goodBlocks n) _ limits) (holds 4 (goodEntry v n d e) b)
 
-bytes-allowed : (n d : ℕ) (e : Entry) → entryRefusal n d e ≡ 0 → encoded n d e .bytes ≡ entryBytes e
+bytes-allowed : (v n d : ℕ) (e : Entry) → entryRefusal v n d e ≡ 0 → encoded v n d e .bytes ≡ entryBytes e
 unfolding encoded
-bytes-allowed n d e h = rw (eq-eqb (entryRefusal n d e) 0 h)
+bytes-allowed v n d e h = rw (eq-eqb (entryRefusal v n d e) 0 h)
 
-pub written-read : (n d : ℕ) (e : Entry) → entryRefusal n d e ≡ 0 → decoded n d (encoded n d e .bytes) ≡ Fields e
+pub written-read : (v n d : ℕ) (e : Entry) → entryRefusal v n d e ≡ 0 → decoded v n d (encoded v n d e .bytes) ≡ Fields e
 unfolding decoded
-written-read n d e h =
-    ap (λ (bs : List ℕ). decoded n d bs) (bytes-allowed n d e h)
-    ∙ rw (entry-of-bytes e (allowed-fits n d e h), eq-eqb (entryRefusal n d e) 0 h)
+written-read v n d e h =
+    ap (λ (bs : List ℕ). decoded v n d bs) (bytes-allowed v n d e h)
+    ∙ rw (entry-of-bytes e (allowed-fits v n d e h), eq-eqb (entryRefusal v n d e) 0 h)
 
-pub read-written : (n d : ℕ) (bs : List ℕ) (e : Entry) → length bs ≡ 16 → Bytes bs → decoded n d bs ≡ Fields e → encoded n d e .bytes ≡ bs
+pub read-written : (v n d : ℕ) (bs : List ℕ) (e : Entry) → length bs ≡ 16 → Bytes bs → decoded v n d bs ≡ Fields e → encoded v n d e .bytes ≡ bs
 unfolding decoded
-read-written n d bs e l b h = go (eqb (entryRefusal n d (entryIn bs 0)) 0) refl h
+read-written v n d bs e l b h = go (eqb (entryRefusal v n d (entryIn bs 0)) 0) refl h
   where
-    go : (t : Bool) → eqb (entryRefusal n d (entryIn bs 0)) 0 ≡ t
-        → cond t (Fields (entryIn bs 0)) (Refused (entryRefusal n d (entryIn bs 0))) ≡ Fields e → encoded n d e .bytes ≡ bs
+    go : (t : Bool) → eqb (entryRefusal v n d (entryIn bs 0)) 0 ≡ t
+        → cond t (Fields (entryIn bs 0)) (Refused (entryRefusal v n d (entryIn bs 0))) ≡ Fields e → encoded v n d e .bytes ≡ bs
     go true q p =
         let r : entryIn bs 0 ≡ e = cc in
-        bytes-allowed n d e (rw r at (eqb-true (entryRefusal n d (entryIn bs 0)) 0 q))
+        bytes-allowed v n d e (rw r at (eqb-true (entryRefusal v n d (entryIn bs 0)) 0 q))
         ∙ ap entryBytes (sym r)
         ∙ entry-write-back bs 0 b (omega arith)
         ∙ part-all bs 16 l
@@ -153,17 +153,17 @@ read-written n d bs e l b h = go (eqb (entryRefusal n d (entryIn bs 0)) 0) refl 
 
 -- ---- the header
 
-pub length-header : (g : Geometry) → length (headerBytes g) ≡ 64
+pub length-header : (v : ℕ) (g : Geometry) → length (headerBytes v g) ≡ 64
 unfolding headerBytes bytesBE
-length-header g = refl
+length-header v g = refl
 
-module _ (g : Geometry) (c : List ℕ) (good : goodGeometry g ≡ true) (stands : part c 0 64 ≡ headerBytes g) where
+module _ (v : ℕ) (g : Geometry) (c : List ℕ) (good : goodGeometry g ≡ true) (stands : part c 0 64 ≡ headerBytes v g) where
   -- a number and a byte of the header
-  header-number : (from w : ℕ) → from + w ≤ 64 → numberAt c from w ≡ numberAt (headerBytes g) from w
+  header-number : (from w : ℕ) → from + w ≤ 64 → numberAt c from w ≡ numberAt (headerBytes v g) from w
   header-number from w h =
       ap (λ (i : ℕ). numberAt c i w) (omega arith) ∙ sym (number-part c 0 64 from w h) ∙ ap (λ (r : List ℕ). numberAt r from w) stands
 
-  header-byte : (i : ℕ) → i < 64 → getD c i 0 ≡ getD (headerBytes g) i 0
+  header-byte : (i : ℕ) → i < 64 → getD c i 0 ≡ getD (headerBytes v g) i 0
   header-byte i h =
       ap (λ (k : ℕ). getD c k 0) (omega arith) ∙ sym (getD-part c 0 64 i h) ∙ ap (λ (r : List ℕ). getD r i 0) stands
 
@@ -179,15 +179,19 @@ module _ (g : Geometry) (c : List ℕ) (good : goodGeometry g ≡ true) (stands 
         disk = (header-number 12 4 (omega arith) ∙ be-bytes 4 (g .disk) (omega arith)) t;
       }
 
-  pub good-header : goodHeader c ≡ true
+  pub version-of-header : versionOf c ≡ v
+  unfolding versionOf headerBytes bytesBE
+  version-of-header = header-byte 4 (omega arith)
+
+  pub good-header : (low high : ℕ) → between low high v ≡ true → goodHeader low high c ≡ true
   unfolding goodHeader headerBytes beFrom be bytesBE part numberAt zeroFrom
-  good-header =
+  good-header low high h =
       and-both (eq-eqb _ _ (header-number 0 4 (omega arith)))
-      (and-both (eq-eqb _ _ (header-byte 4 (omega arith)))
+      (and-both (ap (between low high) version-of-header ∙ h)
       (and-both (ap goodGeometry geometry-of-header ∙ good)
       (all-of (zeroFrom c 16) 48
       (λ i h.
-      eq-eqb _ _ (header-byte (16 + i) (omega arith) ∙ sym (getD-drop 16 (headerBytes g) i 0) ∙ getD-replicate 48 i 0 0 h)))))
+      eq-eqb _ _ (header-byte (16 + i) (omega arith) ∙ sym (getD-drop 16 (headerBytes v g) i 0) ∙ getD-replicate 48 i 0 0 h)))))
 
 -- ---- the header's bytes alone decide
 
@@ -216,58 +220,62 @@ module _ (c c′ : List ℕ) (same : part c′ 0 64 ≡ part c 0 64) where
         disk = number-same 12 4 (omega arith) t;
       }
 
-  pub header-same : goodHeader c′ ≡ goodHeader c
+  pub version-same : versionOf c′ ≡ versionOf c
+  unfolding versionOf
+  version-same = byte-same 4 (omega arith)
+
+  pub header-same : (low high : ℕ) → goodHeader low high c′ ≡ goodHeader low high c
   unfolding goodHeader zeroFrom
-  header-same =
+  header-same low high =
       let zeros = all-cong (zeroFrom c′ 16) (zeroFrom c 16) 48 (λ i h. ap (λ (b : ℕ). eqb b 0) (byte-same (16 + i) (omega arith))) in
       λ t.
       eqb (number-same 0 4 (omega arith) t) 64
-      && (eqb (byte-same 4 (omega arith) t) 1 && (goodGeometry (geometry-same t) && zeros t))
+      && (between low high (version-same t) && (goodGeometry (geometry-same t) && zeros t))
 
 -- ---- format
 
 -- what format writes: the header and zeros
-abbrev front : Geometry → List ℕ
-front g = headerBytes g ++ replicate (64 + 8 * g .slots + 16 * g .blocks) 0
+abbrev front : ℕ → Geometry → List ℕ
+front v g = headerBytes v g ++ replicate (64 + 8 * g .slots + 16 * g .blocks) 0
 
-length-front : (g : Geometry) → length (front g) ≡ 128 + 8 * g .slots + 16 * g .blocks
-length-front g =
-    length-append (headerBytes g) _ ∙ (λ t. length-header g t + length-replicate {A = ℕ} (64 + 8 * g .slots + 16 * g .blocks) 0 t) ∙ omega arith
+length-front : (v : ℕ) (g : Geometry) → length (front v g) ≡ 128 + 8 * g .slots + 16 * g .blocks
+length-front v g =
+    length-append (headerBytes v g) _ ∙ (λ t. length-header v g t + length-replicate {A = ℕ} (64 + 8 * g .slots + 16 * g .blocks) 0 t) ∙ omega arith
 
-pub length-formatted : (g : Geometry) (c : List ℕ) → length (formatted g c) ≡ length c
+pub length-formatted : (v : ℕ) (g : Geometry) (c : List ℕ) → length (formatted v g c) ≡ length c
 unfolding formatted
-length-formatted g c = length-patch c 0 (front g)
+length-formatted v g c = length-patch c 0 (front v g)
 
-pub kept-formatted : (g : Geometry) (c : List ℕ) (at n : ℕ) → 128 + 8 * g .slots + 16 * g .blocks ≤ at
-    → part (formatted g c) at n ≡ part c at n
+pub kept-formatted : (v : ℕ) (g : Geometry) (c : List ℕ) (at n : ℕ) → 128 + 8 * g .slots + 16 * g .blocks ≤ at
+    → part (formatted v g c) at n ≡ part c at n
 unfolding formatted
-kept-formatted g c at n h = part-patch-after c 0 (front g) at n (omega (arith, length-front g))
+kept-formatted v g c at n h = part-patch-after c 0 (front v g) at n (omega (arith, length-front v g))
 
-module _ (g : Geometry) (c : List ℕ) (l : length c ≡ cardLength g) where
-  pub header-formatted : part (formatted g c) 0 64 ≡ headerBytes g
+module _ (v : ℕ) (g : Geometry) (c : List ℕ) (l : length c ≡ cardLength g) where
+  pub header-formatted : part (formatted v g c) 0 64 ≡ headerBytes v g
   unfolding formatted cardLength
   header-formatted =
-      ap (λ (r : List ℕ). part r 0 64) (patch-append c 0 (headerBytes g) _)
-      ∙ part-patch-before (patch c 0 (headerBytes g)) (0 + length (headerBytes g)) _ 0 64 (omega (arith, length-header g))
-      ∙ part-patch-same c 0 (headerBytes g) 64 (length-header g) (omega arith)
+      ap (λ (r : List ℕ). part r 0 64) (patch-append c 0 (headerBytes v g) _)
+      ∙ part-patch-before (patch c 0 (headerBytes v g)) (0 + length (headerBytes v g)) _ 0 64 (omega (arith, length-header v g))
+      ∙ part-patch-same c 0 (headerBytes v g) 64 (length-header v g) (omega arith)
 
   -- a byte after the header that format writes
-  zero-byte : (i : ℕ) → 64 ≤ i → i < 128 + 8 * g .slots + 16 * g .blocks → getD (formatted g c) i 0 ≡ 0
+  zero-byte : (i : ℕ) → 64 ≤ i → i < 128 + 8 * g .slots + 16 * g .blocks → getD (formatted v g c) i 0 ≡ 0
   unfolding formatted cardLength headerBytes bytesBE
   zero-byte i k h =
       let past : i ≡ 64 + (i - 64) = omega arith in
-      ap (λ (j : ℕ). getD (patch c 0 (front g)) j 0) (omega arith)
-      ∙ getD-patch-in c 0 (front g) i (omega (arith, length-front g)) (omega arith)
-      ∙ ap (λ (j : ℕ). getD (front g) j 0) past
-      ∙ sym (getD-drop 64 (front g) (i - 64) 0)
+      ap (λ (j : ℕ). getD (patch c 0 (front v g)) j 0) (omega arith)
+      ∙ getD-patch-in c 0 (front v g) i (omega (arith, length-front v g)) (omega arith)
+      ∙ ap (λ (j : ℕ). getD (front v g) j 0) past
+      ∙ sym (getD-drop 64 (front v g) (i - 64) 0)
       ∙ getD-replicate (64 + 8 * g .slots + 16 * g .blocks) (i - 64) 0 0 (omega arith)
 
-  pub zero-formatted : (at n : ℕ) → at + n ≤ 128 + 8 * g .slots + 16 * g .blocks → 64 ≤ at → part (formatted g c) at n ≡ replicate n 0
+  pub zero-formatted : (at n : ℕ) → at + n ≤ 128 + 8 * g .slots + 16 * g .blocks → 64 ≤ at → part (formatted v g c) at n ≡ replicate n 0
   unfolding cardLength
   zero-formatted at n h k =
-      let e : length (part (formatted g c) at n) ≡ n = length-part (formatted g c) at n (omega (arith, length-formatted g c)) in
+      let e : length (part (formatted v g c) at n) ≡ n = length-part (formatted v g c) at n (omega (arith, length-formatted v g c)) in
       ext-getD 0 _ _ (e ∙ sym (length-replicate n 0))
       (λ i p.
-      getD-part (formatted g c) at n i (omega arith)
+      getD-part (formatted v g c) at n i (omega arith)
       ∙ zero-byte (at + i) (omega arith) (omega arith)
       ∙ sym (getD-replicate n i 0 0 (omega arith)))

@@ -2,7 +2,7 @@
 -- commit is told by how many entries are logged, how many numbers the window has taken in, and how many entries are switched. Assumes nothing.
 use Prim.Native.Nat.{ℕ, suc, _+_, _*_, _-_, _≤_, _<_}
 use mathlib.Core.List.{List, [], _∷_, _++_, append-assoc}
-use mathlib.Core.Bool.{Bool, true, false, cond, not, _||_}
+use mathlib.Core.Bool.{Bool, true, false, cond, not, _&&_, _||_}
 use mathlib.Core.Option.{Option, none, some}
 use mathlib.Core.Path.{_≡_, refl, sym, ap, subst, _∙_}
 use mathlib.Core.Logic.{_⊎_, inl, inr, ⊎-elim}
@@ -15,26 +15,26 @@ use Rattle.numbers.proofs.Laws.{length-part}
 use Rattle.protocol.specs.declared.Entry.{Entry}
 use Rattle.protocol.specs.declared.Geometry.{Geometry}
 use Rattle.protocol.specs.Below.{anyBelow, countBelow, eachBelow, around}
-use Rattle.protocol.specs.Layout.{blockSize, blockAt, diskBlock}
+use Rattle.protocol.specs.Layout.{versionOf, blockSize, blockAt, diskBlock}
 use Rattle.protocol.specs.Entry.{FRESH, entryAt, inUse, isModified, hasLogRole, goodEntry, switched}
-use Rattle.protocol.specs.Ring.{headOf, tailOf, slotAt, windowLength, windowOf, windowNumber, windowHas, inWindow, usedAt, findEntry, cached, currentOf}
+use Rattle.protocol.specs.Ring.{headOf, tailOf, slotAt, windowOf, windowNumber, windowHas, inWindow, usedAt, findEntry, cached, currentOf}
 use Rattle.protocol.specs.Store.{card, disk, Store, Run, storedOn, madeOn, flat, single, words, entryStore, slotStore, headStore, tailStore}
 use Rattle.protocol.specs.Search.{freeBlocks, unusedEntries}
-use Rattle.protocol.specs.Commit.{numberOf, uncachedAt, newBlock, entryFound, oldBlock, logEntry, dataOf, headAfter, blockRuns, switchRuns, commitRuns, countFits, dataFits, numberFits, numbersFit, numbersDiffer, newNumber, numbersApart, roomFor}
+use Rattle.protocol.specs.Commit.{numberOf, uncachedAt, newBlock, entryFound, oldBlock, overModified, logEntry, dataOf, headAfter, blockRuns, switchRuns, commitRuns, countFits, dataFits, numberFits, numbersFit, numbersDiffer, newNumber, numbersApart, roomFor}
 use Rattle.protocol.specs.History.{placeAmong, replaced}
-use Rattle.protocol.proofs.Allowed.{logged, modified, used-good, log-used, log-role, log-modified, kept-used, kept-role, kept-modified}
-use Rattle.protocol.proofs.Below.{either, below-or-above, last-or-before, absurd-bool, and-left, and-right, all-at, any-found, any-at, any-witness, count-le, count-below, first-at, first-none, around-below, around-apart, around-next}
+use Rattle.protocol.proofs.Allowed.{used-good, dirtyBefore, log-flag, log-used, log-role, log-modified, log-dirty, kept-flag, kept-used, kept-role, kept-modified, kept-dirty}
+use Rattle.protocol.proofs.Below.{either, below-or-above, last-or-before, absurd-bool, and-left, and-right, or-false, all-at, any-found, any-at, any-witness, count-le, count-below, first-at, first-none, around-below, around-apart, around-next}
 use Rattle.protocol.proofs.Checks.{Limits, limits}
 use Rattle.protocol.proofs.Holds.{idle-kind, live-kind, used-number, number-used, empty-window, no-undoable}
-use Rattle.protocol.proofs.Invariant.{idle, live, pending, kindNumber, kindCurrent, kindPrevious, kindHome, Owes}
-use Rattle.protocol.proofs.Loaded.{Rest, settled-ring, settled-role, Cached, cached-entry, not-cached}
+use Rattle.protocol.proofs.Invariant.{Kind, idle, live, pending, kindNumber, kindCurrent, kindPrevious, kindHome, undoneKind, isClean, Owes}
+use Rattle.protocol.proofs.Loaded.{Rest, window-start, settled-ring, settled-role, Cached, cached-entry, not-cached}
 use Rattle.protocol.proofs.Made.{entry-changed, entry-stored, entry-elsewhere, head-changed, head-stored, head-elsewhere, slot-changed, slot-stored, slot-elsewhere, tail-changed, tail-stored, tail-elsewhere, words-changed, words-changed-all, words-elsewhere, words-stored}
 use Rattle.protocol.proofs.Passed.{CommitPassed}
 use Rattle.protocol.proofs.Planned.{new-below, new-free, new-apart, unused-below, unused-is, unused-apart, enough-unused, no-previous}
 use Rattle.protocol.proofs.Recovered.{fits-entry}
 use Rattle.protocol.proofs.Region.{entry, block, slot, head, tail, block-ends}
-use Rattle.protocol.proofs.Shape.{Changed, head-kept, tail-kept, slot-kept, entry-kept, block-kept, window-empty, window-kept, number-kept, kindOf, kindAt, viewOf, Seen, seen-idle, seen-live, seen-pending, see, previousOf, previous-none, previous-is, previous-some, Inv}
-use Rattle.protocol.proofs.Steps.{entry-changes, entry-stays, run-in-block, slot-changes, head-moves, window-longer, number-stays, number-last, tail-moves, tail-settled, window-below, head-after}
+use Rattle.protocol.proofs.Shape.{Changed, version-kept, head-kept, tail-kept, slot-kept, entry-kept, block-kept, window-kept, number-kept, pendingOf, kindOf, kindAt, viewOf, Seen, seen-idle, seen-live, seen-pending, see, previousOf, previous-none, previous-is, previous-some, Inv, Back}
+use Rattle.protocol.proofs.Steps.{entry-changes, entry-stays, run-in-block, block-kinds, slot-changes, head-moves, window-longer, number-stays, number-last, tail-moves, tail-settled, window-below, head-after}
 use Rattle.protocol.proofs.Stores.{made-append, flat-last, Some, Along, along-then, along-one, along-run, along-each}
 
 -- k is one of f's values below a, or none of them
@@ -45,7 +45,7 @@ among f a k =
     (λ h. inr (λ j l e. absurd-bool (eq-eqb _ _ e) (any-at (λ j. eqb (f j) k) a j h l)))
     (either (anyBelow (λ j. eqb (f j) k) a))
 
--- Head after one block more, at the start, and the window at the start
+-- Head after one block more, and at the start
 forward-is : (g : Geometry) (c : List ℕ) (i h : ℕ) → h ≡ headAfter g c i → headOf c < g .slots → i + 1 ≤ g .slots
     → headAfter g c (i + 1) ≡ around (g .slots) h 1
 unfolding headAfter
@@ -54,10 +54,6 @@ forward-is g c i h e l m = sym (around-next (g .slots) (headOf c) i l m) ∙ ap 
 head-start : (g : Geometry) (c : List ℕ) → headOf c < g .slots → headOf c ≡ headAfter g c 0
 unfolding headAfter around
 head-start g c l = let k : headOf c + 0 < g .slots = omega arith in rw (lt-ltb (headOf c + 0) (g .slots) k) (omega arith)
-
-pub window-start : (g : Geometry) (c : List ℕ) → headOf c ≡ tailOf c → windowOf g c ≡ 0
-unfolding windowOf
-window-start g c e = ap (windowLength (g .slots) (tailOf c)) e ∙ window-empty (g .slots) (tailOf c)
 
 used-from : (g : Geometry) (c : List ℕ) (k : ℕ) → inUse (entryAt g c k) ≡ true → usedAt g c k ≡ true
 unfolding usedAt
@@ -202,11 +198,78 @@ module _ {g : Geometry} {row : ℕ → List ℕ} {c d : List ℕ} (ns bs : List 
       go (fresh h u y o) = inr o
       go (again h y k w) = inl (v .safe .currentUnder (entryFound g c ns j) (oldBlock g c ns j) (k .below) (ap kindCurrent w))
 
+  -- an old block is one of the card's
+  old-named : (j : ℕ) → Cached g c (numberOf ns j) (entryFound g c ns j)
+      → kindAt g c (entryFound g c ns j) ≡ live (isModified (entryAt g c (entryFound g c ns j))) (numberOf ns j) (oldBlock g c ns j)
+      → oldBlock g c ns j ≡ FRESH → ⊥
+  old-named j k w z =
+      let lo = v .safe .currentUnder (entryFound g c ns j) (oldBlock g c ns j) (k .below) (ap kindCurrent w) in
+      omega (arith, limits g (v .shape .good))
+
+  -- at the start no entry can be undone
+  pub at-rest : (i : ℕ) → i < g .blocks → undoneKind (kindAt g c i) ≡ kindAt g c i
+  at-rest i l =
+      ⊎-elim
+      (λ u. let k = live-kind g c i u (no-undoable v (p .settled) i l) in ap undoneKind k ∙ sym k)
+      (λ u. let k = idle-kind g c i u in ap undoneKind k ∙ sym k)
+      (either (usedAt g c i))
+
   -- ---- progress
+
+  -- the log entry of block j says that it is undone to a modified one, and its kind
+  dirty : ℕ → Bool
+  dirty j = dirtyBefore (versionOf c) (logEntry g c ns j)
+
+  abbrev logKind : ℕ → Kind
+  logKind j = pending true (dirty j) (numberOf ns j) (previousOf (oldBlock g c ns j)) (newBlock g c j)
+
+  -- with version 2 it says so where the entry before was modified
+  dirty-over : (j : ℕ) → dirty j ≡ not (eqb (versionOf c) 2) || overModified g c ns j
+  unfolding dirty logEntry
+  dirty-over j = log-dirty (versionOf c) (overModified g c ns j) (numberOf ns j) (oldBlock g c ns j) (newBlock g c j)
+
+  over-own : (j : ℕ) → cached g c (numberOf ns j) ≡ true → entryFound g c ns j ≡ findEntry g c (numberOf ns j)
+      → overModified g c ns j ≡ isModified (entryAt g c (entryFound g c ns j))
+  unfolding overModified
+  over-own j h e = (λ t. h t && isModified (entryAt g c (sym e t)))
+
+  log-used-of : (j : ℕ) → inUse (logEntry g c ns j) ≡ true
+  unfolding logEntry
+  log-used-of j = log-used (versionOf c) (overModified g c ns j) (numberOf ns j) (oldBlock g c ns j) (newBlock g c j)
+
+  log-role-of : (j : ℕ) → hasLogRole (logEntry g c ns j) ≡ true
+  unfolding logEntry
+  log-role-of j = log-role (versionOf c) (overModified g c ns j) (numberOf ns j) (oldBlock g c ns j) (newBlock g c j)
+
+  pub kept-used-of : (j : ℕ) → inUse (switched (logEntry g c ns j)) ≡ true
+  unfolding logEntry
+  kept-used-of j = kept-used (versionOf c) (overModified g c ns j) (numberOf ns j) (oldBlock g c ns j) (newBlock g c j)
+
+  kept-role-of : (j : ℕ) → hasLogRole (switched (logEntry g c ns j)) ≡ false
+  unfolding logEntry
+  kept-role-of j = kept-role (versionOf c) (overModified g c ns j) (numberOf ns j) (oldBlock g c ns j) (newBlock g c j)
+
+  -- the kinds of the log entry and of its role switch
+  log-kind : {v : ℕ} (j : ℕ) → v ≡ versionOf c → pendingOf v (logEntry g c ns j) ≡ logKind j
+  unfolding dirty logEntry
+  log-kind j e =
+      λ t.
+      pending (log-modified (versionOf c) (overModified g c ns j) (numberOf ns j) (oldBlock g c ns j) (newBlock g c j) t)
+      (dirtyBefore (e t) (logEntry g c ns j)) (numberOf ns j) (previousOf (oldBlock g c ns j)) (newBlock g c j)
+
+  kept-kind : {v : ℕ} (j : ℕ) → v ≡ versionOf c → pendingOf v (switched (logEntry g c ns j)) ≡ logKind j
+  unfolding dirty logEntry switched
+  kept-kind j e =
+      let o = overModified g c ns j in
+      let d = ap (λ (v : ℕ). dirtyBefore v (switched (logEntry g c ns j))) e ∙ kept-dirty (versionOf c) o (numberOf ns j) (oldBlock g c ns j) (newBlock g c j) in
+      λ t.
+      pending (kept-modified (versionOf c) o (numberOf ns j) (oldBlock g c ns j) (newBlock g c j) t) (d t) (numberOf ns j)
+      (previousOf (oldBlock g c ns j)) (newBlock g c j)
 
   -- a entries are logged, h numbers are in the window, t entries are switched
   record Mid (a h t : ℕ) (c′ d′ : List ℕ) : Type 0 where
     inv : Inv g row c′ d′
+    versionIs : versionOf c′ ≡ versionOf c
     headIs : headOf c′ ≡ headAfter g c h
     tailIs : tailOf c′ ≡ tailOf c
     windowIs : windowOf g c′ ≡ h
@@ -236,34 +299,38 @@ module _ {g : Geometry} {row : ℕ → List ℕ} {c d : List ℕ} (ns bs : List 
     has-window j l =
         any-found (windowHas g c′ (numberOf ns j)) (windowOf g c′) j (subst (λ (z : ℕ). j < z) (sym (m .windowIs)) l) (eq-eqb _ _ (m .numbersAre j l))
 
+    windowed : (j : ℕ) → j < h → inWindow g c′ (switched (logEntry g c ns j) .number) ≡ true
+    unfolding switched logEntry
+    windowed j l = has-window j l
+
     -- the kinds: those of the logged entries can be undone to the old block, and the others are as at the start
-    kind-logged : (j : ℕ) → j < a → kindAt g c′ (entryFound g c ns j) ≡ pending (numberOf ns j) (previousOf (oldBlock g c ns j)) (newBlock g c j)
-    unfolding kindAt logEntry switched
+    kind-logged : (j : ℕ) → j < a → kindAt g c′ (entryFound g c ns j) ≡ logKind j
+    unfolding kindAt
     kind-logged j l =
         ⊎-elim
-        (λ lt. at (switched (logEntry g c ns j)) (m .switcheds j lt) (see _ _) (kept-used (numberOf ns j) (oldBlock g c ns j) (newBlock g c j))
-        (in-it (hasLogRole (switched (logEntry g c ns j))) (has-window j (omega arith))) refl)
-        (λ le. at (logEntry g c ns j) (m .loggeds j le l) (see _ _) (log-used (numberOf ns j) (oldBlock g c ns j) (newBlock g c j))
-        (ap (λ (b : Bool). b || inWindow g c′ (numberOf ns j)) (log-role (numberOf ns j) (oldBlock g c ns j) (newBlock g c j))) refl)
+        (λ lt. at (switched (logEntry g c ns j)) (m .switcheds j lt) (see _ _ _) (kept-used-of j)
+        (in-it (hasLogRole (switched (logEntry g c ns j))) (windowed j (omega arith))) (kept-kind j (m .versionIs)))
+        (λ le. at (logEntry g c ns j) (m .loggeds j le l) (see _ _ _) (log-used-of j)
+        (ap (λ (b : Bool). b || inWindow g c′ (logEntry g c ns j .number)) (log-role-of j)) (log-kind j (m .versionIs)))
         (below-or-above j t)
       where
         in-it : (r : Bool) {w : Bool} → w ≡ true → r || w ≡ true
         in-it true e = refl
         in-it false e = e
 
-        at : (x : Entry) → entryAt g c′ (entryFound g c ns j) ≡ x → Seen (inWindow g c′ (x .number)) x → inUse x ≡ true
-            → hasLogRole x || inWindow g c′ (x .number) ≡ true
-            → pending (x .number) (previousOf (x .previous)) (x .current) ≡ pending (numberOf ns j) (previousOf (oldBlock g c ns j)) (newBlock g c j)
-            → kindOf (inWindow g c′ (entryAt g c′ (entryFound g c ns j) .number)) (entryAt g c′ (entryFound g c ns j))
-            ≡ pending (numberOf ns j) (previousOf (oldBlock g c ns j)) (newBlock g c j)
+        at : (x : Entry) → entryAt g c′ (entryFound g c ns j) ≡ x → Seen (versionOf c′) (inWindow g c′ (x .number)) x → inUse x ≡ true
+            → hasLogRole x || inWindow g c′ (x .number) ≡ true → pendingOf (versionOf c′) x ≡ logKind j
+            → kindOf (versionOf c′) (inWindow g c′ (entryAt g c′ (entryFound g c ns j) .number)) (entryAt g c′ (entryFound g c ns j)) ≡ logKind j
         at x e (seen-idle b k) u r y = absurd-bool u b
         at x e (seen-live b q k) u r y = absurd-bool r q
-        at x e (seen-pending b q k) u r y = ap (λ (z : Entry). kindOf (inWindow g c′ (z .number)) z) e ∙ k ∙ y
+        at x e (seen-pending b q k) u r y = ap (λ (z : Entry). kindOf (versionOf c′) (inWindow g c′ (z .number)) z) e ∙ k ∙ y
 
     kind-other : (i : ℕ) → i < g .blocks → ((j : ℕ) → j < a → entryFound g c ns j ≡ i → ⊥) → kindAt g c′ i ≡ kindAt g c i
     unfolding kindAt usedAt
     kind-other i l un =
-        ap (λ (z : Entry). kindOf (inWindow g c′ (z .number)) z) (m .others i l un) ∙ go (either (inUse (entryAt g c i)))
+        ap (λ (z : Entry). kindOf (versionOf c′) (inWindow g c′ (z .number)) z) (m .others i l un)
+        ∙ ap (λ (z : ℕ). kindOf z (inWindow g c′ (entryAt g c i .number)) (entryAt g c i)) (m .versionIs)
+        ∙ go (either (inUse (entryAt g c i)))
       where
         x : Entry
         x = entryAt g c i
@@ -279,14 +346,37 @@ module _ {g : Geometry} {row : ℕ → List ℕ} {c d : List ℕ} (ns bs : List 
         seen-none : inWindow g c (x .number) ≡ false
         seen-none = empty-window g c (settled-ring g c (p .settled)) (x .number)
 
-        go : (inUse x ≡ true) ⊎ (inUse x ≡ false) → kindOf (inWindow g c′ (x .number)) x ≡ kindOf (inWindow g c (x .number)) x
-        go (inl u) = ap (λ (b : Bool). kindOf b x) (unseen u ∙ sym seen-none)
-        go (inr u) = blank (see _ x) ∙ sym (blank (see _ x))
+        go : (inUse x ≡ true) ⊎ (inUse x ≡ false) → kindOf (versionOf c) (inWindow g c′ (x .number)) x ≡ kindOf (versionOf c) (inWindow g c (x .number)) x
+        go (inl u) = ap (λ (b : Bool). kindOf (versionOf c) b x) (unseen u ∙ sym seen-none)
+        go (inr u) = blank (see _ _ x) ∙ sym (blank (see _ _ x))
           where
-            blank : {w : Bool} → Seen w x → kindOf w x ≡ idle
+            blank : {w : Bool} → Seen (versionOf c) w x → kindOf (versionOf c) w x ≡ idle
             blank (seen-idle b k) = k
             blank (seen-live b q k) = absurd-bool b u
             blank (seen-pending b q k) = absurd-bool b u
+
+    -- with version 2 each entry, undone, is as at the start
+    mid-back : versionOf c ≡ 2 → Back g (kindAt g c) c′
+    mid-back two i l = go (among (entryFound g c ns) a i)
+      where
+        go : ((j : ℕ) × (j < a) × (entryFound g c ns j ≡ i)) ⊎ ((j : ℕ) → j < a → entryFound g c ns j ≡ i → ⊥)
+            → undoneKind (kindAt g c′ i) ≡ kindAt g c i
+        go (inl w) =
+            let j = w .0 in
+            subst (λ (z : ℕ). undoneKind (kindAt g c′ z) ≡ kindAt g c z) (w .2)
+            (ap undoneKind (kind-logged j (w .1)) ∙ was j (entered j (omega (arith, w .1, o .a-low))))
+          where
+            was : (j : ℕ) → Entered j → undoneKind (logKind j) ≡ kindAt g c (entryFound g c ns j)
+            was j (fresh h u e q) =
+                ap (λ (x : Option ℕ). undoneKind (pending true (dirty j) (numberOf ns j) x (newBlock g c j))) (ap previousOf q ∙ previous-none)
+                ∙ sym (idle-kind g c (entryFound g c ns j) u)
+            was j (again h e k q) =
+                ap (λ (x : Option ℕ). undoneKind (pending true (dirty j) (numberOf ns j) x (newBlock g c j)))
+                (previous-some (oldBlock g c ns j) (old-named j k q))
+                ∙ ap (λ (b : Bool). live b (numberOf ns j) (oldBlock g c ns j))
+                (dirty-over j ∙ ap (λ (v : ℕ). not (eqb v 2) || overModified g c ns j) two ∙ over-own j h e)
+                ∙ sym q
+        go (inr un) = ap undoneKind (kind-other i l un) ∙ at-rest i l
 
     -- no entry names a free block that is not given out yet
     unnamed-current : (k i : ℕ) → a ≤ k → k < length ns → i < g .blocks → kindCurrent (kindAt g c′ i) ≡ some (newBlock g c k) → ⊥
@@ -318,14 +408,15 @@ module _ {g : Geometry} {row : ℕ → List ℕ} {c d : List ℕ} (ns bs : List 
             omega arith
 
     -- a change that leaves the ring, the entries and the blocks given out leaves the progress
-    carry : (c″ d″ : List ℕ) → Inv g row c″ d″ → headOf c″ ≡ headOf c′ → tailOf c″ ≡ tailOf c′
+    carry : (c″ d″ : List ℕ) → Inv g row c″ d″ → versionOf c″ ≡ versionOf c′ → headOf c″ ≡ headOf c′ → tailOf c″ ≡ tailOf c′
         → ((j : ℕ) → j < h → windowNumber g c″ j ≡ windowNumber g c′ j)
         → ((i : ℕ) → i < g .blocks → entryAt g c″ i ≡ entryAt g c′ i)
         → ((j : ℕ) → j < a → blockAt g c″ (newBlock g c j) ≡ blockAt g c′ (newBlock g c j))
         → Mid a h t c″ d″
-    carry c″ d″ w eh et en ee eb =
+    carry c″ d″ w ev eh et en ee eb =
         record {
           inv = w;
+          versionIs = ev ∙ m .versionIs;
           headIs = eh ∙ m .headIs;
           tailIs = et ∙ m .tailIs;
           windowIs = window-kept g c′ c″ eh et ∙ m .windowIs;
@@ -348,9 +439,12 @@ module _ {g : Geometry} {row : ℕ → List ℕ} {c d : List ℕ} (ns bs : List 
               omega arith,
         )
 
-  log-role-of : (j : ℕ) → hasLogRole (logEntry g c ns j) ≡ true
-  unfolding logEntry
-  log-role-of j = log-role (numberOf ns j) (oldBlock g c ns j) (newBlock g c j)
+  -- wherever a commit is cut before Tail's store
+  abbrev pub Stage : List ℕ → List ℕ → Type 0
+  Stage c′ d′ = Inv g row c′ d′ × (versionOf c ≡ 2 → Back g (kindAt g c) c′)
+
+  stage : {a h t : ℕ} {c′ d′ : List ℕ} → Mid a h t c′ d′ → Order a h t → Stage c′ d′
+  stage m o = (m .inv, mid-back m o)
 
   -- ---- the steps of a block
 
@@ -380,7 +474,7 @@ module _ {g : Geometry} {row : ℕ → List ℕ} {c d : List ℕ} (ns bs : List 
   ahead i l = record { a-low = l; h-low = omega arith; t-low = omega arith }
 
   filling : (i : ℕ) (c′ d′ : List ℕ) → i < length ns → Mid i i 0 c′ d′
-      → Along (Inv g row) (Filled i) (words g (newBlock g c i) (dataOf g bs i) ∷ []) c′ d′
+      → Along Stage (Filled i) (words g (newBlock g c i) (dataOf g bs i) ∷ []) c′ d′
   filling i c′ d′ l m = along-run (words g q (dataOf g bs i)) c′ d′ cut end
     where
       q : ℕ
@@ -392,17 +486,20 @@ module _ {g : Geometry} {row : ℕ → List ℕ} {c d : List ℕ} (ns bs : List 
       ws : List Store
       ws = words g q (dataOf g bs i) .stores
 
-      cut : (ts : List Store) → Some ts ws → Inv g row (madeOn card ts c′) (madeOn disk ts d′)
+      cut : (ts : List Store) → Some ts ws → Stage (madeOn card ts c′) (madeOn disk ts d′)
       cut ts w =
-          subst (Inv g row (madeOn card ts c′)) (sym (words-elsewhere g fit q (dataOf g bs i) (q-below i l) ts w d′))
-          (run-in-block q (m .inv) (words-changed g fit q (dataOf g bs i) (q-below i l) ts w c′)
-          (λ k h e. unnamed-current m o i k (omega arith) l h e) (λ k h e. unnamed-previous m o i k l h e))
+          let x = words-changed g fit q (dataOf g bs i) (q-below i l) ts w c′ in (
+            subst (Inv g row (madeOn card ts c′)) (sym (words-elsewhere g fit q (dataOf g bs i) (q-below i l) ts w d′))
+                (run-in-block q (m .inv) x
+                (λ k h e. unnamed-current m o i k (omega arith) l h e) (λ k h e. unnamed-previous m o i k l h e)),
+            λ two k h. ap undoneKind (block-kinds (m .inv .shape) x k h) ∙ mid-back m o two k h,
+          )
 
-      end : Inv g row (madeOn card ws c′) (madeOn disk ws d′) → Filled i (madeOn card ws c′) (madeOn disk ws d′)
+      end : Stage (madeOn card ws c′) (madeOn disk ws d′) → Filled i (madeOn card ws c′) (madeOn disk ws d′)
       end w =
           record {
             mid =
-                carry m o _ _ w (head-kept x (λ a b. omega arith)) (tail-kept x (λ a b. omega arith))
+                carry m o _ _ (w .0) (version-kept x (λ a b. omega arith)) (head-kept x (λ a b. omega arith)) (tail-kept x (λ a b. omega arith))
                 (λ j h. number-kept g c′ _ (head-kept x (λ a b. omega arith)) (tail-kept x (λ a b. omega arith)) j
                 (slot-kept x _ (window-slot m o j h .0) (λ a b. omega arith)))
                 (λ k h. entry-kept x k h (λ a b. omega arith))
@@ -414,15 +511,15 @@ module _ {g : Geometry} {row : ℕ → List ℕ} {c d : List ℕ} (ns bs : List 
           x : Changed g (block q) c′ (madeOn card ws c′)
           x = words-changed-all g fit q (dataOf g bs i) (q-below i l) c′
 
-  log-good : (i : ℕ) → i < length ns → goodEntry (g .blocks) (g .disk) (logEntry g c ns i) ≡ true
+  log-good : (i : ℕ) → i < length ns → goodEntry (versionOf c) (g .blocks) (g .disk) (logEntry g c ns i) ≡ true
   unfolding logEntry
   log-good i l =
-      used-good (g .blocks) (g .disk) (logEntry g c ns i)
-      (record { flag = logged refl; numberBelow = number-below i l; currentBelow = q-below i l; previousBelow = o-below i l })
+      used-good (versionOf c) (g .blocks) (g .disk) (logEntry g c ns i)
+      (record { flag = log-flag (versionOf c) (overModified g c ns i) 0 0 0; numberBelow = number-below i l; currentBelow = q-below i l; previousBelow = o-below i l })
 
   -- what the log entry owes
   log-owes : (i : ℕ) (c′ d′ : List ℕ) → i < length ns → Mid i i 0 c′ d′
-      → Owes (g .blocks) (g .disk) row (viewOf g c′ d′) (entryFound g c ns i) (pending (numberOf ns i) (previousOf (oldBlock g c ns i)) (newBlock g c i))
+      → Owes (g .blocks) (g .disk) row (viewOf g c′ d′) (entryFound g c ns i) (logKind i)
   log-owes i c′ d′ l m =
       record {
         numberUnder = λ x e. subst (λ (z : ℕ). z < g .disk) (got e) (number-below i l);
@@ -433,7 +530,8 @@ module _ {g : Geometry} {row : ℕ → List ℕ} {c d : List ℕ} (ns bs : List 
         previouses = λ k x lk h e f. other-previous k x lk h e f;
         previousCurrent = λ k x lk h e f. other-current k x lk h e f;
         currentPrevious = λ k x lk h e f. unnamed-previous m o i k l lk (f ∙ sym e);
-        clean = λ b q e. let z : _≡_ {A = ℕ} 0 1 = cc in absurd (omega arith);
+        clean = λ b q t e f. absurd-bool t refl;
+        cleanBefore = λ b x t e f. tidy b x t e f;
         held = λ b x e f. held-old b x e f;
         bare = λ b lb h. inl (bare-old b h);
       }
@@ -496,6 +594,19 @@ module _ {g : Geometry} {row : ℕ → List ℕ} {c d : List ℕ} (ns bs : List 
               m .inv .safe .held (entryFound g c ns i) b x (e-below i l) (ap kindNumber (as-before ∙ w) ∙ e)
               (ap kindHome (as-before ∙ w) ∙ ap some (previous-is (oldBlock g c ns i) x f .0))
 
+      -- the old block is the disk's if the log entry says so
+      tidy : (b x : ℕ) → not (dirty i) ≡ true → _≡_ {A = Option ℕ} (some (numberOf ns i)) (some b) → previousOf (oldBlock g c ns i) ≡ some x
+          → blockAt g c′ x ≡ diskBlock g d′ b
+      tidy b x t e f = go (entered i l)
+        where
+          go : Entered i → blockAt g c′ x ≡ diskBlock g d′ b
+          go (fresh h u y z) = nothing (sym previous-none ∙ ap previousOf (sym z) ∙ f)
+          go (again h y k w) =
+              m .inv .safe .clean (entryFound g c ns i) b x (e-below i l)
+              (ap isClean (as-before ∙ w)
+              ∙ ap not (sym (over-own i h y) ∙ or-false (not (eqb (versionOf c) 2)) (overModified g c ns i) (sym (dirty-over i) ∙ not-true _ t) .1))
+              (ap kindNumber (as-before ∙ w) ∙ e) (ap kindCurrent (as-before ∙ w) ∙ ap some (previous-is (oldBlock g c ns i) x f .0))
+
       bare-old : (b : ℕ) → (_≡_ {A = Option ℕ} (some (numberOf ns i)) (some b) → previousOf (oldBlock g c ns i) ≡ none)
           → kindNumber (kindAt g c′ (entryFound g c ns i)) ≡ some b → kindHome (kindAt g c′ (entryFound g c ns i)) ≡ none
       bare-old b h e = go (entered i l)
@@ -505,14 +616,12 @@ module _ {g : Geometry} {row : ℕ → List ℕ} {c d : List ℕ} (ns bs : List 
           go (again hc y k w) =
               let n = h (sym (ap kindNumber (as-before ∙ w)) ∙ e) in
               let q : previousOf (oldBlock g c ns i) ≡ some (oldBlock g c ns i) =
-              previous-some (oldBlock g c ns i)
-              (λ z. let lo = v .safe .currentUnder (entryFound g c ns i) (oldBlock g c ns i) (k .below) (ap kindCurrent w) in omega (arith, fit)) in
+              previous-some (oldBlock g c ns i) (old-named i k w) in
               nothing (sym n ∙ q)
 
   logging : (i : ℕ) (c′ d′ : List ℕ) → i < length ns → Filled i c′ d′
-      → Along (Inv g row) (Mid (suc i) i 0) (single (entryStore g (entryFound g c ns i) (logEntry g c ns i))) c′ d′
-  unfolding logEntry
-  logging i c′ d′ l f = along-one (entryStore g e x) c′ d′ (m .inv) after progress
+      → Along Stage (Mid (suc i) i 0) (single (entryStore g (entryFound g c ns i) (logEntry g c ns i))) c′ d′
+  logging i c′ d′ l f = along-one (entryStore g e x) c′ d′ (stage m o) (stage progress (ahead i l)) progress
     where
       m : Mid i i 0 c′ d′
       m = f .mid
@@ -533,20 +642,17 @@ module _ {g : Geometry} {row : ℕ → List ℕ} {c d : List ℕ} (ns bs : List 
       ch = entry-changed g c′ e x (e-below i l)
 
       new : entryAt g c″ e ≡ x
-      new = entry-stored g c′ e x (e-below i l) (m .inv .shape .cardSized) (fits-entry (m .inv .shape) x (log-good i l))
+      new = entry-stored g c′ e x (e-below i l) (m .inv .shape .cardSized) (fits-entry (versionOf c) (m .inv .shape) x (log-good i l))
 
-      pends : Seen (inWindow g c′ (numberOf ns i)) x
-          → kindOf (inWindow g c′ (numberOf ns i)) x ≡ pending (numberOf ns i) (previousOf (oldBlock g c ns i)) (newBlock g c i)
-      pends (seen-idle a k) = absurd-bool (log-used (numberOf ns i) (oldBlock g c ns i) (newBlock g c i)) a
-      pends (seen-live a r k) =
-          absurd-bool (ap (λ (b : Bool). b || inWindow g c′ (numberOf ns i)) (log-role (numberOf ns i) (oldBlock g c ns i) (newBlock g c i))) r
-      pends (seen-pending a r k) = k
+      pends : {w : Bool} → Seen (versionOf c′) w x → kindOf (versionOf c′) w x ≡ logKind i
+      pends (seen-idle a k) = absurd-bool (log-used-of i) a
+      pends {w} (seen-live a r k) = absurd-bool (ap (λ (b : Bool). b || w) (log-role-of i)) r
+      pends (seen-pending a r k) = k ∙ log-kind i (m .versionIs)
 
       kept : Inv g row c″ d′
       kept =
-          entry-changes e x (m .inv) (e-below i l) ch new (log-good i l)
-          (λ u. log-modified (numberOf ns i) (oldBlock g c ns i) (newBlock g c i))
-          (subst (Owes (g .blocks) (g .disk) row (viewOf g c′ d′) e) (sym (pends (see _ x))) (log-owes i c′ d′ l m))
+          entry-changes e x (m .inv) (e-below i l) ch new (ap (λ (z : ℕ). goodEntry z (g .blocks) (g .disk) x) (m .versionIs) ∙ log-good i l)
+          (subst (Owes (g .blocks) (g .disk) row (viewOf g c′ d′) e) (sym (pends (see _ _ x))) (log-owes i c′ d′ l m))
 
       after : Inv g row c″ (storedOn disk (entryStore g e x) d′)
       after = subst (Inv g row c″) (sym (entry-elsewhere g e x d′)) kept
@@ -564,6 +670,7 @@ module _ {g : Geometry} {row : ℕ → List ℕ} {c d : List ℕ} (ns bs : List 
       progress =
           record {
             inv = after;
+            versionIs = version-kept ch (λ a b. omega arith) ∙ m .versionIs;
             headIs = eh ∙ m .headIs;
             tailIs = et ∙ m .tailIs;
             windowIs = window-kept g c′ c″ eh et ∙ m .windowIs;
@@ -584,18 +691,9 @@ module _ {g : Geometry} {row : ℕ → List ℕ} {c d : List ℕ} (ns bs : List 
           }
 
   slotting : (i : ℕ) (c′ d′ : List ℕ) → i < length ns → Mid (suc i) i 0 c′ d′
-      → Along (Inv g row) (Slotted i) (single (slotStore (headAfter g c i) (numberOf ns i))) c′ d′
+      → Along Stage (Slotted i) (single (slotStore (headAfter g c i) (numberOf ns i))) c′ d′
   slotting i c′ d′ l m =
-      along-one (slotStore h (numberOf ns i)) c′ d′ (m .inv) after
-      (record {
-        mid =
-            carry m o c″ _ after eh et
-            (λ j k. number-kept g c′ c″ eh et j
-            (slot-kept ch _ (window-slot m o j k .0) (λ a b. window-slot m o j k .1 (sym b ∙ sym (m .headIs)))))
-            (λ k lk. entry-kept ch k lk (λ a b. omega arith))
-            (λ j k. block-kept ch (newBlock g c j) (q-below j (omega arith)) (λ a b. omega arith));
-        slotted = ap (slotAt c″) (eh ∙ m .headIs) ∙ slot-stored g c′ (numberOf ns i) (m .inv .shape .cardSized) small h h-below;
-      })
+      along-one (slotStore h (numberOf ns i)) c′ d′ (stage m o) (stage (progress .mid) o) progress
     where
       h : ℕ
       h = headAfter g c i
@@ -626,9 +724,20 @@ module _ {g : Geometry} {row : ℕ → List ℕ} {c d : List ℕ} (ns bs : List 
           subst (Inv g row c″) (sym (slot-elsewhere h (numberOf ns i) d′))
           (slot-changes (m .inv) (subst (λ (z : ℕ). Changed g (slot z) c′ c″) (sym (m .headIs)) ch))
 
+      progress : Slotted i c″ (storedOn disk (slotStore h (numberOf ns i)) d′)
+      progress = record {
+        mid =
+            carry m o c″ _ after (version-kept ch (λ a b. omega arith)) eh et
+            (λ j k. number-kept g c′ c″ eh et j
+            (slot-kept ch _ (window-slot m o j k .0) (λ a b. window-slot m o j k .1 (sym b ∙ sym (m .headIs)))))
+            (λ k lk. entry-kept ch k lk (λ a b. omega arith))
+            (λ j k. block-kept ch (newBlock g c j) (q-below j (omega arith)) (λ a b. omega arith));
+        slotted = ap (slotAt c″) (eh ∙ m .headIs) ∙ slot-stored g c′ (numberOf ns i) (m .inv .shape .cardSized) small h h-below;
+      }
+
   heading : (i : ℕ) (c′ d′ : List ℕ) → i < length ns → Slotted i c′ d′
-      → Along (Inv g row) (Mid (suc i) (suc i) 0) (single (headStore (headAfter g c (i + 1)))) c′ d′
-  heading i c′ d′ l f = along-one (headStore h) c′ d′ (m .inv) after progress
+      → Along Stage (Mid (suc i) (suc i) 0) (single (headStore (headAfter g c (i + 1)))) c′ d′
+  heading i c′ d′ l f = along-one (headStore h) c′ d′ (stage m o) (stage progress (even (suc i) l)) progress
     where
       m : Mid (suc i) i 0 c′ d′
       m = f .mid
@@ -687,6 +796,7 @@ module _ {g : Geometry} {row : ℕ → List ℕ} {c d : List ℕ} (ns bs : List 
       progress =
           record {
             inv = after;
+            versionIs = version-kept ch (λ a b. omega arith) ∙ m .versionIs;
             headIs = head-stored g c′ h (m .inv .shape .cardSized) small ∙ ap (headAfter g c) (add-one i);
             tailIs = tail-kept ch (λ a b. omega arith) ∙ m .tailIs;
             windowIs = window-longer (m .inv) ch moved room fits roles ∙ omega (arith, m .windowIs);
@@ -705,7 +815,7 @@ module _ {g : Geometry} {row : ℕ → List ℕ} {c d : List ℕ} (ns bs : List 
           }
 
   -- all stores of one block
-  block-step : (i : ℕ) (c′ d′ : List ℕ) → i < length ns → Mid i i 0 c′ d′ → Along (Inv g row) (Mid (suc i) (suc i) 0) (blockRuns g c ns bs i) c′ d′
+  block-step : (i : ℕ) (c′ d′ : List ℕ) → i < length ns → Mid i i 0 c′ d′ → Along Stage (Mid (suc i) (suc i) 0) (blockRuns g c ns bs i) c′ d′
   unfolding blockRuns
   block-step i c′ d′ l m =
       along-then (words g (newBlock g c i) (dataOf g bs i) ∷ []) _ c′ d′ (filling i c′ d′ l m)
@@ -715,10 +825,23 @@ module _ {g : Geometry} {row : ℕ → List ℕ} {c d : List ℕ} (ns bs : List 
 
   -- ---- the role switches
 
+  switch-good : (i : ℕ) → i < length ns → goodEntry (versionOf c) (g .blocks) (g .disk) (switched (logEntry g c ns i)) ≡ true
+  unfolding switched logEntry
+  switch-good i l =
+      used-good (versionOf c) (g .blocks) (g .disk) (switched (logEntry g c ns i))
+      (record {
+        flag = kept-flag (versionOf c) (overModified g c ns i) 0 0 0;
+        numberBelow = number-below i l;
+        currentBelow = q-below i l;
+        previousBelow = o-below i l;
+      })
+
   switch-step : (i : ℕ) (c′ d′ : List ℕ) → i < length ns → Mid (length ns) (length ns) i c′ d′
-      → Along (Inv g row) (Mid (length ns) (length ns) (suc i)) (switchRuns g c ns i) c′ d′
-  unfolding switchRuns switched logEntry
-  switch-step i c′ d′ l m = along-one (entryStore g e x) c′ d′ (m .inv) after progress
+      → Along Stage (Mid (length ns) (length ns) (suc i)) (switchRuns g c ns i) c′ d′
+  unfolding switchRuns
+  switch-step i c′ d′ l m =
+      along-one (entryStore g e x) c′ d′ (stage m o)
+      (stage progress (record { a-low = omega arith; h-low = omega arith; t-low = l })) progress
     where
       o : Order (length ns) (length ns) i
       o = record { a-low = omega arith; h-low = omega arith; t-low = omega arith }
@@ -729,10 +852,8 @@ module _ {g : Geometry} {row : ℕ → List ℕ} {c d : List ℕ} (ns bs : List 
       x : Entry
       x = switched (logEntry g c ns i)
 
-      fitted : goodEntry (g .blocks) (g .disk) x ≡ true
-      fitted =
-          used-good (g .blocks) (g .disk) x
-          (record { flag = modified refl; numberBelow = number-below i l; currentBelow = q-below i l; previousBelow = o-below i l })
+      fitted : goodEntry (versionOf c) (g .blocks) (g .disk) x ≡ true
+      fitted = switch-good i l
 
       c″ : List ℕ
       c″ = storedOn card (entryStore g e x) c′
@@ -741,22 +862,23 @@ module _ {g : Geometry} {row : ℕ → List ℕ} {c d : List ℕ} (ns bs : List 
       ch = entry-changed g c′ e x (e-below i l)
 
       new : entryAt g c″ e ≡ x
-      new = entry-stored g c′ e x (e-below i l) (m .inv .shape .cardSized) (fits-entry (m .inv .shape) x fitted)
+      new = entry-stored g c′ e x (e-below i l) (m .inv .shape .cardSized) (fits-entry (versionOf c) (m .inv .shape) x fitted)
 
       -- its number stands in the window by now
-      same-kind : Seen (inWindow g c′ (numberOf ns i)) x → kindOf (inWindow g c′ (numberOf ns i)) x ≡ kindAt g c′ e
-      same-kind (seen-idle a k) = absurd-bool (kept-used (numberOf ns i) (oldBlock g c ns i) (newBlock g c i)) a
-      same-kind (seen-live a r k) = absurd-bool (in-it (hasLogRole x) (has-window m o i l)) r
+      same-kind : Seen (versionOf c′) (inWindow g c′ (x .number)) x → kindOf (versionOf c′) (inWindow g c′ (x .number)) x ≡ kindAt g c′ e
+      same-kind (seen-idle a k) = absurd-bool (kept-used-of i) a
+      same-kind (seen-live a r k) = absurd-bool (in-it (hasLogRole x) (windowed m o i l)) r
         where
           in-it : (r : Bool) {w : Bool} → w ≡ true → r || w ≡ true
           in-it true e = refl
           in-it false e = e
-      same-kind (seen-pending a r k) = k ∙ sym (kind-logged m o i l)
+      same-kind (seen-pending a r k) = k ∙ kept-kind i (m .versionIs) ∙ sym (kind-logged m o i l)
 
       after : Inv g row c″ (storedOn disk (entryStore g e x) d′)
       after =
           subst (Inv g row c″) (sym (entry-elsewhere g e x d′))
-          (entry-stays e x (m .inv) (e-below i l) ch new fitted (λ u. kept-modified (numberOf ns i) (oldBlock g c ns i) (newBlock g c i)) (same-kind (see _ x)))
+          (entry-stays e x (m .inv) (e-below i l) ch new (ap (λ (z : ℕ). goodEntry z (g .blocks) (g .disk) x) (m .versionIs) ∙ fitted)
+          (same-kind (see _ _ x)))
 
       eh : headOf c″ ≡ headOf c′
       eh = head-kept ch (λ a b. omega arith)
@@ -771,6 +893,7 @@ module _ {g : Geometry} {row : ℕ → List ℕ} {c d : List ℕ} (ns bs : List 
       progress =
           record {
             inv = after;
+            versionIs = version-kept ch (λ a b. omega arith) ∙ m .versionIs;
             headIs = eh ∙ m .headIs;
             tailIs = et ∙ m .tailIs;
             windowIs = window-kept g c′ c″ eh et ∙ m .windowIs;
@@ -814,7 +937,6 @@ module _ {g : Geometry} {row : ℕ → List ℕ} {c d : List ℕ} (ns bs : List 
     last-tail = tail-stored g c′ (headAfter g c (length ns)) (m .inv .shape .cardSized) last-small ∙ last-head
 
     no-role : (k : ℕ) → k < g .blocks → hasLogRole (entryAt g c′ k) ≡ false
-    unfolding switched
     no-role k lk = go (among (entryFound g c ns) (length ns) k)
       where
         go : ((j : ℕ) × (j < length ns) × (entryFound g c ns j ≡ k)) ⊎ ((j : ℕ) → j < length ns → entryFound g c ns j ≡ k → ⊥)
@@ -822,7 +944,7 @@ module _ {g : Geometry} {row : ℕ → List ℕ} {c d : List ℕ} (ns bs : List 
         go (inl w) =
             ap (λ (z : ℕ). hasLogRole (entryAt g c′ z)) (sym (w .2))
             ∙ ap hasLogRole (m .switcheds (w .0) (w .1))
-            ∙ kept-role (logEntry g c ns (w .0) .number) (logEntry g c ns (w .0) .previous) (logEntry g c ns (w .0) .current)
+            ∙ kept-role-of (w .0)
         go (inr un) = ap hasLogRole (m .others k lk un) ∙ settled-role g c (p .settled) k lk
 
     full : (k b q : ℕ) → k < g .blocks → kindNumber (kindAt g c′ k) ≡ some b → kindCurrent (kindAt g c′ k) ≡ some q
@@ -863,18 +985,20 @@ module _ {g : Geometry} {row : ℕ → List ℕ} {c d : List ℕ} (ns bs : List 
   pub front : List Run
   front = eachBelow (blockRuns g c ns bs) (length ns) ++ eachBelow (switchRuns g c ns) (length ns)
 
-  front-along : Along (Inv g row) (Mid (length ns) (length ns) (length ns)) front c d
+  front-along : Along Stage (Mid (length ns) (length ns) (length ns)) front c d
   unfolding front
   front-along =
       along-then (eachBelow (blockRuns g c ns bs) (length ns)) (eachBelow (switchRuns g c ns) (length ns)) c d
-      (along-each (λ i. Mid i i 0) (blockRuns g c ns bs) (length ns) c d v start (λ i c′ d′ l m. block-step i c′ d′ l m))
-      (λ c′ d′ m. along-each (λ i. Mid (length ns) (length ns) i) (switchRuns g c ns) (length ns) c′ d′ (m .inv) m
+      (along-each (λ i. Mid i i 0) (blockRuns g c ns bs) (length ns) c d (stage start (even 0 (omega arith))) start (λ i c′ d′ l m. block-step i c′ d′ l m))
+      (λ c′ d′ m. along-each (λ i. Mid (length ns) (length ns) i) (switchRuns g c ns) (length ns) c′ d′
+      (stage m (record { a-low = omega arith; h-low = omega arith; t-low = omega arith })) m
       (λ i c″ d″ l w. switch-step i c″ d″ l w))
     where
       start : Mid 0 0 0 c d
       start =
           record {
             inv = v;
+            versionIs = refl;
             headIs = head-start g c (v .shape .headBelow);
             tailIs = refl;
             windowIs = window-start g c (settled-ring g c (p .settled));
@@ -894,7 +1018,11 @@ module _ {g : Geometry} {row : ℕ → List ℕ} {c d : List ℕ} (ns bs : List 
 
   -- wherever the commit is cut before Tail's store, whatever is chosen there, the row stays
   pub commit-cut : Along (Inv g row) (Inv g row) front c d
-  commit-cut = record { during = front-along .during; end = front-along .end .inv }
+  commit-cut = record { during = λ a ch. front-along .during a ch .0; end = front-along .end .inv }
+
+  -- and with version 2 each entry, undone, is as it was
+  pub commit-back : versionOf c ≡ 2 → Along Stage (λ c′ d′. Back g (kindAt g c) c′) front c d
+  commit-back two = record { during = front-along .during; end = mid-back (front-along .end) (record { a-low = omega arith; h-low = omega arith; t-low = omega arith }) two }
 
   -- with Tail's store, the row's blocks are replaced, and the card is settled
   pub commit-done : Rest g (replaced g ns bs row) (madeOn card (flat (commitRuns g c ns bs)) c) (madeOn disk (flat (commitRuns g c ns bs)) d)

@@ -13,7 +13,7 @@ use borrow.Author.Tests.{le-leb, lt-leb}
 use Rattle.numbers.specs.Bytes.{part}
 use Rattle.protocol.specs.declared.Geometry.{Geometry}
 use Rattle.protocol.specs.Below.{eachBelow}
-use Rattle.protocol.specs.Layout.{blockSize, blockAt}
+use Rattle.protocol.specs.Layout.{versionOf, blockSize, blockAt}
 use Rattle.protocol.specs.Entry.{entryAt, isModified, undone}
 use Rattle.protocol.specs.Ring.{undoableAt, findEntry, currentOf}
 use Rattle.protocol.specs.Check.{choiceByteFits, choiceFits}
@@ -21,6 +21,7 @@ use Rattle.protocol.specs.Store.{Store, Run, flat, chosen, landed, made,
 use Rattle.protocol.specs.Commit.{blockRuns, switchRuns, commitRuns}
 use Rattle.protocol.specs.Load.{loadRuns, writeBack, evictRuns}
 use Rattle.protocol.specs.Room.{missing, victimNumber, evictions, roomRuns, roomLeft}
+use Rattle.protocol.specs.Upgrade.{upgradeRuns}
 use Rattle.protocol.specs.Recover.{sameBytes, ifChanging, undoRuns, recoverRuns}
 use Rattle.protocol.specs.Fence.{firstMade, cutRun, reach, inOrder, Fenced, AgreesWhere, ZerosAgree, PrefixLaw, PrefixAccepted, CallsFenced}
 use Rattle.protocol.proofs.Below.{absurd-bool, below-or-above, and-both, all-of}
@@ -221,7 +222,7 @@ fenced-evict g c b =
     (fenced-single _)
 
 pub calls-fenced : (g : Geometry) (c d t ns bs : List ℕ) (b : ℕ) → CallsFenced g c d t ns bs b
-unfolding roomRuns evictions loadRuns recoverRuns undoRuns words
+unfolding roomRuns evictions loadRuns recoverRuns undoRuns upgradeRuns words
 calls-fenced g c d t ns bs b =
     record {
       commit = fenced-commit g c ns bs;
@@ -232,6 +233,7 @@ calls-fenced g c d t ns bs b =
       evict = fenced-evict g c b;
       recover =
           fenced-append (eachBelow (undoRuns g c) (g .blocks)) _
-          (fenced-each (undoRuns g c) (g .blocks) (λ i. fenced-if (undoableAt g c i) (ifChanging c (entryStore g i (undone (entryAt g c i)))) [] (fenced-changing c _) tt))
+          (fenced-each (undoRuns g c) (g .blocks) (λ i. fenced-if (undoableAt g c i) (ifChanging c (entryStore g i (undone (versionOf c) (entryAt g c i)))) [] (fenced-changing c _) tt))
           (fenced-changing c _);
+      upgrade = fenced-single _;
     }

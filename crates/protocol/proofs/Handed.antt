@@ -3,7 +3,8 @@
 use Prim.Native.Nat.{ℕ, zero, suc}
 use mathlib.Core.List.{List, [], _∷_}
 use mathlib.Core.Bool.{Bool, true, false, cond}
-use mathlib.Core.Path.{_≡_, sym, ap, _∙_}
+use mathlib.Core.Path.{_≡_, refl, sym, ap, _∙_}
+use mathlib.Core.Logic.{⊎-elim}
 use native.Mathlib.Omega.{arith}
 use lib.Dec.{eqb}
 use Rattle.protocol.specs.declared.Answer.{Answer}
@@ -14,17 +15,21 @@ use Rattle.protocol.specs.declared.Mapped.{Mapped}
 use Rattle.protocol.specs.declared.Mapped.the-variants.{Is, Refused as RefusedMap}
 use Rattle.protocol.specs.Layout.{geometryOf}
 use Rattle.protocol.specs.Check.{refuse, _orElse_, fitRefusal, diskRefusal, damageRefusal, cardRefusal, choiceRefusal}
-use Rattle.protocol.specs.Store.{card, Work, answerOf, afterOn}
+use Rattle.protocol.specs.Store.{card, Work, madeOn, flat, single, answerOf, afterOn}
 use Rattle.protocol.specs.Map.{mapOf, mapRefusal, makeRefusal, madeMap, handedOn, mapAfter}
 use Rattle.protocol.specs.Commit.{saveRefusal, commitRefusal, commitWork}
 use Rattle.protocol.specs.Recency.{tableRefusal}
 use Rattle.protocol.specs.Load.{pairRefusal, blockRefusal, loadRefusal, loadWork, evictRefusal, evictWork}
 use Rattle.protocol.specs.Room.{roomRefusal, roomWork}
 use Rattle.protocol.specs.Recover.{recoverRefusal, recoverWork}
-use Rattle.protocol.specs.History.{Call, commit, makeRoom, load, evict, recover, Media, workOf, answerTo, after, Asked, lent, mapTo, served}
+use Rattle.protocol.specs.Upgrade.{upgradeRuns, upgradeRefusal, upgradeWork}
+use Rattle.protocol.specs.History.{Call, commit, makeRoom, load, evict, recover, upgrade, Media, workOf, answerTo, after, Asked, lent, takesMap, mapTo, served}
 use Rattle.protocol.specs.CutRule.{Kept, MapKept}
 use Rattle.protocol.proofs.CutRule.{Answered, refused, cut, done, answered}
+use Rattle.protocol.proofs.Below.{either, absurd-bool}
+use Rattle.protocol.proofs.Checks.{orElse-none}
 use Rattle.protocol.proofs.Maps.{own-map}
+use Rattle.protocol.proofs.Upgraded.{map-upgraded}
 
 -- ---- no check but 15 refuses with 15
 
@@ -45,9 +50,9 @@ module _ (c : List ℕ) where
   other-map : Other (mapRefusal c (mapOf c))
   other-map e = omega (arith, own-map c)
 
-  other-fit : Other (fitRefusal c)
+  other-fit : (low high : ℕ) → Other (fitRefusal low high c)
   unfolding fitRefusal
-  other-fit = other-else _ _ (other-refuse 1 _ (λ e. omega arith)) (other-refuse 2 _ (λ e. omega arith))
+  other-fit low high = other-else _ _ (other-refuse 1 _ (λ e. omega arith)) (other-refuse 2 _ (λ e. omega arith))
 
   other-damage : (g : Geometry) → Other (damageRefusal g c)
   unfolding damageRefusal
@@ -59,9 +64,9 @@ module _ (c : List ℕ) where
   unfolding cardRefusal
   other-card g = other-else _ _ (other-damage g) (other-refuse 7 _ (λ e. omega arith))
 
-  other-pair : (d : List ℕ) → Other (pairRefusal c d)
+  other-pair : (d : List ℕ) → Other (pairRefusal 2 c d)
   unfolding pairRefusal diskRefusal
-  other-pair d = other-else _ _ other-fit (other-else _ _ (other-refuse 3 _ (λ e. omega arith)) (other-card (geometryOf c)))
+  other-pair d = other-else _ _ (other-fit 2 2) (other-else _ _ (other-refuse 3 _ (λ e. omega arith)) (other-card (geometryOf c)))
 
   other-block : (b : ℕ) → Other (blockRefusal (geometryOf c) b)
   unfolding blockRefusal
@@ -80,21 +85,21 @@ module _ (c : List ℕ) where
       (other-else _ _ (other-refuse 10 _ (λ e. omega arith))
       (other-else _ _ (other-refuse 11 _ (λ e. omega arith)) (other-refuse 14 _ (λ e. omega arith))))))
 
-  other-commit : (ns bs ch : List ℕ) → Other (commitRefusal c (mapOf c) ns bs ch)
+  other-commit : (ns bs ch : List ℕ) → Other (commitRefusal 2 c (mapOf c) ns bs ch)
   unfolding commitRefusal
   other-commit ns bs ch =
-      other-else _ _ other-fit (other-else _ _ (other-card (geometryOf c)) (other-else _ _ other-map (other-save ns bs ch _)))
+      other-else _ _ (other-fit 2 2) (other-else _ _ (other-card (geometryOf c)) (other-else _ _ other-map (other-save ns bs ch _)))
 
   other-table : (t : List ℕ) → Other (tableRefusal t)
   unfolding tableRefusal
   other-table t = other-refuse 16 _ (λ e. omega arith)
 
-  other-room : (d t ns bs ch : List ℕ) → Other (roomRefusal c d (mapOf c) t ns bs ch)
+  other-room : (d t ns bs ch : List ℕ) → Other (roomRefusal 2 c d (mapOf c) t ns bs ch)
   unfolding roomRefusal
   other-room d t ns bs ch =
       other-else _ _ (other-pair d) (other-else _ _ other-map (other-else _ _ (other-table t) (other-save ns bs ch _)))
 
-  other-load : (d t : List ℕ) (b : ℕ) (ch : List ℕ) → Other (loadRefusal c d (mapOf c) t b ch)
+  other-load : (d t : List ℕ) (b : ℕ) (ch : List ℕ) → Other (loadRefusal 2 c d (mapOf c) t b ch)
   unfolding loadRefusal
   other-load d t b ch =
       other-else _ _ (other-pair d)
@@ -103,29 +108,48 @@ module _ (c : List ℕ) where
       (other-else _ _ (other-choice ch)
       (other-else _ _ (other-block b) (other-else _ _ (other-refuse 12 _ (λ e. omega arith)) (other-refuse 14 _ (λ e. omega arith)))))))
 
-  other-evict : (d : List ℕ) (b : ℕ) (ch : List ℕ) → Other (evictRefusal c d (mapOf c) b ch)
+  other-evict : (d : List ℕ) (b : ℕ) (ch : List ℕ) → Other (evictRefusal 2 c d (mapOf c) b ch)
   unfolding evictRefusal
   other-evict d b ch =
       other-else _ _ (other-pair d)
       (other-else _ _ other-map (other-else _ _ (other-choice ch) (other-else _ _ (other-block b) (other-refuse 13 _ (λ e. omega arith)))))
 
-  other-recover : Other (recoverRefusal c (mapOf c))
+  other-recover : Other (recoverRefusal 2 c (mapOf c))
   unfolding recoverRefusal makeRefusal
-  other-recover = other-else _ _ (other-else _ _ other-fit (other-damage (geometryOf c))) other-map
+  other-recover = other-else _ _ (other-else _ _ (other-fit 1 2) (other-damage (geometryOf c))) other-map
 
-other-call : (q : Call) (m : Media) → Other (workOf q (mapOf (m .onCard)) m .refusal)
-unfolding workOf commitWork roomWork loadWork evictWork recoverWork
+  other-upgrade : Other (upgradeRefusal c)
+  unfolding upgradeRefusal
+  other-upgrade = other-else _ _ (other-fit 1 1) (other-card (geometryOf c))
+
+other-call : (q : Call) (m : Media) → Other (workOf 2 q (mapOf (m .onCard)) m .refusal)
+unfolding workOf commitWork roomWork loadWork evictWork recoverWork upgradeWork
 other-call (commit ns bs ch) m = other-commit (m .onCard) ns bs ch
 other-call (makeRoom t ns bs ch) m = other-room (m .onCard) (m .onDisk) t ns bs ch
 other-call (load t b ch) m = other-load (m .onCard) (m .onDisk) t b ch
 other-call (evict b ch) m = other-evict (m .onCard) (m .onDisk) b ch
 other-call recover m = other-recover (m .onCard)
+other-call upgrade m = other-upgrade (m .onCard)
+
+-- upgrade is the call without a map
+only-upgrade : (q : Call) → takesMap q ≡ false → q ≡ upgrade
+unfolding takesMap
+only-upgrade (commit ns bs ch) e = absurd-bool refl e
+only-upgrade (makeRoom t ns bs ch) e = absurd-bool refl e
+only-upgrade (load t b ch) e = absurd-bool refl e
+only-upgrade (evict b ch) e = absurd-bool refl e
+only-upgrade recover e = absurd-bool refl e
+only-upgrade upgrade e = refl
+
+upgrade-map : (m : Media) (s : Map) → workOf 2 upgrade s m .refusal ≡ 0 → mapOf (madeOn card (flat (workOf 2 upgrade s m .runs)) (m .onCard)) ≡ mapOf (m .onCard)
+unfolding workOf upgradeWork upgradeRefusal upgradeRuns single flat madeOn
+upgrade-map m s z = map-upgraded (m .onCard) (orElse-none (fitRefusal 1 1 (m .onCard)) _ z .0)
 
 -- ---- the station's calls
 
 module _ (q : Asked) (m : Media) (s : Map) (own : s ≡ mapOf (m .onCard)) where
   abbrev work : Work
-  work = workOf (q .call) s m
+  work = workOf 2 (q .call) s m
 
   never-15 : answerTo (lent s q) m ≡ Refused 15 → ⊥
   unfolding answerTo lent
@@ -134,13 +158,14 @@ module _ (q : Asked) (m : Media) (s : Map) (own : s ≡ mapOf (m .onCard)) where
       go : Answered (q .allowance) work → ⊥
       go (refused z x k) =
           let h : work .refusal ≡ 15 = cc in
-          other-call (q .call) m (ap (λ (y : Map). workOf (q .call) y m .refusal) (sym own) ∙ h)
+          other-call (q .call) m (ap (λ (y : Map). workOf 2 (q .call) y m .refusal) (sym own) ∙ h)
       go (cut z l x k) = let y : _≡_ {A = ℕ} 0 1 = cc in omega arith
       go (done z x k) = let y : _≡_ {A = ℕ} 0 1 = cc in omega arith
 
+  -- what the station holds then is the map of the card that is left: the call hands it on, or it is upgrade, which leaves the map
   still-own : (answerTo (lent s q) m ≡ Cut → ⊥) → mapTo (lent s q) m ≡ mapOf (after (lent s q) m .onCard)
   unfolding answerTo lent mapTo mapAfter after handedOn
-  still-own h = go (answered (q .allowance) work)
+  still-own h = ⊎-elim (λ e. rw e (go (answered (q .allowance) work))) (λ e. rw e (stays (answered (q .allowance) work) (only-upgrade (q .call) e))) (either (takesMap (q .call)))
     where
       go : Answered (q .allowance) work
           → handedOn (answerOf (q .allowance) work) s (mapOf (afterOn card (q .allowance) work (m .onCard)))
@@ -150,6 +175,15 @@ module _ (q : Asked) (m : Media) (s : Map) (own : s ≡ mapOf (m .onCard)) where
       go (cut z l x k) = absurd (h x)
       go (done z x k) = ap (λ (a : Answer). handedOn a s (mapOf (afterOn card (q .allowance) work (m .onCard)))) x
 
+      stays : Answered (q .allowance) work → q .call ≡ upgrade → s ≡ mapOf (afterOn card (q .allowance) work (m .onCard))
+      stays (refused z x k) e = own ∙ ap mapOf (sym (k card (m .onCard)))
+      stays (cut z l x k) e = absurd (h x)
+      stays (done z x k) e =
+          own
+          ∙ sym (upgrade-map m s (ap (λ (y : Call). workOf 2 y s m .refusal) (sym e) ∙ z))
+          ∙ ap (λ (y : Call). mapOf (madeOn card (flat (workOf 2 y s m .runs)) (m .onCard))) (sym e)
+          ∙ ap mapOf (sym (k card (m .onCard)))
+
 kept : (qs : List Asked) (m : Media) (s : Map) → s ≡ mapOf (m .onCard) → Kept (served qs m s)
 unfolding served
 kept [] m s e = tt
@@ -157,9 +191,9 @@ kept (q ∷ qs) m s e = (never-15 q m s e, λ h. kept qs (after (lent s q) m) (m
 
 made-own : (c : List ℕ) (s : Map) → madeMap c ≡ Is s → s ≡ mapOf c
 unfolding madeMap
-made-own c s e = go (eqb (makeRefusal c) 0) e
+made-own c s e = go (eqb (makeRefusal 2 c) 0) e
   where
-    go : (b : Bool) → cond b (Is (mapOf c)) (RefusedMap (makeRefusal c)) ≡ Is s → s ≡ mapOf c
+    go : (b : Bool) → cond b (Is (mapOf c)) (RefusedMap (makeRefusal 2 c)) ≡ Is s → s ≡ mapOf c
     go true h = cc
     go false h = let z : _≡_ {A = ℕ} 0 1 = cc in absurd (omega arith)
 

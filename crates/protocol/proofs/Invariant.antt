@@ -2,45 +2,64 @@
 -- A change of a data block or a disk block, a change of one entry, and Tail's store each keep it. Assumes nothing.
 use Prim.Native.Nat.{ℕ, _<_}
 use mathlib.Core.List.{List}
-use mathlib.Core.Bool.{Bool, true, false}
+use mathlib.Core.Bool.{Bool, true, false, not}
 use mathlib.Core.Option.{Option, none, some}
 use mathlib.Core.Path.{_≡_, refl, sym, ap, subst, _∙_}
 use mathlib.Core.Logic.{_⊎_, ⊎-elim}
 use native.Mathlib.Omega.{arith}
-use Rattle.protocol.proofs.Below.{same-or-other}
+use Rattle.protocol.proofs.Below.{same-or-other, absurd-bool}
 
--- an entry is unused; or it stands, modified or not, for a number with its current block; or it can be undone to its previous block, if any
+-- an entry is unused; or it stands, modified or not, for a number with its current block; or it can be undone to its previous block, if any, and then is
+-- modified or not as the second test says
 pub data Kind : Type 0 where
   idle : Kind
   live : Bool → ℕ → ℕ → Kind
-  pending : ℕ → Option ℕ → ℕ → Kind
+  pending : Bool → Bool → ℕ → Option ℕ → ℕ → Kind
 
 abbrev pub kindNumber : Kind → Option ℕ
 kindNumber idle = none
 kindNumber (live m b q) = some b
-kindNumber (pending b p q) = some b
+kindNumber (pending m w b p q) = some b
 
 abbrev pub kindCurrent : Kind → Option ℕ
 kindCurrent idle = none
 kindCurrent (live m b q) = some q
-kindCurrent (pending b p q) = some q
+kindCurrent (pending m w b p q) = some q
 
 abbrev pub kindPrevious : Kind → Option ℕ
 kindPrevious idle = none
 kindPrevious (live m b q) = none
-kindPrevious (pending b p q) = p
+kindPrevious (pending m w b p q) = p
 
 -- the settled block, none where the number had no block before
 abbrev pub kindHome : Kind → Option ℕ
 kindHome idle = none
 kindHome (live m b q) = some q
-kindHome (pending b p q) = p
+kindHome (pending m w b p q) = p
 
 -- what Tail's store makes of a kind: an undoable entry stands with its current block
 abbrev pub settledKind : Kind → Kind
 settledKind idle = idle
 settledKind (live m b q) = live m b q
-settledKind (pending b p q) = live true b q
+settledKind (pending m w b p q) = live m b q
+
+-- what recovery makes of a kind: an undoable entry stands with its previous block, if any
+abbrev pub undoneKind : Kind → Kind
+undoneKind idle = idle
+undoneKind (live m b q) = live m b q
+undoneKind (pending m w b none q) = idle
+undoneKind (pending m w b (some p) q) = live w b p
+
+-- the current block is the disk's, and so is the previous one
+abbrev pub isClean : Kind → Bool
+isClean idle = false
+isClean (live m b q) = not m
+isClean (pending m w b p q) = not m
+
+abbrev pub wasClean : Kind → Bool
+wasClean idle = false
+wasClean (live m b q) = false
+wasClean (pending m w b p q) = not w
 
 -- the entries' kinds, the data blocks and the disk's blocks
 pub record View : Type 0 where
@@ -57,7 +76,10 @@ pub record Safe (n d : ℕ) (row : ℕ → List ℕ) (v : View) : Type 0 where
   pub currents : (i j x : ℕ) → i < n → j < n → kindCurrent (v .kind i) ≡ some x → kindCurrent (v .kind j) ≡ some x → i ≡ j
   pub previouses : (i j x : ℕ) → i < n → j < n → kindPrevious (v .kind i) ≡ some x → kindPrevious (v .kind j) ≡ some x → i ≡ j
   pub crossed : (i j x : ℕ) → i < n → j < n → kindPrevious (v .kind i) ≡ some x → kindCurrent (v .kind j) ≡ some x → i ≡ j
-  pub clean : (i b q : ℕ) → i < n → v .kind i ≡ live false b q → v .block q ≡ v .home b
+  pub clean : (i b q : ℕ) → i < n → isClean (v .kind i) ≡ true → kindNumber (v .kind i) ≡ some b → kindCurrent (v .kind i) ≡ some q
+      → v .block q ≡ v .home b
+  pub cleanBefore : (i b p : ℕ) → i < n → wasClean (v .kind i) ≡ true → kindNumber (v .kind i) ≡ some b → kindPrevious (v .kind i) ≡ some p
+      → v .block p ≡ v .home b
   pub held : (i b p : ℕ) → i < n → kindNumber (v .kind i) ≡ some b → kindHome (v .kind i) ≡ some p → v .block p ≡ row b
   pub bare : (b : ℕ) → b < d → ((i : ℕ) → i < n → kindNumber (v .kind i) ≡ some b → kindHome (v .kind i) ≡ none) → v .home b ≡ row b
 
@@ -65,7 +87,7 @@ pub record Safe (n d : ℕ) (row : ℕ → List ℕ) (v : View) : Type 0 where
 pub home-under : {m : ℕ} (k : Kind) (p : ℕ) → kindHome k ≡ some p → (kindCurrent k ≡ some p → p < m) → (kindPrevious k ≡ some p → p < m) → p < m
 home-under idle p e c r = let z : _≡_ {A = ℕ} 0 1 = cc in absurd (omega arith)
 home-under (live m b q) p e c r = c e
-home-under (pending b o q) p e c r = r e
+home-under (pending m w b o q) p e c r = r e
 
 -- ---- a data block or a disk block changes
 
@@ -86,32 +108,35 @@ change-media {n} {d} {row} {v} {w} s same cur prev homes =
       currents = λ i j x l m e f. s .currents i j x l m (via kindCurrent i l e) (via kindCurrent j m f);
       previouses = λ i j x l m e f. s .previouses i j x l m (via kindPrevious i l e) (via kindPrevious j m f);
       crossed = λ i j x l m e f. s .crossed i j x l m (via kindPrevious i l e) (via kindCurrent j m f);
-      clean = cleaned;
+      clean = cleaned isClean kindCurrent (λ b q. refl) cur (s .clean);
+      cleanBefore = cleaned wasClean kindPrevious (λ b q. refl) prev (s .cleanBefore);
       held = λ i b p l e f. kept (v .kind i) i p l refl (via kindHome i l f) ∙ s .held i b p l (via kindNumber i l e) (via kindHome i l f);
       bare = bared;
     }
   where
-    via : (f : Kind → Option ℕ) (i : ℕ) {x : Option ℕ} → i < n → f (w .kind i) ≡ x → f (v .kind i) ≡ x
+    via : {A : Type 0} (f : Kind → A) (i : ℕ) {x : A} → i < n → f (w .kind i) ≡ x → f (v .kind i) ≡ x
     via f i l e = sym (ap f (same i l)) ∙ e
 
     kept : (k : Kind) (i p : ℕ) → i < n → v .kind i ≡ k → kindHome k ≡ some p → w .block p ≡ v .block p
     kept idle i p l e f = let z : _≡_ {A = ℕ} 0 1 = cc in absurd (omega arith)
     kept (live m b q) i p l e f = cur i p l (ap kindCurrent e ∙ f)
-    kept (pending b o q) i p l e f = prev i p l (ap kindPrevious e ∙ f)
+    kept (pending m z b o q) i p l e f = prev i p l (ap kindPrevious e ∙ f)
 
-    cleaned : (i b q : ℕ) → i < n → w .kind i ≡ live false b q → w .block q ≡ w .home b
-    cleaned i b q l e =
-        let k : v .kind i ≡ live false b q = sym (same i l) ∙ e in
+    -- a clean current block, or a clean previous one: no modified entry stands for its number, so the disk's block stays
+    cleaned : (f : Kind → Bool) (h : Kind → Option ℕ) → ((b q : ℕ) → f (live true b q) ≡ false)
+        → ((i p : ℕ) → i < n → h (v .kind i) ≡ some p → w .block p ≡ v .block p)
+        → ((i b q : ℕ) → i < n → f (v .kind i) ≡ true → kindNumber (v .kind i) ≡ some b → h (v .kind i) ≡ some q → v .block q ≡ v .home b)
+        → (i b q : ℕ) → i < n → f (w .kind i) ≡ true → kindNumber (w .kind i) ≡ some b → h (w .kind i) ≡ some q → w .block q ≡ w .home b
+    cleaned f h dirty stays before i b q l c e k =
         ⊎-elim
-        (λ h. cur i q l (ap kindCurrent k) ∙ s .clean i b q l k ∙ sym h)
-        (λ t. absurd (clash i b q (t .0) (t .1) l (t .2) k (t .3)))
-        (homes b (s .numberUnder i b l (ap kindNumber k)))
+        (λ x. stays i q l (via h i l k) ∙ before i b q l (via f i l c) (via kindNumber i l e) (via h i l k) ∙ sym x)
+        (λ t. absurd (clash (t .0) (t .1) (t .2) (t .3)))
+        (homes b (s .numberUnder i b l (via kindNumber i l e)))
       where
-        clash : (i b q j q′ : ℕ) → i < n → j < n → v .kind i ≡ live false b q → v .kind j ≡ live true b q′ → ⊥
-        clash i b q j q′ l m e f =
-            let h : i ≡ j = s .numbers i j b l m (ap kindNumber e) (ap kindNumber f) in
-            let z : _≡_ {A = ℕ} 0 1 = cc (ap (v .kind) h) in
-            omega arith
+        clash : (j q′ : ℕ) → j < n → v .kind j ≡ live true b q′ → ⊥
+        clash j q′ m x =
+            let y : i ≡ j = s .numbers i j b l m (via kindNumber i l e) (ap kindNumber x) in
+            absurd-bool (via f i l c) (ap f (ap (v .kind) y ∙ x) ∙ dirty b q′)
 
     bared : (b : ℕ) → b < d → ((i : ℕ) → i < n → kindNumber (w .kind i) ≡ some b → kindHome (w .kind i) ≡ none) → w .home b ≡ row b
     bared b l none′ =
@@ -139,7 +164,8 @@ pub record Owes (n d : ℕ) (row : ℕ → List ℕ) (v : View) (i : ℕ) (k : K
   pub previouses : (j x : ℕ) → j < n → (j ≡ i → ⊥) → kindPrevious k ≡ some x → kindPrevious (v .kind j) ≡ some x → ⊥
   pub previousCurrent : (j x : ℕ) → j < n → (j ≡ i → ⊥) → kindPrevious k ≡ some x → kindCurrent (v .kind j) ≡ some x → ⊥
   pub currentPrevious : (j x : ℕ) → j < n → (j ≡ i → ⊥) → kindCurrent k ≡ some x → kindPrevious (v .kind j) ≡ some x → ⊥
-  pub clean : (b q : ℕ) → k ≡ live false b q → v .block q ≡ v .home b
+  pub clean : (b q : ℕ) → isClean k ≡ true → kindNumber k ≡ some b → kindCurrent k ≡ some q → v .block q ≡ v .home b
+  pub cleanBefore : (b p : ℕ) → wasClean k ≡ true → kindNumber k ≡ some b → kindPrevious k ≡ some p → v .block p ≡ v .home b
   pub held : (b p : ℕ) → kindNumber k ≡ some b → kindHome k ≡ some p → v .block p ≡ row b
   pub bare : (b : ℕ) → b < d → (kindNumber k ≡ some b → kindHome k ≡ none)
       → (kindNumber (v .kind i) ≡ some b → kindHome (v .kind i) ≡ none) ⊎ (v .home b ≡ row b)
@@ -165,7 +191,9 @@ change-entry {n} {d} {row} {v} {w} i k s il new old blocks homes o =
       currents = apart kindCurrent kindCurrent (s .currents) (o .currents) (o .currents);
       previouses = apart kindPrevious kindPrevious (s .previouses) (o .previouses) (o .previouses);
       crossed = apart kindPrevious kindCurrent (s .crossed) (o .previousCurrent) (o .currentPrevious);
-      clean = λ j b q l e. cleaned j b q l e (which j l);
+      clean = λ j b q l c e f. cleaned isClean kindCurrent (s .currentUnder) (o .currentUnder) (s .clean) (o .clean) j b q l c e f (which j l);
+      cleanBefore = λ j b q l c e f.
+          cleaned wasClean kindPrevious (s .previousUnder) (o .previousUnder) (s .cleanBefore) (o .cleanBefore) j b q l c e f (which j l);
       held = λ j b p l e f. homeBlock j b p l e f (which j l);
       bare = bared;
     }
@@ -194,13 +222,20 @@ change-entry {n} {d} {row} {v} {w} i k s il new old blocks homes o =
         go (other p h) (this q t) = absurd (old-new a x la p (sym (ap g t) ∙ eb) (sym (ap f h) ∙ ea))
         go (other p h) (other q t) = before a b x la lb (sym (ap f h) ∙ ea) (sym (ap g t) ∙ eb)
 
-    cleaned : (j b q : ℕ) → j < n → w .kind j ≡ live false b q → Which n v w i k j → w .block q ≡ w .home b
-    cleaned j b q l e (this p h) =
-        let x : k ≡ live false b q = sym h ∙ e in
-        blocks q (o .currentUnder q (ap kindCurrent x)) ∙ o .clean b q x ∙ sym (homes b (o .numberUnder b (ap kindNumber x)))
-    cleaned j b q l e (other p h) =
-        let x : v .kind j ≡ live false b q = sym h ∙ e in
-        blocks q (s .currentUnder j q l (ap kindCurrent x)) ∙ s .clean j b q l x ∙ sym (homes b (s .numberUnder j b l (ap kindNumber x)))
+    cleaned : (f : Kind → Bool) (g : Kind → Option ℕ)
+        → ((j x : ℕ) → j < n → g (v .kind j) ≡ some x → x < n) → ((x : ℕ) → g k ≡ some x → x < n)
+        → ((j b q : ℕ) → j < n → f (v .kind j) ≡ true → kindNumber (v .kind j) ≡ some b → g (v .kind j) ≡ some q → v .block q ≡ v .home b)
+        → ((b q : ℕ) → f k ≡ true → kindNumber k ≡ some b → g k ≡ some q → v .block q ≡ v .home b)
+        → (j b q : ℕ) → j < n → f (w .kind j) ≡ true → kindNumber (w .kind j) ≡ some b → g (w .kind j) ≡ some q → Which n v w i k j
+        → w .block q ≡ w .home b
+    cleaned f g low new-low before now j b q l c e x (this p h) =
+        let t = sym (ap kindNumber h) ∙ e in
+        let u = sym (ap g h) ∙ x in
+        blocks q (new-low q u) ∙ now b q (sym (ap f h) ∙ c) t u ∙ sym (homes b (o .numberUnder b t))
+    cleaned f g low new-low before now j b q l c e x (other p h) =
+        let t = sym (ap kindNumber h) ∙ e in
+        let u = sym (ap g h) ∙ x in
+        blocks q (low j q l u) ∙ before j b q l (sym (ap f h) ∙ c) t u ∙ sym (homes b (s .numberUnder j b l t))
 
     homeBlock : (j b p : ℕ) → j < n → kindNumber (w .kind j) ≡ some b → kindHome (w .kind j) ≡ some p → Which n v w i k j → w .block p ≡ row b
     homeBlock j b p l e f (this q h) =
@@ -243,7 +278,11 @@ settle-all {n} {d} {row} {row′} {v} {w} s new blocks homes full empty =
       currents = λ i j x l m e f. s .currents i j x l m (cur i l e) (cur j m f);
       previouses = λ i j x l m e f. absurd (no-previous i l e);
       crossed = λ i j x l m e f. absurd (no-previous i l e);
-      clean = cleaned;
+      clean = λ i b q l c e f.
+          blocks q (s .currentUnder i q l (cur i l f))
+          ∙ s .clean i b q l (sym (ap isClean (new i l) ∙ settled-clean (v .kind i)) ∙ c) (num i l e) (cur i l f)
+          ∙ sym (homes b (s .numberUnder i b l (num i l e)));
+      cleanBefore = λ i b q l c e f. absurd (no-previous i l f);
       held = λ i b p l e f. blocks p (s .currentUnder i p l (home i l f)) ∙ full i b p l (num i l e) (home i l f);
       bare = λ b l all. homes b l ∙ empty b l (λ i m e. absent i b m e (all i m));
     }
@@ -251,22 +290,27 @@ settle-all {n} {d} {row} {row′} {v} {w} s new blocks homes full empty =
     settled-number : (k : Kind) → kindNumber (settledKind k) ≡ kindNumber k
     settled-number idle = refl
     settled-number (live m b q) = refl
-    settled-number (pending b p q) = refl
+    settled-number (pending m w b p q) = refl
 
     settled-current : (k : Kind) → kindCurrent (settledKind k) ≡ kindCurrent k
     settled-current idle = refl
     settled-current (live m b q) = refl
-    settled-current (pending b p q) = refl
+    settled-current (pending m w b p q) = refl
 
     settled-home : (k : Kind) → kindHome (settledKind k) ≡ kindCurrent k
     settled-home idle = refl
     settled-home (live m b q) = refl
-    settled-home (pending b p q) = refl
+    settled-home (pending m w b p q) = refl
+
+    settled-clean : (k : Kind) → isClean (settledKind k) ≡ isClean k
+    settled-clean idle = refl
+    settled-clean (live m b q) = refl
+    settled-clean (pending m w b p q) = refl
 
     settled-previous : (k : Kind) → kindPrevious (settledKind k) ≡ none
     settled-previous idle = refl
     settled-previous (live m b q) = refl
-    settled-previous (pending b p q) = refl
+    settled-previous (pending m w b p q) = refl
 
     num : (i : ℕ) {x : Option ℕ} → i < n → kindNumber (w .kind i) ≡ x → kindNumber (v .kind i) ≡ x
     num i l e = sym (ap kindNumber (new i l) ∙ settled-number (v .kind i)) ∙ e
@@ -283,16 +327,6 @@ settle-all {n} {d} {row} {row′} {v} {w} s new blocks homes full empty =
         let z : _≡_ {A = ℕ} 0 1 = cc in
         omega arith
 
-    cleaned : (i b q : ℕ) → i < n → w .kind i ≡ live false b q → w .block q ≡ w .home b
-    cleaned i b q l e = go (v .kind i) refl
-      where
-        go : (k : Kind) → v .kind i ≡ k → w .block q ≡ w .home b
-        go idle h = let z : _≡_ {A = ℕ} 0 1 = cc (new i l, ap settledKind h) in absurd (omega arith)
-        go (live m b′ q′) h =
-            let x : v .kind i ≡ live false b q = h ∙ sym (ap settledKind h) ∙ sym (new i l) ∙ e in
-            blocks q (s .currentUnder i q l (ap kindCurrent x)) ∙ s .clean i b q l x ∙ sym (homes b (s .numberUnder i b l (ap kindNumber x)))
-        go (pending b′ p q′) h = let z : _≡_ {A = ℕ} 0 1 = cc (new i l, ap settledKind h) in absurd (omega arith)
-
     absent : (i b : ℕ) → i < n → kindNumber (v .kind i) ≡ some b → (kindNumber (w .kind i) ≡ some b → kindHome (w .kind i) ≡ none) → ⊥
     absent i b l e h = go (v .kind i) refl
       where
@@ -302,4 +336,4 @@ settle-all {n} {d} {row} {row′} {v} {w} s new blocks homes full empty =
         go : (k : Kind) → v .kind i ≡ k → ⊥
         go idle q = let z : _≡_ {A = ℕ} 0 1 = cc (ap kindNumber q) in omega arith
         go (live m b′ q′) q = let z : _≡_ {A = ℕ} 0 1 = cc (ap kindCurrent q, no-home) in omega arith
-        go (pending b′ p q′) q = let z : _≡_ {A = ℕ} 0 1 = cc (ap kindCurrent q, no-home) in omega arith
+        go (pending m w b′ p q′) q = let z : _≡_ {A = ℕ} 0 1 = cc (ap kindCurrent q, no-home) in omega arith

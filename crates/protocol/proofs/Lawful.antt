@@ -9,28 +9,27 @@ use mathlib.Core.Path.{_≡_, refl, sym, ap, subst, _∙_}
 use mathlib.Core.Logic.{_⊎_, inl, inr, ⊎-elim}
 use native.Mathlib.Nat.{suc-mul}
 use native.Mathlib.Omega.{arith}
-use lib.ListN.{length, take, drop, getD, replicate, length-append, length-replicate, length-drop}
+use lib.ListN.{length, take, drop, replicate, length-append, length-replicate, length-drop}
 use lib.Seq.{take-append-le, drop-append-le, take-all, drop-at}
-use lib.Dec.{eqb, ltb}
-use borrow.Author.Tests.{eq-eqb, eqb-true, ltb-true, lt-ltb}
+use lib.Dec.{eqb, ltb, leb}
+use borrow.Author.Tests.{eq-eqb, eqb-true, ltb-true, lt-ltb, leb-true, le-leb}
 use Rattle.numbers.specs.Bytes.{part, numberAt}
 use Rattle.numbers.proofs.Laws.{length-part}
 use Rattle.protocol.specs.declared.Geometry.{Geometry}
 use Rattle.protocol.specs.Below.{allBelow, eachBelow}
-use Rattle.protocol.specs.Layout.{goodGeometry, geometryOf, goodHeader, cardLength, diskLength, blockSize, blockPlace, blockAt, diskPlace, diskBlock}
+use Rattle.protocol.specs.Layout.{between, goodGeometry, geometryOf, versionOf, goodHeader, cardLength, diskLength, blockSize, blockPlace, blockAt, diskPlace, diskBlock}
 use Rattle.protocol.specs.Entry.{entryAt, goodEntry}
 use Rattle.protocol.specs.Ring.{headOf, tailOf, windowOf, usedAt, settledBlock, isSettled, findEntry, cached, currentOf}
 use Rattle.protocol.specs.Check.{refuse, headerFits, cardFits, windowNumberFits, ringFits, goodEntryAt, entriesFit, alike, apart, apartBefore, entriesApart, fitRefusal, damageRefusal, cardRefusal}
 use Rattle.protocol.proofs.Allowed.{bounded}
-use Rattle.protocol.proofs.Below.{either, absurd-bool, below-or-above, last-or-before, and-left, and-right, or-left, or-right, all-at}
+use Rattle.protocol.proofs.Below.{either, absurd-bool, below-or-above, last-or-before, and-left, and-right, and-both, or-left, or-right, all-at}
 use Rattle.protocol.proofs.Checks.{Limits, limits, orElse-none, refuse-none}
-use Rattle.protocol.proofs.Holds.{used-number, used-current, number-used, idle-kind, live-kind, settled-undoable, geometry-is, fit-passes, damage-passes}
-use Rattle.protocol.proofs.Invariant.{Kind, idle, live, kindNumber, kindCurrent, kindPrevious, kindHome}
-use Rattle.protocol.proofs.Loaded.{settled-ring, Cached, cached-entry, not-cached}
+use Rattle.protocol.proofs.Holds.{header-version, header-by, version-known, used-number, used-current, number-used, idle-kind, live-kind, settled-undoable, geometry-is, fit-passes, damage-passes}
+use Rattle.protocol.proofs.Invariant.{Kind, idle, live, kindPrevious, kindHome}
+use Rattle.protocol.proofs.Loaded.{window-start, settled-ring, Cached, cached-entry, not-cached}
 use Rattle.protocol.proofs.Planned.{current-used}
 use Rattle.protocol.proofs.Region.{block, in-card, place-block, block-ends}
 use Rattle.protocol.proofs.Shape.{kindAt, Shape, Inv}
-use Rattle.protocol.proofs.Committed.{window-start}
 
 -- ---- a disk of given blocks
 
@@ -95,7 +94,7 @@ module _ (g : Geometry) (c : List ℕ) (distinct : entriesApart g c ≡ true) wh
 
 pub record Intact (g : Geometry) (c : List ℕ) : Type 0 where
   pub own : geometryOf c ≡ g
-  pub header : goodHeader c ≡ true
+  pub header : goodHeader 1 2 c ≡ true
   pub good : goodGeometry g ≡ true
   pub sized : length c ≡ cardLength g
   pub head : headOf c < g .slots
@@ -103,22 +102,25 @@ pub record Intact (g : Geometry) (c : List ℕ) : Type 0 where
   pub fits : entriesFit g c ≡ true
   pub distinct : entriesApart g c ≡ true
 
-pub intact : (c : List ℕ) → fitRefusal c ≡ 0 → damageRefusal (geometryOf c) c ≡ 0 → Intact (geometryOf c) c
-unfolding fitRefusal headerFits cardFits damageRefusal ringFits goodHeader
-intact c fit damage =
+pub intact : (low high : ℕ) (c : List ℕ) → 1 ≤ low → high ≤ 2 → fitRefusal low high c ≡ 0 → damageRefusal (geometryOf c) c ≡ 0 → Intact (geometryOf c) c
+unfolding fitRefusal headerFits cardFits damageRefusal ringFits goodHeader between
+intact low high c lo hi fit damage =
     let g = geometryOf c in
-    let (one, two) = orElse-none (refuse 1 (headerFits c)) _ fit in
-    let header = and-right (not (ltb (length c) 128)) (goodHeader c) (refuse-none 1 (headerFits c) (omega arith) one) in
+    let (one, two) = orElse-none (refuse 1 (headerFits low high c)) _ fit in
+    let header = and-right (not (ltb (length c) 128)) (goodHeader low high c) (refuse-none 1 (headerFits low high c) (omega arith) one) in
+    let version = header-version c low high header in
+    let above : low ≤ versionOf c = leb-true _ _ (and-left (leb low (versionOf c)) _ version) in
+    let below : versionOf c ≤ high = leb-true _ _ (and-right (leb low (versionOf c)) _ version) in
     let (four, more) = orElse-none (refuse 4 (ringFits g c)) _ damage in
     let (five, six) = orElse-none (refuse 5 (entriesFit g c)) _ more in
     let ring = refuse-none 4 (ringFits g c) (omega arith) four in
     let ring₂ = and-right (ltb (headOf c) (g .slots)) (ltb (tailOf c) (g .slots) && allBelow (windowNumberFits g c) (windowOf g c)) ring in
     record {
       own = refl;
-      header = header;
+      header = header-by c low high 1 2 header ∙ and-both (le-leb 1 (versionOf c) (omega arith)) (le-leb (versionOf c) 2 (omega arith));
       good =
           and-left (goodGeometry g) _
-          (and-right (eqb (getD c 4 0) 1) _ (and-right (eqb (numberAt c 0 4) 64) _ header));
+          (and-right (between low high (versionOf c)) _ (and-right (eqb (numberAt c 0 4) 64) _ header));
       sized = eqb-true _ _ (refuse-none 2 (cardFits g c) (omega arith) two);
       head = ltb-true _ _ (and-left (ltb (headOf c) (g .slots)) _ ring);
       tail = ltb-true _ _ (and-left (ltb (tailOf c) (g .slots)) _ ring₂);
@@ -130,25 +132,25 @@ intact c fit damage =
 pub inv-intact : {g : Geometry} {row : ℕ → List ℕ} {c d : List ℕ} → Inv g row c d → Intact g c
 inv-intact {g} {row} {c} {d} v =
     subst (λ (y : Geometry). Intact y c) (geometry-is v)
-    (intact c (fit-passes v) (ap (λ (y : Geometry). damageRefusal y c) (geometry-is v) ∙ damage-passes v))
+    (intact 1 2 c (omega arith) (omega arith) (fit-passes v 1 2 (version-known v)) (ap (λ (y : Geometry). damageRefusal y c) (geometry-is v) ∙ damage-passes v))
 
 module _ {g : Geometry} {c : List ℕ} (w : Intact g c) where
   fit : Limits g
   fit = limits g (w .good)
 
-  good-entry : (i : ℕ) → i < g .blocks → goodEntry (g .blocks) (g .disk) (entryAt g c i) ≡ true
+  good-entry : (i : ℕ) → i < g .blocks → goodEntry (versionOf c) (g .blocks) (g .disk) (entryAt g c i) ≡ true
   unfolding entriesFit goodEntryAt
   good-entry i l = all-at _ (g .blocks) i (w .fits) l
 
   pub current-below : (i : ℕ) → i < g .blocks → entryAt g c i .current < g .blocks
   current-below i l =
       let m = fit in
-      bounded (g .blocks) (g .disk) (entryAt g c i) (omega arith) (omega arith) (good-entry i l) .current
+      bounded (versionOf c) (g .blocks) (g .disk) (entryAt g c i) (omega arith) (omega arith) (good-entry i l) .current
 
   pub number-below : (i : ℕ) → i < g .blocks → entryAt g c i .number < g .disk
   number-below i l =
       let m = fit in
-      bounded (g .blocks) (g .disk) (entryAt g c i) (omega arith) (omega arith) (good-entry i l) .number
+      bounded (versionOf c) (g .blocks) (g .disk) (entryAt g c i) (omega arith) (omega arith) (good-entry i l) .number
 
   -- the entry with the number b is the one that is found for b
   pub entry-found : (i b : ℕ) → i < g .blocks → usedAt g c i ≡ true → entryAt g c i .number ≡ b → findEntry g c b ≡ i
@@ -223,7 +225,6 @@ module _ {g : Geometry} {c : List ℕ} (w : Intact g c) where
           tailBelow = w .tail;
           window = λ j l. absurd (omega (arith, window-start g c (settled-ring g c s)));
           entries = good-entry;
-          undoableModified = λ i l u. absurd-bool u (settled-undoable g c s i l);
         }
 
     pub lawful : Inv g held c home
@@ -244,9 +245,10 @@ module _ {g : Geometry} {c : List ℕ} (w : Intact g c) where
                 currents-apart g c (w .distinct) i j l m u v (n ∙ sym o);
             previouses = λ i j x l m e f. no-previous i x l e;
             crossed = λ i j x l m e f. no-previous i x l e;
-            clean = λ i b q l e.
-                let (u, n) = number-used g c i (ap kindNumber e) in
-                let (t, o) = current-used g c i q (ap kindCurrent e) in
+            cleanBefore = λ i b q l t e f. no-previous i q l f;
+            clean = λ i b q l t e f.
+                let (u, n) = number-used g c i e in
+                let (_, o) = current-used g c i q f in
                 ap (blockAt g c) (sym o) ∙ held-is i b l u n
                 ∙ sym (home-block b (subst (λ (z : ℕ). z < g .disk) n (number-below i l)));
             held = λ i b p l e f.

@@ -15,22 +15,22 @@ use Rattle.protocol.specs.declared.Entry.{Entry}
 use Rattle.protocol.specs.declared.Geometry.{Geometry}
 use Rattle.protocol.specs.declared.Map.{Map}
 use Rattle.protocol.specs.Below.{anyBelow, eachBelow}
-use Rattle.protocol.specs.Layout.{geometryOf, blockAt, diskBlock, entryPlace}
+use Rattle.protocol.specs.Layout.{geometryOf, versionOf, blockAt, diskBlock, entryPlace}
 use Rattle.protocol.specs.Entry.{FRESH, entryOf, unused, entryBytes, entryIn, entryAt, inUse, isModified, goodEntry, switched, undone}
 use Rattle.protocol.specs.Ring.{headOf, usedAt, undoableAt, isSettled, findEntry, cached, currentOf}
 use Rattle.protocol.specs.Check.{refuse, _orElse_, goodEntryAt, entriesFit, fitRefusal, diskRefusal, damageRefusal, cardRefusal, choiceRefusal}
 use Rattle.protocol.specs.Store.{card, storedOn, madeOn, flat, single, words, sectors, entryStore, tailStore}
 use Rattle.protocol.specs.Search.{freeBlocks, unusedEntries}
 use Rattle.protocol.specs.Map.{mapBy, isMarked, mapOf, mapRefusal, makeRefusal}
-use Rattle.protocol.specs.Commit.{numberOf, newBlock, entryFound, oldBlock, logEntry, roomFor, commitRuns, commitRefusal}
+use Rattle.protocol.specs.Commit.{newBlock, entryFound, oldBlock, logEntry, roomFor, commitRuns, commitRefusal}
 use Rattle.protocol.specs.Recency.{tableRefusal}
 use Rattle.protocol.specs.Load.{pairRefusal, blockRefusal, cleanEntry, loadRuns, loadRefusal, writeBack, evictRuns, evictRefusal}
 use Rattle.protocol.specs.Recover.{sameBytes, ifChanging, undoRuns, recoverRuns, recoverRefusal}
-use Rattle.protocol.proofs.Allowed.{UsedEntry, clean, used-good, used-entry, unused-good, unused-used, clean-used, kept-used}
+use Rattle.protocol.proofs.Allowed.{UsedEntry, clean, used-good, used-entry, unused-good, unused-used, clean-used, back-used}
 use Rattle.protocol.proofs.Below.{either, absurd-bool, last-or-before, and-left, and-right, and-both, and-true, or-none, all-at, any-found, any-witness}
 use Rattle.protocol.proofs.Checks.{Limits, limits, orElse-none, refuse-none}
 use Rattle.protocol.proofs.Codec.{EntryFits, geometry-same, entry-of-part, entry-of-bytes, length-entry}
-use Rattle.protocol.proofs.Committed.{Entered, fresh, again, entered, e-below, q-free, Entries, commit-entries, commit-done}
+use Rattle.protocol.proofs.Committed.{Entered, fresh, again, entered, e-below, q-free, Entries, kept-used-of, commit-entries, commit-done}
 use Rattle.protocol.proofs.Holds.{used-current, geometry-is}
 use Rattle.protocol.proofs.Invariant.{kindCurrent}
 use Rattle.protocol.proofs.Lawful.{Intact, intact, lawful}
@@ -86,18 +86,18 @@ module _ {g : Geometry} {c : List ℕ} (c′ : List ℕ) (w : Intact g c) (i : �
 
 -- ---- what the checks have passed
 
-module _ (c : List ℕ) (fit : fitRefusal c ≡ 0) where
+module _ (c : List ℕ) (fit : fitRefusal 2 2 c ≡ 0) where
   pub card-intact : cardRefusal (geometryOf c) c ≡ 0 → Intact (geometryOf c) c × (isSettled (geometryOf c) c ≡ true)
   unfolding cardRefusal
   card-intact z =
       let (damage, seven) = orElse-none (damageRefusal (geometryOf c) c) _ z in
-      (intact c fit damage, refuse-none 7 _ (omega arith) seven)
+      (intact 2 2 c (omega arith) (omega arith) fit damage, refuse-none 7 _ (omega arith) seven)
 
 -- a card and a disk that pass 1 to 7
-pub pair-sound : (c d : List ℕ) → pairRefusal c d ≡ 0 → Intact (geometryOf c) c × (isSettled (geometryOf c) c ≡ true)
+pub pair-sound : (c d : List ℕ) → pairRefusal 2 c d ≡ 0 → Intact (geometryOf c) c × (isSettled (geometryOf c) c ≡ true)
 unfolding pairRefusal
 pair-sound c d z =
-    let (fit, rest) = orElse-none (fitRefusal c) _ z in
+    let (fit, rest) = orElse-none (fitRefusal 2 2 c) _ z in
     card-intact c fit (orElse-none (diskRefusal (geometryOf c) d) _ rest .1)
 
 -- ---- evict
@@ -129,20 +129,20 @@ module _ {g : Geometry} {c : List ℕ} (w : Intact g c) (i : ℕ) (l : i < g .bl
   pub clear-marked : (d : ℕ) → d < 128 → isMarked g (storedOn card (entryStore g i unused) c) d ≡ isMarked g c d && not (eqb (entryAt g c i .current) d)
   clear-marked d h =
       one-marked _ w i unused l (header-kept ch (λ p q. omega arith)) (λ j k n. entry-kept ch j k (λ p q. n (sym q)))
-      (entry-stored g c i unused l (w .sized) (entry-fits g (w .good) unused (unused-good (g .blocks) (g .disk)))) d h
+      (entry-stored g c i unused l (w .sized) (entry-fits 2 g (w .good) unused (unused-good 2 (g .blocks) (g .disk)))) d h
       ∙ ap (λ (t : Bool). (isMarked g c d && not (usedAt g c i && eqb (entryAt g c i .current) d)) || (t && eqb 0 d)) unused-used
       ∙ cleared (isMarked g c d) (usedAt g c i) (eqb (entryAt g c i .current) d) u
     where
       cleared : (a b e : Bool) → b ≡ true → (a && not (b && e)) || false ≡ a && not e
       cleared a b e h = rw h (or-none (a && not e))
 
-pub evict-map : (c d : List ℕ) (m : Map) (b : ℕ) (ch : List ℕ) → evictRefusal c d m b ch ≡ 0
+pub evict-map : (c d : List ℕ) (m : Map) (b : ℕ) (ch : List ℕ) → evictRefusal 2 c d m b ch ≡ 0
     → mapOf (madeOn card (flat (evictRuns (geometryOf c) c b)) c)
     ≡ mapBy (λ x. isMarked (geometryOf c) c x && not (eqb (currentOf (geometryOf c) c b) x))
 unfolding evictRefusal currentOf mapOf
 evict-map c d m b ch z =
     let g = geometryOf c in
-    let (pair, more) = orElse-none (pairRefusal c d) _ z in
+    let (pair, more) = orElse-none (pairRefusal 2 c d) _ z in
     let own = orElse-none (blockRefusal g b) _ (orElse-none (choiceRefusal g ch) _ (orElse-none (mapRefusal c m) _ more .1) .1) .1 in
     let w = pair-sound c d pair .0 in
     let k = cached-entry g c b (refuse-none 13 _ (omega arith) own) in
@@ -157,13 +157,13 @@ evict-map c d m b ch z =
 put : (a b x e f : Bool) → b ≡ false → f ≡ true → (a && not (b && x)) || (f && e) ≡ a || e
 put a b x e f p q = (λ t. (a && not (p t && x)) || (q t && e)) ∙ ap (λ (y : Bool). y || e) (and-true a)
 
-pub load-map : (c d : List ℕ) (m : Map) (t : List ℕ) (b : ℕ) (ch : List ℕ) → loadRefusal c d m t b ch ≡ 0
+pub load-map : (c d : List ℕ) (m : Map) (t : List ℕ) (b : ℕ) (ch : List ℕ) → loadRefusal 2 c d m t b ch ≡ 0
     → mapOf (madeOn card (flat (loadRuns (geometryOf c) c d b)) c)
     ≡ mapBy (λ x. isMarked (geometryOf c) c x || eqb (newBlock (geometryOf c) c 0) x)
 unfolding loadRefusal blockRefusal roomFor loadRuns flat single cleanEntry madeOn
 load-map c d m t b ch z =
     let g = geometryOf c in
-    let (pair, more) = orElse-none (pairRefusal c d) _ z in
+    let (pair, more) = orElse-none (pairRefusal 2 c d) _ z in
     let asked = orElse-none (tableRefusal t) _ (orElse-none (mapRefusal c m) _ more .1) .1 in
     let (ten, own) = orElse-none (blockRefusal g b) _ (orElse-none (choiceRefusal g ch) _ asked .1) in
     let last = orElse-none (refuse 12 (not (cached g c b))) _ own .1 in
@@ -181,9 +181,9 @@ load-map c d m t b ch z =
     let ch₁ = words-changed-all g (limits g (w .good)) q bs free c in
     let ch = entry-changed g c₁ i e spare in
     let good =
-    used-good (g .blocks) (g .disk) e
+    used-good 2 (g .blocks) (g .disk) e
     (record { flag = clean refl; numberBelow = ltb-true _ _ (refuse-none 10 _ (omega arith) ten); currentBelow = free; previousBelow = inr refl }) in
-    let now = entry-stored g c₁ i e spare (ch₁ .sized ∙ w .sized) (entry-fits g (w .good) e good) in
+    let now = entry-stored g c₁ i e spare (ch₁ .sized ∙ w .sized) (entry-fits 2 g (w .good) e good) in
     ap mapOf (made-append card (words g q bs .stores) (entryStore g i e ∷ []) c)
     ∙ one-entry _ w i e spare
     (header-kept ch (λ x y. omega arith) ∙ header-kept ch₁ (λ x y. omega arith))
@@ -228,11 +228,15 @@ module _ {g : Geometry} {row : ℕ → List ℕ} {c d : List ℕ} (ns bs : List 
       go (fresh h n q o) = absurd (omega arith)
       go (again h q k r) = k .used
 
+  planned-current : (j : ℕ) → switched (logEntry g c ns j) .current ≡ newBlock g c j
+  unfolding switched logEntry
+  planned-current j = refl
+
   pub new-used : (j : ℕ) → j < length ns → (usedAt g after (entryFound g c ns j) ≡ true) × (entryAt g after (entryFound g c ns j) .current ≡ newBlock g c j)
-  unfolding usedAt switched logEntry
+  unfolding usedAt
   new-used j l = (
-    ap inUse (left .planned j l) ∙ kept-used (numberOf ns j) (oldBlock g c ns j) (newBlock g c j),
-    ap (λ (y : Entry). y .current) (left .planned j l),
+    ap inUse (left .planned j l) ∙ kept-used-of ns bs v p j,
+    ap (λ (y : Entry). y .current) (left .planned j l) ∙ planned-current j,
   )
 
   commit-moves : Moves g c after (among (entryFound g c ns) (length ns)) (among (oldBlock g c ns) (length ns)) (among (newBlock g c) (length ns))
@@ -290,7 +294,7 @@ module _ {g : Geometry} {row : ℕ → List ℕ} {c d : List ℕ} (ns bs : List 
       map-moves w commit-moves
       ∙ map-cong _ _ (λ x l. either-way (isMarked g c x) (among (oldBlock g c ns) (length ns) x) (among (newBlock g c) (length ns) x) (apart x l))
 
-pub commit-map : (c : List ℕ) (m : Map) (ns bs ch : List ℕ) → commitRefusal c m ns bs ch ≡ 0
+pub commit-map : (c : List ℕ) (m : Map) (ns bs ch : List ℕ) → commitRefusal 2 c m ns bs ch ≡ 0
     → mapOf (madeOn card (flat (commitRuns (geometryOf c) c ns bs)) c)
     ≡ mapBy (λ x.
     (isMarked (geometryOf c) c x || anyBelow (λ j. eqb (newBlock (geometryOf c) c j) x) (length ns))
@@ -298,16 +302,16 @@ pub commit-map : (c : List ℕ) (m : Map) (ns bs ch : List ℕ) → commitRefusa
 unfolding commitRefusal
 commit-map c m ns bs ch z =
     let g = geometryOf c in
-    let (fit, more) = orElse-none (fitRefusal c) _ z in
+    let (fit, more) = orElse-none (fitRefusal 2 2 c) _ z in
     let (w, s) = card-intact c fit (orElse-none (cardRefusal g c) _ more .0) in
     let v = lawful w s in
-    commit-leaves ns bs w v (commit-passed v m ns bs ch z)
+    commit-leaves ns bs w v (commit-passed v 2 m ns bs ch z)
 
 -- ---- recovery
 
 -- what recovery makes of entry i of the card c
 recovered : Geometry → List ℕ → ℕ → Entry
-recovered g c i = cond (undoableAt g c i) (undone (entryAt g c i)) (entryAt g c i)
+recovered g c i = cond (undoableAt g c i) (undone (versionOf c) (entryAt g c i)) (entryAt g c i)
 
 module _ {g : Geometry} {c : List ℕ} (w : Intact g c) where
   -- the first i entries are recovered, the others as they were
@@ -317,7 +321,7 @@ module _ {g : Geometry} {c : List ℕ} (w : Intact g c) where
     done : (j : ℕ) → j < i → j < g .blocks → entryAt g c′ j ≡ recovered g c j
     ahead : (j : ℕ) → i ≤ j → j < g .blocks → entryAt g c′ j ≡ entryAt g c j
 
-  good-at : (i : ℕ) → i < g .blocks → goodEntry (g .blocks) (g .disk) (entryAt g c i) ≡ true
+  good-at : (i : ℕ) → i < g .blocks → goodEntry (versionOf c) (g .blocks) (g .disk) (entryAt g c i) ≡ true
   unfolding entriesFit goodEntryAt
   good-at i l = all-at _ (g .blocks) i (w .fits) l
 
@@ -325,15 +329,15 @@ module _ {g : Geometry} {c : List ℕ} (w : Intact g c) where
   unfolding undoableAt
   undoable-used i u = and-left (usedAt g c i) _ u
 
-  use-of : (i : ℕ) → i < g .blocks → undoableAt g c i ≡ true → UsedEntry (g .blocks) (g .disk) (entryAt g c i)
+  use-of : (i : ℕ) → i < g .blocks → undoableAt g c i ≡ true → UsedEntry (versionOf c) (g .blocks) (g .disk) (entryAt g c i)
   unfolding usedAt
-  use-of i l u = used-entry (g .blocks) (g .disk) (entryAt g c i) (good-at i l) (undoable-used i u)
+  use-of i l u = used-entry (versionOf c) (g .blocks) (g .disk) (entryAt g c i) (good-at i l) (undoable-used i u)
 
-  cases : (i : ℕ) → i < g .blocks → undoableAt g c i ≡ true → Undone (g .blocks) (g .disk) (entryAt g c i)
-  cases i l u = undo-cases (g .blocks) (g .disk) (entryAt g c i) (use-of i l u)
+  cases : (i : ℕ) → i < g .blocks → undoableAt g c i ≡ true → Undone (versionOf c) (g .blocks) (g .disk) (entryAt g c i)
+  cases i l u = undo-cases (versionOf c) (g .blocks) (g .disk) (entryAt g c i) (use-of i l u)
 
-  fits-undone : (i : ℕ) → i < g .blocks → undoableAt g c i ≡ true → EntryFits (undone (entryAt g c i))
-  fits-undone i l u = entry-fits g (w .good) _ (undone-good (g .blocks) (g .disk) (entryAt g c i) (use-of i l u) (cases i l u))
+  fits-undone : (i : ℕ) → i < g .blocks → undoableAt g c i ≡ true → EntryFits (undone (versionOf c) (entryAt g c i))
+  fits-undone i l u = entry-fits (versionOf c) g (w .good) _ (undone-good (entryAt g c i) (use-of i l u) (cases i l u))
 
   -- nothing is stored where the entry stays
   passes : (i : ℕ) (c′ : List ℕ) → Undoing i c′ → (i < g .blocks → entryAt g c i ≡ recovered g c i) → Undoing (suc i) c′
@@ -350,10 +354,10 @@ module _ {g : Geometry} {c : List ℕ} (w : Intact g c) where
       }
 
   stores : (i : ℕ) (c′ : List ℕ) → i < g .blocks → undoableAt g c i ≡ true → Undoing i c′
-      → Undoing (suc i) (storedOn card (entryStore g i (undone (entryAt g c i))) c′)
+      → Undoing (suc i) (storedOn card (entryStore g i (undone (versionOf c) (entryAt g c i))) c′)
   unfolding recovered
   stores i c′ l u x =
-      let e = undone (entryAt g c i) in
+      let e = undone (versionOf c) (entryAt g c i) in
       let ch = entry-changed g c′ i e l in
       let now = entry-stored g c′ i e l (x .sized ∙ w .sized) (fits-undone i l u) in
       record {
@@ -369,24 +373,24 @@ module _ {g : Geometry} {c : List ℕ} (w : Intact g c) where
 
   -- an entry whose bytes are those of the undone one is it
   stands : (i : ℕ) → i < g .blocks → undoableAt g c i ≡ true
-      → part c (entryPlace g i) (length (entryBytes (undone (entryAt g c i)))) ≡ entryBytes (undone (entryAt g c i))
-      → entryAt g c i ≡ undone (entryAt g c i)
+      → part c (entryPlace g i) (length (entryBytes (undone (versionOf c) (entryAt g c i)))) ≡ entryBytes (undone (versionOf c) (entryAt g c i))
+      → entryAt g c i ≡ undone (versionOf c) (entryAt g c i)
   unfolding entryAt
   stands i l u e =
       entry-of-part c (entryPlace g i)
       ∙ ap (λ (r : List ℕ). entryIn r 0)
-      (ap (part c (entryPlace g i)) (sym (length-entry (undone (entryAt g c i)))) ∙ e)
+      (ap (part c (entryPlace g i)) (sym (length-entry (undone (versionOf c) (entryAt g c i)))) ∙ e)
       ∙ entry-of-bytes _ (fits-undone i l u)
 
   turn : (i : ℕ) (c′ : List ℕ) → i < g .blocks → Undoing i c′ → Undoing (suc i) (madeOn card (flat (undoRuns g c i)) c′)
   unfolding undoRuns ifChanging flat single madeOn recovered entryStore
-  turn i c′ l x = go (undoableAt g c i) refl (sameBytes (part c (entryPlace g i) (length (entryBytes (undone (entryAt g c i))))) (entryBytes (undone (entryAt g c i)))) refl
+  turn i c′ l x = go (undoableAt g c i) refl (sameBytes (part c (entryPlace g i) (length (entryBytes (undone (versionOf c) (entryAt g c i))))) (entryBytes (undone (versionOf c) (entryAt g c i)))) refl
     where
-      go : (u : Bool) → undoableAt g c i ≡ u → (t : Bool) → sameBytes (part c (entryPlace g i) (length (entryBytes (undone (entryAt g c i))))) (entryBytes (undone (entryAt g c i))) ≡ t
-          → Undoing (suc i) (madeOn card (flat (cond u (cond t [] (single (entryStore g i (undone (entryAt g c i))))) [])) c′)
-      go false u t q = passes i c′ x (λ l. sym (ap (λ (b : Bool). cond b (undone (entryAt g c i)) (entryAt g c i)) u))
+      go : (u : Bool) → undoableAt g c i ≡ u → (t : Bool) → sameBytes (part c (entryPlace g i) (length (entryBytes (undone (versionOf c) (entryAt g c i))))) (entryBytes (undone (versionOf c) (entryAt g c i))) ≡ t
+          → Undoing (suc i) (madeOn card (flat (cond u (cond t [] (single (entryStore g i (undone (versionOf c) (entryAt g c i))))) [])) c′)
+      go false u t q = passes i c′ x (λ l. sym (ap (λ (b : Bool). cond b (undone (versionOf c) (entryAt g c i)) (entryAt g c i)) u))
       go true u true q =
-          passes i c′ x (λ l. stands i l u (same-bytes _ _ q) ∙ sym (ap (λ (b : Bool). cond b (undone (entryAt g c i)) (entryAt g c i)) u))
+          passes i c′ x (λ l. stands i l u (same-bytes _ _ q) ∙ sym (ap (λ (b : Bool). cond b (undone (versionOf c) (entryAt g c i)) (entryAt g c i)) u))
       go true u false q = stores i c′ l u x
 
   turns : (i : ℕ) → i ≤ g .blocks → Undoing i (madeOn card (flat (eachBelow (undoRuns g c) i)) c)
@@ -420,23 +424,23 @@ module _ {g : Geometry} {c : List ℕ} (w : Intact g c) where
       (tail-too _ (turns (g .blocks) (omega arith)))
 
   -- an undoable entry's previous block is its current one then, if it has one
-  undone-has : (i : ℕ) (e : Entry) → i < g .blocks → undoableAt g c i ≡ true → e ≡ undone (entryAt g c i)
+  undone-has : (i : ℕ) (e : Entry) → i < g .blocks → undoableAt g c i ≡ true → e ≡ undone (versionOf c) (entryAt g c i)
       → (inUse e ≡ true → e .current ≡ entryAt g c i .previous)
       × ((x : ℕ) → x < 128 → entryAt g c i .previous ≡ x → (inUse e ≡ true) × (e .current ≡ x))
   undone-has i e l u q = go (cases i l u)
     where
-      go : Undone (g .blocks) (g .disk) (entryAt g c i)
+      go : Undone (versionOf c) (g .blocks) (g .disk) (entryAt g c i)
           → (inUse e ≡ true → e .current ≡ entryAt g c i .previous)
           × ((x : ℕ) → x < 128 → entryAt g c i .previous ≡ x → (inUse e ≡ true) × (e .current ≡ x))
       go (emptied f h) = (λ n. absurd-bool n (ap inUse (q ∙ h) ∙ unused-used), λ x b p. absurd (omega arith))
       go (restored m f h) = (
         λ n. ap (λ (y : Entry). y .current) (q ∙ h),
-        λ x b p. (ap inUse (q ∙ h) ∙ kept-used _ _ _, ap (λ (y : Entry). y .current) (q ∙ h) ∙ p),
+        λ x b p. (ap inUse (q ∙ h) ∙ back-used (versionOf c) (entryAt g c i) _ _ _, ap (λ (y : Entry). y .current) (q ∙ h) ∙ p),
       )
 
   -- the entries that change: of the undoable ones at least those that are not undone already
   module _ (changed : ℕ → Bool) (only : (i : ℕ) → i < g .blocks → changed i ≡ true → undoableAt g c i ≡ true)
-      (all : (i : ℕ) → i < g .blocks → changed i ≡ false → undoableAt g c i ≡ true → undone (entryAt g c i) ≡ entryAt g c i) where
+      (all : (i : ℕ) → i < g .blocks → changed i ≡ false → undoableAt g c i ≡ true → undone (versionOf c) (entryAt g c i) ≡ entryAt g c i) where
     abbrev gone : ℕ → Bool
     gone x = anyBelow (λ i. changed i && eqb (entryAt g c i .current) x) (g .blocks)
 
@@ -446,13 +450,13 @@ module _ {g : Geometry} {c : List ℕ} (w : Intact g c) where
     stays : (i : ℕ) → i < g .blocks → changed i ≡ false → recovered g c i ≡ entryAt g c i
     unfolding recovered
     stays i l n = ⊎-elim
-        (λ u. ap (λ (b : Bool). cond b (undone (entryAt g c i)) (entryAt g c i)) u ∙ all i l n u)
-        (λ u. ap (λ (b : Bool). cond b (undone (entryAt g c i)) (entryAt g c i)) u)
+        (λ u. ap (λ (b : Bool). cond b (undone (versionOf c) (entryAt g c i)) (entryAt g c i)) u ∙ all i l n u)
+        (λ u. ap (λ (b : Bool). cond b (undone (versionOf c) (entryAt g c i)) (entryAt g c i)) u)
         (either (undoableAt g c i))
 
-    becomes : (i : ℕ) (e : Entry) → i < g .blocks → changed i ≡ true → e ≡ recovered g c i → e ≡ undone (entryAt g c i)
+    becomes : (i : ℕ) (e : Entry) → i < g .blocks → changed i ≡ true → e ≡ recovered g c i → e ≡ undone (versionOf c) (entryAt g c i)
     unfolding recovered
-    becomes i e l h q = q ∙ ap (λ (b : Bool). cond b (undone (entryAt g c i)) (entryAt g c i)) (only i l h)
+    becomes i e l h q = q ∙ ap (λ (b : Bool). cond b (undone (versionOf c) (entryAt g c i)) (entryAt g c i)) (only i l h)
 
     recover-moves : Moves g c (madeOn card (flat (recoverRuns g c)) c) changed gone come
     unfolding usedAt
@@ -479,15 +483,15 @@ module _ {g : Geometry} {c : List ℕ} (w : Intact g c) where
     recover-leaves : mapOf (madeOn card (flat (recoverRuns g c)) c) ≡ mapBy (λ x. (isMarked g c x && not (gone x)) || come x)
     recover-leaves = map-moves w recover-moves
 
-module _ (c : List ℕ) (m : Map) (z : recoverRefusal c m ≡ 0) (changed : ℕ → Bool)
+module _ (c : List ℕ) (m : Map) (z : recoverRefusal 2 c m ≡ 0) (changed : ℕ → Bool)
     (only : (i : ℕ) → i < geometryOf c .blocks → changed i ≡ true → undoableAt (geometryOf c) c i ≡ true)
     (all : (i : ℕ) → i < geometryOf c .blocks → changed i ≡ false → undoableAt (geometryOf c) c i ≡ true
-    → undone (entryAt (geometryOf c) c i) ≡ entryAt (geometryOf c) c i) where
+    → undone (versionOf c) (entryAt (geometryOf c) c i) ≡ entryAt (geometryOf c) c i) where
   pub recover-map : mapOf (madeOn card (flat (recoverRuns (geometryOf c) c)) c)
       ≡ mapBy (λ x.
       (isMarked (geometryOf c) c x && not (anyBelow (λ i. changed i && eqb (entryAt (geometryOf c) c i .current) x) (geometryOf c .blocks)))
       || anyBelow (λ i. changed i && eqb (entryAt (geometryOf c) c i .previous) x) (geometryOf c .blocks))
   unfolding recoverRefusal makeRefusal
   recover-map =
-      let (fit, damage) = orElse-none (fitRefusal c) _ (orElse-none (makeRefusal c) _ z .0) in
-      recover-leaves (intact c fit damage) changed only all
+      let (fit, damage) = orElse-none (fitRefusal 1 2 c) _ (orElse-none (makeRefusal 2 c) _ z .0) in
+      recover-leaves (intact 1 2 c (omega arith) (omega arith) fit damage) changed only all

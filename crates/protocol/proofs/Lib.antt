@@ -30,4 +30,6 @@ pub mod Steps
 pub mod Stores
 pub mod Table
 pub mod Tables
+pub mod Undone
+pub mod Upgraded
 pub mod Words

@@ -1,7 +1,7 @@
 -- Load and evict, cut anywhere, keep the invariant and the row; once all their stores are made the card is settled as before. Assumes nothing.
 use Prim.Native.Nat.{ℕ, _<_}
 use mathlib.Core.List.{List, [], _∷_, _++_}
-use mathlib.Core.Bool.{Bool, true, false, cond, _&&_, _||_}
+use mathlib.Core.Bool.{Bool, true, false, cond, not, _||_}
 use mathlib.Core.Option.{Option, none, some}
 use mathlib.Core.Path.{_≡_, refl, sym, ap, subst, _∙_}
 use mathlib.Core.Logic.{_⊎_, inl, inr, ⊎-elim}
@@ -12,9 +12,9 @@ use borrow.Author.Tests.{leb-true, ltb-true, ltb-false, eqb-true, not-true}
 use Rattle.numbers.proofs.Laws.{length-part}
 use Rattle.protocol.specs.declared.Entry.{Entry}
 use Rattle.protocol.specs.declared.Geometry.{Geometry}
-use Rattle.protocol.specs.Layout.{blockSize, blockAt, diskBlock, diskLength, blockPlace, diskPlace}
-use Rattle.protocol.specs.Entry.{FRESH, entryOf, unused, entryAt, inUse, isModified, hasLogRole, goodEntry}
-use Rattle.protocol.specs.Ring.{headOf, tailOf, inWindow, usedAt, roleFreeAt, isSettled, entryFor, findEntry, cached, currentOf}
+use Rattle.protocol.specs.Layout.{versionOf, blockSize, blockAt, diskBlock, diskLength, blockPlace, diskPlace}
+use Rattle.protocol.specs.Entry.{FRESH, entryOf, unused, entryAt, isModified, hasLogRole, goodEntry}
+use Rattle.protocol.specs.Ring.{headOf, tailOf, windowLength, windowOf, inWindow, usedAt, roleFreeAt, isSettled, entryFor, findEntry, cached, currentOf}
 use Rattle.protocol.specs.Store.{card, disk, Store, storedOn, madeOn, single, words, sectors, entryStore}
 use Rattle.protocol.specs.Search.{freeBlocks, unusedEntries}
 use Rattle.protocol.specs.Commit.{newBlock, roomFor}
@@ -23,14 +23,14 @@ use Rattle.protocol.proofs.Allowed.{clean, used-good, unused-good, unus
 use Rattle.protocol.proofs.Below.{same-or-other, absurd-bool, and-left, and-right, all-at, first-found, first-missed}
 use Rattle.protocol.proofs.Checks.{Limits, limits}
 use Rattle.protocol.proofs.Holds.{idle-kind, live-kind, number-used, empty-window, for-used, for-number, for-is, no-undoable}
-use Rattle.protocol.proofs.Invariant.{idle, live, kindNumber, kindCurrent, kindPrevious, kindHome, Owes}
+use Rattle.protocol.proofs.Invariant.{idle, live, kindNumber, kindCurrent, kindPrevious, kindHome, isClean, Owes}
 use Rattle.protocol.proofs.Made.{entry-changed, entry-stored, entry-elsewhere, words-changed, words-changed-all, words-elsewhere, words-stored, sectors-others, sectors-elsewhere, sectors-stored, in-disk}
 use Rattle.protocol.proofs.Passed.{EvictPassed, LoadPassed}
 use Rattle.protocol.proofs.Planned.{new-below, new-free, unused-below, unused-is, enough-unused, no-previous}
 use Rattle.protocol.proofs.Recovered.{fits-entry, idle-owes, settled-by}
 use Rattle.protocol.proofs.Region.{entry, block, in-card, place-block}
-use Rattle.protocol.proofs.Shape.{Changed, head-kept, tail-kept, entry-kept, kindOf, kindAt, viewOf, Seen, seen-idle, seen-live, seen-pending, see, Inv}
-use Rattle.protocol.proofs.Steps.{undoable, entry-changes, run-in-block, run-in-home, block-kinds}
+use Rattle.protocol.proofs.Shape.{Changed, window-empty, head-kept, tail-kept, entry-kept, kindOf, kindAt, viewOf, Seen, seen-idle, seen-live, seen-pending, see, Inv}
+use Rattle.protocol.proofs.Steps.{entry-changes, run-in-block, run-in-home, block-kinds}
 use Rattle.protocol.proofs.Stores.{Some, Along, along-then, along-none, along-one, along-run, length-made}
 
 -- the invariant, of a settled card
@@ -38,6 +38,10 @@ abbrev pub Rest : (g : Geometry) (row : ℕ → List ℕ) → List ℕ → List 
 Rest g row c d = Inv g row c d × (isSettled g c ≡ true)
 
 -- ---- settled cards
+
+pub window-start : (g : Geometry) (c : List ℕ) → headOf c ≡ tailOf c → windowOf g c ≡ 0
+unfolding windowOf
+window-start g c e = ap (windowLength (g .slots) (tailOf c)) e ∙ window-empty (g .slots) (tailOf c)
 
 pub settled-ring : (g : Geometry) (c : List ℕ) → isSettled g c ≡ true → headOf c ≡ tailOf c
 unfolding isSettled
@@ -132,7 +136,7 @@ module _ {g : Geometry} {row : ℕ → List ℕ} {c d : List ℕ} (v : Inv g row
           → Along (Inv g row) Written (cond m (sectors g b (blockAt g c (e .current)) ∷ []) []) c d
       go false h =
           along-none c d v
-          (record { inv = v; same = refl; home = sym (v .safe .clean i b (e .current) (at .below) (live-at ∙ ap (λ (m : Bool). live m b (e .current)) h)) ∙ held-at })
+          (record { inv = v; same = refl; home = sym (v .safe .clean i b (e .current) (at .below) (ap isClean live-at ∙ ap not h) (ap kindNumber live-at) (ap kindCurrent live-at)) ∙ held-at })
       go true h =
           along-run (sectors g b (blockAt g c (e .current))) c d cut end
         where
@@ -162,12 +166,12 @@ module _ {g : Geometry} {row : ℕ → List ℕ} {c d : List ℕ} (v : Inv g row
       ch = entry-changed g c′ i unused (at .below)
 
       new : entryAt g (storedOn card (entryStore g i unused) c′) i ≡ unused
-      new = entry-stored g c′ i unused (at .below) (w .inv .shape .cardSized) (fits-entry (w .inv .shape) unused (unused-good (g .blocks) (g .disk)))
+      new = entry-stored g c′ i unused (at .below) (w .inv .shape .cardSized) (fits-entry 2 (w .inv .shape) unused (unused-good 2 (g .blocks) (g .disk)))
 
       settled′ : isSettled g c′ ≡ true
       settled′ = ap (isSettled g) (w .same) ∙ p .settled
 
-      kind-idle : {x : Bool} → Seen x unused → kindOf x unused ≡ idle
+      kind-idle : {n : ℕ} {x : Bool} → Seen n x unused → kindOf n x unused ≡ idle
       kind-idle (seen-idle a k) = k
       kind-idle (seen-live a b k) = absurd-bool a unused-used
       kind-idle (seen-pending a b k) = absurd-bool a unused-used
@@ -186,12 +190,8 @@ module _ {g : Geometry} {row : ℕ → List ℕ} {c d : List ℕ} (v : Inv g row
       after : Inv g row (storedOn card (entryStore g i unused) c′) (storedOn disk (entryStore g i unused) d′)
       after =
           subst (Inv g row (storedOn card (entryStore g i unused) c′)) (sym (entry-elsewhere g i unused d′))
-          (entry-changes i unused (w .inv) (at .below) ch new (unused-good (g .blocks) (g .disk))
-          (λ u. absurd-bool (and-left (inUse unused) _ (sym (undoable-is (inWindow g c′ 0)) ∙ u)) unused-used)
-          (subst (Owes (g .blocks) (g .disk) row (viewOf g c′ d′) i) (sym (kind-idle (see _ unused))) (idle-owes i bare)))
-        where
-          undoable-is : (x : Bool) → undoable x unused ≡ inUse unused && (hasLogRole unused || x)
-          undoable-is x = unfold undoable in refl
+          (entry-changes i unused (w .inv) (at .below) ch new (unused-good (versionOf c′) (g .blocks) (g .disk))
+          (subst (Owes (g .blocks) (g .disk) row (viewOf g c′ d′) i) (sym (kind-idle (see _ _ unused))) (idle-owes i bare)))
 
   pub eviction : Along (Inv g row) (Rest g row) (evictRuns g c b) c d
   unfolding evictRuns i
@@ -238,10 +238,10 @@ module _ {g : Geometry} {row : ℕ → List ℕ} {c d : List ℕ} (v : Inv g row
   new-entry : Entry
   new-entry = entryOf 0x80 b FRESH q
 
-  new-good : goodEntry (g .blocks) (g .disk) new-entry ≡ true
+  new-good : (n : ℕ) → goodEntry n (g .blocks) (g .disk) new-entry ≡ true
   unfolding new-entry
-  new-good =
-      used-good (g .blocks) (g .disk) new-entry
+  new-good n =
+      used-good n (g .blocks) (g .disk) new-entry
       (record { flag = clean refl; numberBelow = p .inDisk; currentBelow = q-below; previousBelow = inr refl })
 
   -- the block is copied
@@ -288,7 +288,7 @@ module _ {g : Geometry} {row : ℕ → List ℕ} {c d : List ℕ} (v : Inv g row
       ch = entry-changed g c′ place-of new-entry place-below
 
       new : entryAt g (storedOn card (entryStore g place-of new-entry) c′) place-of ≡ new-entry
-      new = entry-stored g c′ place-of new-entry place-below (w .inv .shape .cardSized) (fits-entry (w .inv .shape) new-entry new-good)
+      new = entry-stored g c′ place-of new-entry place-below (w .inv .shape .cardSized) (fits-entry 2 (w .inv .shape) new-entry (new-good 2))
 
       settled′ : isSettled g c′ ≡ true
       settled′ = settled-block q (p .settled) (w .changed)
@@ -296,7 +296,7 @@ module _ {g : Geometry} {row : ℕ → List ℕ} {c d : List ℕ} (v : Inv g row
       quiet : hasLogRole new-entry || inWindow g c′ b ≡ false
       quiet = ap (λ (z : Bool). hasLogRole new-entry || z) (empty-window g c′ (settled-ring g c′ settled′) b) ∙ ap (λ (z : Bool). z || false) (clean-role b FRESH q)
 
-      kind-live : Seen (inWindow g c′ b) new-entry → kindOf (inWindow g c′ b) new-entry ≡ live false b q
+      kind-live : Seen (versionOf c′) (inWindow g c′ b) new-entry → kindOf (versionOf c′) (inWindow g c′ b) new-entry ≡ live false b q
       kind-live (seen-idle a k) = absurd-bool (clean-used b FRESH q) a
       kind-live (seen-live a r k) = k ∙ ap (λ (m : Bool). live m b q) (clean-modified b FRESH q)
       kind-live (seen-pending a r k) = absurd-bool r quiet
@@ -315,7 +315,8 @@ module _ {g : Geometry} {row : ℕ → List ℕ} {c d : List ℕ} (v : Inv g row
             previouses = λ j x l h e f. nothing e;
             previousCurrent = λ j x l h e f. nothing e;
             currentPrevious = λ j x l h e f. never-previous j x l (sym (ap kindPrevious (kinds j l)) ∙ f);
-            clean = λ b′ q′ e. same-live e;
+            clean = λ b′ q′ c e f. same-live (got e) (got f);
+            cleanBefore = λ b′ q′ c e f. absurd (nothing f);
             held = λ b′ x e f. ap (blockAt g c′) (sym (got f)) ∙ w .copy ∙ home-holds ∙ ap row (got e);
             bare = λ b′ l h. inl (λ e. ap kindHome (kinds place-of place-below ∙ place-idle));
           }
@@ -326,21 +327,15 @@ module _ {g : Geometry} {row : ℕ → List ℕ} {c d : List ℕ} (v : Inv g row
           nothing : {x : ℕ} → _≡_ {A = Option ℕ} none (some x) → ⊥
           nothing e = let z : _≡_ {A = ℕ} 0 1 = cc in omega arith
 
-          same-live : {b′ q′ : ℕ} → live false b q ≡ live false b′ q′ → blockAt g c′ q′ ≡ diskBlock g d′ b′
-          same-live {b′} {q′} e =
-              let eb : b ≡ b′ = cc in
-              let eq : q ≡ q′ = cc in
+          same-live : {b′ q′ : ℕ} → b ≡ b′ → q ≡ q′ → blockAt g c′ q′ ≡ diskBlock g d′ b′
+          same-live eb eq =
               ap (blockAt g c′) (sym eq) ∙ w .copy ∙ ap (λ (z : List ℕ). diskBlock g z b) (sym (w .same)) ∙ ap (diskBlock g d′) eb
 
       after : Inv g row (storedOn card (entryStore g place-of new-entry) c′) (storedOn disk (entryStore g place-of new-entry) d′)
       after =
           subst (Inv g row (storedOn card (entryStore g place-of new-entry) c′)) (sym (entry-elsewhere g place-of new-entry d′))
-          (entry-changes place-of new-entry (w .inv) place-below ch new new-good
-          (λ u. absurd-bool (and-right (inUse new-entry) _ (sym (undoable-is (inWindow g c′ b)) ∙ u)) quiet)
-          (subst (Owes (g .blocks) (g .disk) row (viewOf g c′ d′) place-of) (sym (kind-live (see (inWindow g c′ b) new-entry))) owes))
-        where
-          undoable-is : (x : Bool) → undoable x new-entry ≡ inUse new-entry && (hasLogRole new-entry || x)
-          undoable-is x = unfold undoable in refl
+          (entry-changes place-of new-entry (w .inv) place-below ch new (new-good (versionOf c′))
+          (subst (Owes (g .blocks) (g .disk) row (viewOf g c′ d′) place-of) (sym (kind-live (see (versionOf c′) (inWindow g c′ b) new-entry))) owes))
 
   pub loading : Along (Inv g row) (Rest g row) (loadRuns g c d b) c d
   unfolding loadRuns cleanEntry q place-of new-entry

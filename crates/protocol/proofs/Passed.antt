@@ -5,11 +5,11 @@ use lib.ListN.{length}
 use mathlib.Core.Bool.{Bool, true, false, not}
 use mathlib.Core.Path.{_≡_, refl, sym, ap, _∙_}
 use native.Mathlib.Omega.{arith}
-use lib.Dec.{ltb}
+use lib.Dec.{eqb, ltb}
 use borrow.Author.Tests.{ltb-true, not-true}
 use Rattle.protocol.specs.declared.Geometry.{Geometry}
 use Rattle.protocol.specs.declared.Map.{Map}
-use Rattle.protocol.specs.Layout.{geometryOf}
+use Rattle.protocol.specs.Layout.{geometryOf, versionOf}
 use Rattle.protocol.specs.Ring.{isSettled, cached}
 use Rattle.protocol.specs.Check.{refuse, _orElse_, fitRefusal, diskRefusal, damageRefusal, cardRefusal, choiceFits, choiceRefusal}
 use Rattle.protocol.specs.Map.{mapRefusal}
@@ -63,8 +63,8 @@ pub record SavePassed (g : Geometry) (ns bs ch : List ℕ) (room : Bool) : Type 
   pub once : numbersApart ns ≡ true
   pub enough : room ≡ true
 
-pub record RoomPassed (g : Geometry) (c t ns bs ch : List ℕ) : Type 0 where
-  pub fit : fitRefusal c ≡ 0
+pub record RoomPassed (w : ℕ) (g : Geometry) (c t ns bs ch : List ℕ) : Type 0 where
+  pub fit : fitRefusal w w c ≡ 0
   pub undamaged : damageRefusal g c ≡ 0
   pub settled : isSettled g c ≡ true
   pub arranged : isArranged t ≡ true
@@ -101,15 +101,15 @@ pub save-commit : {g : Geometry} {c ns bs ch : List ℕ} → isSettled g c ≡ t
 save-commit s p =
     record { settled = s; counted = p .counted; sized = p .sized; inDisk = p .inDisk; once = p .once; room = p .enough }
 
-pub room-passed : (c d : List ℕ) (m : Map) (t ns bs ch : List ℕ) → roomRefusal c d m t ns bs ch ≡ 0 → RoomPassed (geometryOf c) c t ns bs ch
+pub room-passed : (w : ℕ) (c d : List ℕ) (m : Map) (t ns bs ch : List ℕ) → roomRefusal w c d m t ns bs ch ≡ 0 → RoomPassed w (geometryOf c) c t ns bs ch
 unfolding roomRefusal pairRefusal cardRefusal tableRefusal
-room-passed c d m t ns bs ch z =
+room-passed w c d m t ns bs ch z =
     let g = geometryOf c in
-    let pair = first-zero (pairRefusal c d) _ z in
-    let card = second-zero (diskRefusal g d) _ (second-zero (fitRefusal c) _ pair) in
-    let own = second-zero (mapRefusal c m) _ (second-zero (pairRefusal c d) _ z) in
+    let pair = first-zero (pairRefusal w c d) _ z in
+    let card = second-zero (diskRefusal g d) _ (second-zero (fitRefusal w w c) _ pair) in
+    let own = second-zero (mapRefusal c m) _ (second-zero (pairRefusal w c d) _ z) in
     record {
-      fit = first-zero (fitRefusal c) _ pair;
+      fit = first-zero (fitRefusal w w c) _ pair;
       undamaged = first-zero (damageRefusal g c) _ card;
       settled = passed 6 _ (second-zero (damageRefusal g c) _ card);
       arranged = passed 15 _ (first-zero (tableRefusal t) _ own);
@@ -117,29 +117,29 @@ room-passed c d m t ns bs ch z =
     }
 
 module _ {g : Geometry} {row : ℕ → List ℕ} {c d : List ℕ} (v : Inv g row c d) where
-  pub evict-passed : (s : Map) (b : ℕ) (ch : List ℕ) → evictRefusal c d s b ch ≡ 0 → EvictPassed g c b
+  pub evict-passed : (w : ℕ) (s : Map) (b : ℕ) (ch : List ℕ) → evictRefusal w c d s b ch ≡ 0 → EvictPassed g c b
   unfolding evictRefusal blockRefusal
-  evict-passed s b ch z =
+  evict-passed w s b ch z =
       let e =
       ap
       (λ (y : Geometry).
-      pairRefusal c d orElse mapRefusal c s orElse choiceRefusal y ch orElse refuse 10 (ltb b (y .disk)) orElse refuse 13 (cached y c b))
+      pairRefusal w c d orElse mapRefusal c s orElse choiceRefusal y ch orElse refuse 10 (ltb b (y .disk)) orElse refuse 13 (cached y c b))
       (sym (geometry-is v))
       ∙ z in
-      let own = second-zero (choiceRefusal g ch) _ (second-zero (mapRefusal c s) _ (second-zero (pairRefusal c d) _ e)) in
+      let own = second-zero (choiceRefusal g ch) _ (second-zero (mapRefusal c s) _ (second-zero (pairRefusal w c d) _ e)) in
       record {
-        settled = passed 6 _ (sym (pair-refuses v) ∙ first-zero (pairRefusal c d) _ e);
+        settled = passed 6 _ (second-zero (refuse 1 (eqb (versionOf c) w)) _ (sym (pair-refuses v w) ∙ first-zero (pairRefusal w c d) _ e));
         inDisk = ltb-true _ _ (passed 9 _ (first-zero _ (refuse 13 (cached g c b)) own));
         isCached = passed 12 _ (second-zero (refuse 10 (ltb b (g .disk))) _ own);
       }
 
-  pub load-passed : (s : Map) (t : List ℕ) (b : ℕ) (ch : List ℕ) → loadRefusal c d s t b ch ≡ 0 → LoadPassed g c b
+  pub load-passed : (w : ℕ) (s : Map) (t : List ℕ) (b : ℕ) (ch : List ℕ) → loadRefusal w c d s t b ch ≡ 0 → LoadPassed g c b
   unfolding loadRefusal blockRefusal
-  load-passed s t b ch z =
+  load-passed w s t b ch z =
       let e =
       ap
       (λ (y : Geometry).
-      pairRefusal c d
+      pairRefusal w c d
       orElse mapRefusal c s
       orElse tableRefusal t
       orElse choiceRefusal y ch
@@ -148,24 +148,24 @@ module _ {g : Geometry} {row : ℕ → List ℕ} {c d : List ℕ} (v : Inv g row
       orElse refuse 14 (roomFor y c 1))
       (sym (geometry-is v))
       ∙ z in
-      let own = second-zero (choiceRefusal g ch) _ (second-zero (tableRefusal t) _ (second-zero (mapRefusal c s) _ (second-zero (pairRefusal c d) _ e))) in
+      let own = second-zero (choiceRefusal g ch) _ (second-zero (tableRefusal t) _ (second-zero (mapRefusal c s) _ (second-zero (pairRefusal w c d) _ e))) in
       let more = second-zero (refuse 10 (ltb b (g .disk))) _ own in
       record {
-        settled = passed 6 _ (sym (pair-refuses v) ∙ first-zero (pairRefusal c d) _ e);
+        settled = passed 6 _ (second-zero (refuse 1 (eqb (versionOf c) w)) _ (sym (pair-refuses v w) ∙ first-zero (pairRefusal w c d) _ e));
         inDisk = ltb-true _ _ (passed 9 _ (first-zero (refuse 10 (ltb b (g .disk))) _ own));
         notCached = not-true _ (passed 11 _ (first-zero (refuse 12 (not (cached g c b))) _ more));
         room = passed 13 _ (second-zero (refuse 12 (not (cached g c b))) _ more);
       }
 
-  pub commit-passed : (s : Map) (ns bs ch : List ℕ) → commitRefusal c s ns bs ch ≡ 0 → CommitPassed g c ns bs
+  pub commit-passed : (w : ℕ) (s : Map) (ns bs ch : List ℕ) → commitRefusal w c s ns bs ch ≡ 0 → CommitPassed g c ns bs
   unfolding commitRefusal
-  commit-passed s ns bs ch z =
+  commit-passed w s ns bs ch z =
       let e =
       ap
       (λ (y : Geometry).
-      fitRefusal c orElse cardRefusal y c orElse mapRefusal c s orElse saveRefusal y ns bs ch (roomFor y c (length ns)))
+      fitRefusal w w c orElse cardRefusal y c orElse mapRefusal c s orElse saveRefusal y ns bs ch (roomFor y c (length ns)))
       (sym (geometry-is v))
       ∙ z in
-      let card = second-zero (fitRefusal c) _ e in
+      let card = second-zero (fitRefusal w w c) _ e in
       save-commit (passed 6 _ (sym (card-refuses v) ∙ first-zero (cardRefusal g c) _ card))
       (save-passed g ns bs ch _ (second-zero (mapRefusal c s) _ (second-zero (cardRefusal g c) _ card)))

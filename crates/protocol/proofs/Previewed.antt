@@ -90,29 +90,29 @@ module _ (c : List ℕ) (m : Map) (ns bs out : List ℕ) where
   abbrev behind : ℕ
   behind = refuse 10 (numbersFit g ns) orElse refuse 11 (numbersApart ns) orElse refuse 14 (roomFor g c (length ns))
 
-  refusals-alike : (a b k : Bool) → (countFits g ns ≡ true → a ≡ b) → (fitRefusal c ≡ 0 → a ≡ true → k ≡ true)
-      → fitRefusal c orElse cardRefusal g c orElse mapRefusal c m orElse refuse 8 (countFits g ns) orElse refuse 9 a orElse behind
-      ≡ fitRefusal c orElse cardRefusal g c orElse mapRefusal c m orElse refuse 8 (countFits g ns) orElse refuse 9 b orElse refuse 17 k orElse behind
+  refusals-alike : (a b k : Bool) → (countFits g ns ≡ true → a ≡ b) → (fitRefusal 2 2 c ≡ 0 → a ≡ true → k ≡ true)
+      → fitRefusal 2 2 c orElse cardRefusal g c orElse mapRefusal c m orElse refuse 8 (countFits g ns) orElse refuse 9 a orElse behind
+      ≡ fitRefusal 2 2 c orElse cardRefusal g c orElse mapRefusal c m orElse refuse 8 (countFits g ns) orElse refuse 9 b orElse refuse 17 k orElse behind
   refusals-alike a b k f h =
-      else-alike (fitRefusal c) _ _
+      else-alike (fitRefusal 2 2 c) _ _
       (λ z. ap (λ (r : ℕ). cardRefusal g c orElse mapRefusal c m orElse r) (behind-eight (countFits g ns) a b k behind f (h z)))
 
   -- an output not of n numbers is refused as data is that is not of n blocks, whatever the choice
-  refusal-misfit : (ds ch : List ℕ) → (length out ≡ length ns → ⊥) → dataFits g ns ds ≡ false → previewRefusal c m ns bs out ≡ commitRefusal c m ns ds ch
+  refusal-misfit : (ds ch : List ℕ) → (length out ≡ length ns → ⊥) → dataFits g ns ds ≡ false → previewRefusal c m ns bs out ≡ commitRefusal 2 c m ns ds ch
   unfolding previewRefusal commitRefusal saveRefusal lengthsFit choiceRefusal
   refusal-misfit ds ch h f =
       let no = and-false (dataFits g ns bs) _ (ne-eqb _ _ h) in
       refusals-alike (lengthsFit g ns bs out) (dataFits g ns ds) (choiceFits g ch) (λ t. no ∙ sym f) (λ z y. absurd-bool y no)
 
   -- an output of n numbers is refused as commit is, with a choice that 17 accepts on a card that fits
-  pub refusal-same : (ch : List ℕ) → length out ≡ length ns → (fitRefusal c ≡ 0 → choiceFits g ch ≡ true)
-      → previewRefusal c m ns bs out ≡ commitRefusal c m ns bs ch
+  pub refusal-same : (ch : List ℕ) → length out ≡ length ns → (fitRefusal 2 2 c ≡ 0 → choiceFits g ch ≡ true)
+      → previewRefusal c m ns bs out ≡ commitRefusal 2 c m ns bs ch
   unfolding previewRefusal commitRefusal saveRefusal lengthsFit choiceRefusal
   refusal-same ch e k =
       refusals-alike (lengthsFit g ns bs out) (dataFits g ns bs) (choiceFits g ch) (λ t. and-true (dataFits g ns bs) _ (eq-eqb _ _ e)) (λ z y. k z)
 
   -- any other as a commit of no data is, of no numbers too: behind 8 there are numbers
-  pub refusal-nine : (ch : List ℕ) → (length out ≡ length ns → ⊥) → previewRefusal c m ns bs out ≡ commitRefusal c m ns [] ch
+  pub refusal-nine : (ch : List ℕ) → (length out ≡ length ns → ⊥) → previewRefusal c m ns bs out ≡ commitRefusal 2 c m ns [] ch
   unfolding previewRefusal commitRefusal saveRefusal lengthsFit dataFits countFits blockSize choiceRefusal
   refusal-nine ch h =
       let no = and-false (dataFits g ns bs) _ (ne-eqb _ _ h) in
@@ -138,7 +138,7 @@ module _ (c : List ℕ) (m : Map) (ns bs out : List ℕ) where
   pub passed-length : previewRefusal c m ns bs out ≡ 0 → length out ≡ length ns
   unfolding previewRefusal lengthsFit
   passed-length z =
-      let a = orElse-none (fitRefusal c) _ z .1 in
+      let a = orElse-none (fitRefusal 2 2 c) _ z .1 in
       let b = orElse-none (cardRefusal g c) _ a .1 in
       let d = orElse-none (mapRefusal c m) _ b .1 in
       let e = orElse-none (refuse 8 (countFits g ns)) _ d .1 in
@@ -149,20 +149,20 @@ pub answers-alike : AnswersAlike
 unfolding previewAnswer answerOf commitWork storesOf
 answers-alike c m ns bs ch out a e k l =
     let r = refusal-same c m ns bs out ch e (λ z. k) in
-    let t = le-ltb a (storesOf (commitWork c m ns bs ch)) l in
-    λ i. cond (eqb (r i) 0) (cond (sym t i) Cut (Done (storesOf (commitWork c m ns bs ch)))) (Refused (r i))
+    let t = le-ltb a (storesOf (commitWork 2 c m ns bs ch)) l in
+    λ i. cond (eqb (r i) 0) (cond (sym t i) Cut (Done (storesOf (commitWork 2 c m ns bs ch)))) (Refused (r i))
 
 pub misfit-alike : MisfitAlike
 unfolding previewAnswer commitWork
-misfit-alike c m ns bs ds ch out a h f = go (answered a (commitWork c m ns ds ch))
+misfit-alike c m ns bs ds ch out a h f = go (answered a (commitWork 2 c m ns ds ch))
   where
-    same : previewRefusal c m ns bs out ≡ commitRefusal c m ns ds ch
+    same : previewRefusal c m ns bs out ≡ commitRefusal 2 c m ns ds ch
     same = refusal-misfit c m ns bs out ds ch h f
 
     refuses : previewRefusal c m ns bs out ≡ 0 → ⊥
     refuses z = h (passed-length c m ns bs out z)
 
-    go : Answered a (commitWork c m ns ds ch) → previewAnswer c m ns bs out ≡ answerOf a (commitWork c m ns ds ch)
+    go : Answered a (commitWork 2 c m ns ds ch) → previewAnswer c m ns bs out ≡ answerOf a (commitWork 2 c m ns ds ch)
     go (refused x q k) = rw (ne-eqb _ _ refuses) (ap Refused same ∙ sym q)
     go (cut x l q k) = absurd (refuses (same ∙ x))
     go (done x q k) = absurd (refuses (same ∙ x))
@@ -189,17 +189,17 @@ module _ {g : Geometry} {row : ℕ → List ℕ} {c d : List ℕ} (ns bs : List 
       commit-done ns bs v p .0 .safe .numbers (findEntry g after b) i b (f .below) low (used-number g after _ (f .used) ∙ ap some (f .number)) own in
       record { isCached = h; current = ap (λ (y : ℕ). entryAt g after y .current) same ∙ k; filled = x .filled j l }
 
-module _ (c : List ℕ) (m : Map) (ns bs ch : List ℕ) (z : commitRefusal c m ns bs ch ≡ 0) where
+module _ (c : List ℕ) (m : Map) (ns bs ch : List ℕ) (z : commitRefusal 2 c m ns bs ch ≡ 0) where
   stood : (j : ℕ) → j < length ns
       → Stands (geometryOf (madeOn card (flat (commitRuns (geometryOf c) c ns bs)) c)) (madeOn card (flat (commitRuns (geometryOf c) c ns bs)) c) ns bs j
       (newBlock (geometryOf c) c j)
   unfolding commitRefusal
   stood j l =
       let g = geometryOf c in
-      let (fit, more) = orElse-none (fitRefusal c) _ z in
+      let (fit, more) = orElse-none (fitRefusal 2 2 c) _ z in
       let (w, s) = card-intact c fit (orElse-none (cardRefusal g c) _ more .0) in
       let v = lawful w s in
-      let p = commit-passed v m ns bs ch z in
+      let p = commit-passed v 2 m ns bs ch z in
       subst (λ (y : Geometry). Stands y (after ns bs v p) ns bs j (newBlock g c j)) (sym (geometry-is (commit-done ns bs v p .0)))
       (stands-at ns bs v p j l (new-used ns bs w v p j l))
 
@@ -208,21 +208,21 @@ unfolding blocksAfter commitWork storesOf
 save-foretold c m ns bs ch out n a f e l = go (answered a w)
   where
     w : Work
-    w = commitWork c m ns bs ch
+    w = commitWork 2 c m ns bs ch
 
     passed : (previewRefusal c m ns bs out ≡ 0) × (length (flat (commitRuns (geometryOf c) c ns bs)) ≡ n)
     passed = done-passed c m ns bs out n e
 
-    none : commitRefusal c m ns bs ch ≡ 0
+    none : commitRefusal 2 c m ns bs ch ≡ 0
     none = sym (refusal-same c m ns bs out ch (passed-length c m ns bs out (passed .0)) (λ z. f)) ∙ passed .0
 
     told : (i : ℕ) → i < length ns → getD (blocksAfter c m ns bs out) i 0 ≡ newBlock (geometryOf c) c i
     told i h = rw (eq-eqb (previewRefusal c m ns bs out) 0 (passed .0)) (told-at (geometryOf c) c (length ns) i h)
 
-    go : Answered a (commitWork c m ns bs ch)
-        → (answerOf a (commitWork c m ns bs ch) ≡ Done n)
+    go : Answered a (commitWork 2 c m ns bs ch)
+        → (answerOf a (commitWork 2 c m ns bs ch) ≡ Done n)
         × ((i : ℕ) → i < length ns
-        → Stands (geometryOf (afterOn card a (commitWork c m ns bs ch) c)) (afterOn card a (commitWork c m ns bs ch) c) ns bs i
+        → Stands (geometryOf (afterOn card a (commitWork 2 c m ns bs ch) c)) (afterOn card a (commitWork 2 c m ns bs ch) c) ns bs i
         (getD (blocksAfter c m ns bs out) i 0))
     go (refused x q k) = absurd (x none)
     go (cut x h q k) = absurd (omega (arith, passed .1))

@@ -15,21 +15,21 @@ use Rattle.numbers.proofs.Laws.{be-bytes, length-bytes, part-all, patch-part}
 use Rattle.protocol.specs.declared.Entry.{Entry}
 use Rattle.protocol.specs.declared.Geometry.{Geometry}
 use Rattle.protocol.specs.Below.{eachBelow}
-use Rattle.protocol.specs.Layout.{goodGeometry, goodK, goodSlots, goodBlocks, goodDisk, entryPlace, blockAt}
-use Rattle.protocol.specs.Entry.{FRESH, entryOf, unused, entryBytes, entryIn, entryAt, inUse, isModified, hasLogRole, goodEntry, undone}
+use Rattle.protocol.specs.Layout.{goodGeometry, goodK, goodSlots, goodBlocks, goodDisk, versionOf, entryPlace, blockAt}
+use Rattle.protocol.specs.Entry.{FRESH, entryOf, unused, entryBytes, entryIn, entryAt, inUse, isModified, hasLogRole, goodEntry, undoneFlags, undone}
 use Rattle.protocol.specs.Ring.{headOf, tailOf, inWindow, usedAt, undoableAt, roleFreeAt, isSettled}
 use Rattle.protocol.specs.Store.{card, disk, Store, storedOn, single, entryStore, wordStore, tailStore}
 use Rattle.protocol.specs.Recover.{sameBytes, ifChanging, undoRuns, recoverRuns}
-use Rattle.protocol.proofs.Allowed.{UsedEntry, modified, used-good, unused-good, used-entry, not-used-blank, kept-used, kept-role, kept-modified, unused-used, unused-role}
-use Rattle.protocol.proofs.Below.{either, absurd-bool, and-left, and-right, and-both, or-false, all-of, last-or-before}
+use Rattle.protocol.proofs.Allowed.{UsedEntry, used-good, unused-good, used-entry, not-used-blank, dirtyBefore, back-flag, back-used, back-role, back-modified, back-dirty, unused-used, unused-role}
+use Rattle.protocol.proofs.Below.{either, same-or-other, absurd-bool, and-left, and-right, and-both, or-false, all-of, last-or-before}
 use Rattle.protocol.proofs.Checks.{Limits, limits}
 use Rattle.protocol.proofs.Codec.{EntryFits, good-fits, length-entry, entry-of-part, entry-read-back}
-use Rattle.protocol.proofs.Holds.{pending-kind, live-kind, number-used}
-use Rattle.protocol.proofs.Invariant.{Kind, idle, live, pending, kindNumber, kindCurrent, kindPrevious, kindHome, View, Safe, Owes}
+use Rattle.protocol.proofs.Holds.{idle-kind, pending-kind, live-kind}
+use Rattle.protocol.proofs.Invariant.{Kind, idle, live, pending, kindNumber, kindCurrent, kindPrevious, kindHome, settledKind, undoneKind, isClean, wasClean, View, Safe, Owes}
 use Rattle.protocol.proofs.Made.{entry-changed, entry-stored, entry-elsewhere, tail-changed, tail-stored, tail-elsewhere}
 use Rattle.protocol.proofs.Region.{entry, tail}
-use Rattle.protocol.proofs.Shape.{Changed, head-kept, tail-kept, entry-kept, kindOf, kindAt, viewOf, Seen, seen-idle, seen-live, seen-pending, see, previousOf, previous-some, previous-none, Shape, Inv}
-use Rattle.protocol.proofs.Steps.{undoable, undoable-at, undoable-same, calm-entry, window-calm, entry-changes, tail-settled, tail-moves}
+use Rattle.protocol.proofs.Shape.{Changed, version-kept, head-kept, tail-kept, entry-kept, pendingOf, kindOf, kindAt, Seen, seen-idle, seen-live, seen-pending, see, previousOf, previous-some, previous-none, Shape, Inv, Back}
+use Rattle.protocol.proofs.Steps.{undoable-same, kind-same, calm-entry, window-calm, kind-new, entry-changes, settled-kinds, tail-settled, tail-moves}
 use Rattle.protocol.proofs.Stores.{Along, along-then, along-none, along-one, along-each}
 
 -- ---- stores that change no byte
@@ -56,53 +56,78 @@ along-changing {P} {Q} c₀ c d s p skip p′ q′ = go (sameBytes (part c₀ (s
 
 -- ---- what an entry becomes
 
-pub entry-fits : (g : Geometry) → goodGeometry g ≡ true → (x : Entry) → goodEntry (g .blocks) (g .disk) x ≡ true → EntryFits x
+pub entry-fits : (v : ℕ) (g : Geometry) → goodGeometry g ≡ true → (x : Entry) → goodEntry v (g .blocks) (g .disk) x ≡ true → EntryFits x
 unfolding goodGeometry
-entry-fits g good x h =
+entry-fits v g good x h =
     let r = and-right (goodK (g .k)) (goodSlots (g .slots) && (goodBlocks (g .blocks) && goodDisk (g .disk))) good in
     let q = and-right (goodSlots (g .slots)) (goodBlocks (g .blocks) && goodDisk (g .disk)) r in
-    good-fits (g .blocks) (g .disk) x (and-left (goodBlocks (g .blocks)) _ q) (and-right (goodBlocks (g .blocks)) _ q) h
+    good-fits v (g .blocks) (g .disk) x (and-left (goodBlocks (g .blocks)) _ q) (and-right (goodBlocks (g .blocks)) _ q) h
 
-pub fits-entry : {g : Geometry} {c d : List ℕ} → Shape g c d → (x : Entry) → goodEntry (g .blocks) (g .disk) x ≡ true → EntryFits x
-fits-entry {g} s x h = entry-fits g (s .good) x h
+pub fits-entry : (v : ℕ) {g : Geometry} {c d : List ℕ} → Shape g c d → (x : Entry) → goodEntry v (g .blocks) (g .disk) x ≡ true → EntryFits x
+fits-entry v {g} s x h = entry-fits v g (s .good) x h
 
 -- the undone entry, by whether there was a previous block
-pub data Undone (n d : ℕ) (e : Entry) : Type 0 where
-  emptied : e .previous ≡ FRESH → undone e ≡ unused → Undone n d e
-  restored : e .previous < n → (e .previous ≡ FRESH → ⊥) → undone e ≡ entryOf 0x82 (e .number) (e .previous) (e .previous) → Undone n d e
+pub data Undone (v n d : ℕ) (e : Entry) : Type 0 where
+  emptied : e .previous ≡ FRESH → undone v e ≡ unused → Undone v n d e
+  restored : e .previous < n → (e .previous ≡ FRESH → ⊥) → undone v e ≡ entryOf (undoneFlags v e) (e .number) (e .previous) (e .previous)
+      → Undone v n d e
 
-pub undo-cases : (n d : ℕ) (e : Entry) → UsedEntry n d e → Undone n d e
+pub undo-cases : (v n d : ℕ) (e : Entry) → UsedEntry v n d e → Undone v n d e
 unfolding undone
-undo-cases n d e u = go (eqb (e .previous) FRESH) refl (u .previousBelow)
+undo-cases v n d e u = go (eqb (e .previous) FRESH) refl (u .previousBelow)
   where
-    go : (b : Bool) → eqb (e .previous) FRESH ≡ b → (e .previous < n) ⊎ (e .previous ≡ FRESH) → Undone n d e
+    go : (b : Bool) → eqb (e .previous) FRESH ≡ b → (e .previous < n) ⊎ (e .previous ≡ FRESH) → Undone v n d e
     go true h p = emptied (eqb-true _ _ h) (unfold undone in rw h)
     go false h (inl l) = restored l (eqb-false _ _ h) (unfold undone in rw h)
     go false h (inr q) = absurd (eqb-false _ _ h q)
 
-pub undone-good : (n d : ℕ) (e : Entry) → UsedEntry n d e → Undone n d e → goodEntry n d (undone e) ≡ true
-undone-good n d e u (emptied p q) = ap (goodEntry n d) q ∙ unused-good n d
-undone-good n d e u (restored l f q) =
-    ap (goodEntry n d) q
-    ∙ used-good n d (entryOf 0x82 (e .number) (e .previous) (e .previous))
-    (record { flag = modified refl; numberBelow = u .numberBelow; currentBelow = l; previousBelow = inl l })
+module _ {v n d : ℕ} (e : Entry) where
+  pub undone-good : UsedEntry v n d e → Undone v n d e → goodEntry v n d (undone v e) ≡ true
+  undone-good u (emptied p q) = ap (goodEntry v n d) q ∙ unused-good v n d
+  undone-good u (restored l f q) =
+      ap (goodEntry v n d) q
+      ∙ used-good v n d (entryOf (undoneFlags v e) (e .number) (e .previous) (e .previous))
+      (record { flag = back-flag v e (e .number) (e .previous) (e .previous); numberBelow = u .numberBelow; currentBelow = l; previousBelow = inl l })
 
-undone-role : (n d : ℕ) (e : Entry) → Undone n d e → hasLogRole (undone e) ≡ false
-undone-role n d e (emptied p q) = ap hasLogRole q ∙ unused-role
-undone-role n d e (restored l f q) = ap hasLogRole q ∙ kept-role (e .number) (e .previous) (e .previous)
+  undone-role : Undone v n d e → hasLogRole (undone v e) ≡ false
+  undone-role (emptied p q) = ap hasLogRole q ∙ unused-role
+  undone-role (restored l f q) = ap hasLogRole q ∙ back-role v e (e .number) (e .previous) (e .previous)
 
-undone-modified : (n d : ℕ) (e : Entry) (w : Bool) → Undone n d e → undoable w (undone e) ≡ true → isModified (undone e) ≡ true
-unfolding undoable
-undone-modified n d e w (emptied p q) u = absurd-bool (and-left (inUse (undone e)) _ u) (ap inUse q ∙ unused-used)
-undone-modified n d e w (restored l f q) u = ap isModified q ∙ kept-modified (e .number) (e .previous) (e .previous)
+-- the kind of an undone entry: unused; or standing for its number with its previous block, which it can still be undone to while its number is in
+-- the window. Undone again, or settled as it is, it is the same
+data UndoneKind (old new : Kind) : Type 0 where
+  gone : old ≡ idle → new ≡ idle → UndoneKind old new
+  back : (m : Bool) (b p : ℕ) → old ≡ live m b p → (new ≡ live m b p) ⊎ (new ≡ pending m m b (some p) p) → UndoneKind old new
 
--- an entry that can still be undone has its previous block as its current one
-undone-rests : (n d : ℕ) (e : Entry) (w : Bool) → Undone n d e → undoable w (undone e) ≡ true
-    → (undone e .previous ≡ undone e .current) × (undone e .previous ≡ FRESH → ⊥)
-unfolding undoable
-undone-rests n d e w (emptied p q) u = absurd-bool (and-left (inUse (undone e)) _ u) (ap inUse q ∙ unused-used)
-undone-rests n d e w (restored l f q) u =
-    (ap (λ (x : Entry). x .previous) q ∙ sym (ap (λ (x : Entry). x .current) q), λ h. f (sym (ap (λ (x : Entry). x .previous) q) ∙ h))
+undone-kind : (v : ℕ) (w : Bool) {n d : ℕ} (e : Entry) → Undone v n d e → UndoneKind (undoneKind (pendingOf v e)) (kindOf v w (undone v e))
+undone-kind v w e (emptied p q) =
+    gone (ap (λ (o : Option ℕ). undoneKind (pending (isModified e) (dirtyBefore v e) (e .number) o (e .current))) (ap previousOf p ∙ previous-none))
+    (ap (kindOf v w) q ∙ blank (see v w unused))
+  where
+    blank : Seen v w unused → kindOf v w unused ≡ idle
+    blank (seen-idle a k) = k
+    blank (seen-live a b k) = absurd-bool a unused-used
+    blank (seen-pending a b k) = absurd-bool a unused-used
+undone-kind v w e (restored l f q) =
+    back (dirtyBefore v e) (e .number) (e .previous)
+    (ap (λ (o : Option ℕ). undoneKind (pending (isModified e) (dirtyBefore v e) (e .number) o (e .current))) was)
+    (⊎-elim (λ k. inl (ap (kindOf v w) q ∙ k)) (λ k. inr (ap (kindOf v w) q ∙ k)) (go (see v w x)))
+  where
+    x : Entry
+    x = entryOf (undoneFlags v e) (e .number) (e .previous) (e .previous)
+
+    was : previousOf (e .previous) ≡ some (e .previous)
+    was = previous-some (e .previous) f
+
+    m : isModified x ≡ dirtyBefore v e
+    m = back-modified v e (e .number) (e .previous) (e .previous)
+
+    go : Seen v w x → (kindOf v w x ≡ live (dirtyBefore v e) (e .number) (e .previous))
+        ⊎ (kindOf v w x ≡ pending (dirtyBefore v e) (dirtyBefore v e) (e .number) (some (e .previous)) (e .previous))
+    go (seen-idle a k) = absurd-bool (back-used v e (e .number) (e .previous) (e .previous)) a
+    go (seen-live a b k) = inl (k ∙ ap (λ (t : Bool). live t (e .number) (e .previous)) m)
+    go (seen-pending a b k) =
+        inr (k ∙ (λ t. pending (m t) (back-dirty v e (e .number) (e .previous) (e .previous) t) (e .number) (was t) (e .previous)))
 
 -- ---- what an undone entry owes
 
@@ -127,7 +152,8 @@ idle-owes {n} {d} {row} {v} i h =
       previouses = λ j x l m e f. none-some refl e;
       previousCurrent = λ j x l m e f. none-some refl e;
       currentPrevious = λ j x l m e f. none-some refl e;
-      clean = λ b q e. let z : _≡_ {A = ℕ} 0 1 = cc in absurd (omega arith);
+      clean = λ b q c e f. none-some refl e;
+      cleanBefore = λ b q c e f. none-some refl e;
       held = λ b p e f. none-some refl e;
       bare = λ b l k. h b l;
     }
@@ -136,9 +162,9 @@ idle-owes {n} {d} {row} {v} i h =
 restored-owes : {n d : ℕ} {row : ℕ → List ℕ} {v : View} (i b p : ℕ) (k : Kind) → Safe n d row v → i < n
     → kindNumber (v .kind i) ≡ some b → kindPrevious (v .kind i) ≡ some p → kindHome (v .kind i) ≡ some p
     → kindNumber k ≡ some b → kindCurrent k ≡ some p → kindHome k ≡ some p
-    → ((x : ℕ) → kindPrevious k ≡ some x → x ≡ p) → ((b q : ℕ) → k ≡ live false b q → ⊥)
+    → ((x : ℕ) → kindPrevious k ≡ some x → x ≡ p) → (isClean k ≡ true → wasClean (v .kind i) ≡ true) → (wasClean k ≡ true → wasClean (v .kind i) ≡ true)
     → Owes n d row v i k
-restored-owes {n} {d} {row} {v} i b p k s l on op oh kn kc kh kp dirty =
+restored-owes {n} {d} {row} {v} i b p k s l on op oh kn kc kh kp tidy tidied =
     record {
       numberUnder = λ x e. s .numberUnder i x l (on ∙ sym kn ∙ e);
       currentUnder = λ x e. s .previousUnder i x l (op ∙ sym kc ∙ e);
@@ -148,50 +174,37 @@ restored-owes {n} {d} {row} {v} i b p k s l on op oh kn kc kh kp dirty =
       previouses = λ j x m h e f. h (s .previouses j i x m l f (op ∙ ap some (sym (kp x e))));
       previousCurrent = λ j x m h e f. h (sym (s .crossed i j x l m (op ∙ ap some (sym (kp x e))) f));
       currentPrevious = λ j x m h e f. h (s .previouses j i x m l f (op ∙ sym kc ∙ e));
-      clean = λ b′ q e. absurd (dirty b′ q e);
+      clean = λ b′ q c e f. s .cleanBefore i b′ q l (tidy c) (on ∙ sym kn ∙ e) (op ∙ sym kc ∙ f);
+      cleanBefore = λ b′ q c e f. s .cleanBefore i b′ q l (tidied c) (on ∙ sym kn ∙ e) (op ∙ ap some (sym (kp q f)));
       held = λ b′ q e f. s .held i b′ q l (on ∙ sym kn ∙ e) (oh ∙ sym kh ∙ f);
       bare = λ b′ m h. inl (λ e. none-some (h (kn ∙ sym on ∙ e)) kh);
     }
 
-undo-owes : {g : Geometry} {row : ℕ → List ℕ} {c d : List ℕ} (v : Inv g row c d) (i : ℕ) → i < g .blocks → undoableAt g c i ≡ true
-    → Undone (g .blocks) (g .disk) (entryAt g c i)
-    → Owes (g .blocks) (g .disk) row (viewOf g c d) i (kindOf (inWindow g c (undone (entryAt g c i) .number)) (undone (entryAt g c i)))
-undo-owes {g} {row} {c} {d} v i l u (emptied p q) =
-    subst (Owes (g .blocks) (g .disk) row (viewOf g c d) i) (sym (blank (see _ (undone (entryAt g c i)))))
-    (idle-owes i (λ b m. inl (λ e. ap kindHome (pending-kind g c i u) ∙ ap previousOf p ∙ previous-none)))
+-- the kind that recovery leaves of an undoable entry
+undo-owes : {n d : ℕ} {row : ℕ → List ℕ} {v : View} (i : ℕ) (m w : Bool) (b : ℕ) (o : Option ℕ) (q : ℕ) (k : Kind) → Safe n d row v → i < n
+    → v .kind i ≡ pending m w b o q → UndoneKind (undoneKind (pending m w b o q)) k → Owes n d row v i k
+undo-owes {n} {d} {row} {v} i m w b none q k s l old (gone p e) =
+    subst (Owes n d row v i) (sym e) (idle-owes i (λ x y. inl (λ h. ap kindHome old)))
+undo-owes {n} {d} {row} {v} i m w b (some p) q k s l old (gone h e) = let z : _≡_ {A = ℕ} 0 1 = cc in absurd (omega arith)
+undo-owes {n} {d} {row} {v} i m w b none q k s l old (back m′ b′ p′ h e) = let z : _≡_ {A = ℕ} 0 1 = cc in absurd (omega arith)
+undo-owes {n} {d} {row} {v} i m w b (some p) q k s l old (back m′ b′ p′ h e) =
+    let x : w ≡ m′ = cc in
+    let y : b ≡ b′ = cc in
+    let z : p ≡ p′ = cc in
+    ⊎-elim
+    (λ k₁.
+    let t : k ≡ live w b p = k₁ ∙ (λ j. live (sym x j) (sym y j) (sym z j)) in
+    from (ap kindNumber t) (ap kindCurrent t) (ap kindHome t) (λ x h. none-some (ap kindPrevious t) h)
+    (λ c. ap wasClean old ∙ sym (ap isClean t) ∙ c) (λ c. absurd-bool c (ap wasClean t)))
+    (λ k₁.
+    let t : k ≡ pending w w b (some p) p = k₁ ∙ (λ j. pending (sym x j) (sym x j) (sym y j) (some (sym z j)) (sym z j)) in
+    from (ap kindNumber t) (ap kindCurrent t) (ap kindHome t) (λ x h. same-some h (ap kindPrevious t))
+    (λ c. ap wasClean old ∙ sym (ap isClean t) ∙ c) (λ c. ap wasClean old ∙ sym (ap wasClean t) ∙ c))
+    e
   where
-    blank : {w : Bool} → Seen w (undone (entryAt g c i)) → kindOf w (undone (entryAt g c i)) ≡ idle
-    blank (seen-idle a k) = k
-    blank (seen-live a b k) = absurd-bool a (ap inUse q ∙ unused-used)
-    blank (seen-pending a b k) = absurd-bool a (ap inUse q ∙ unused-used)
-undo-owes {g} {row} {c} {d} v i l u (restored m f q) =
-    subst (λ (x : Entry). Owes (g .blocks) (g .disk) row (viewOf g c d) i (kindOf (inWindow g c (x .number)) x)) (sym q)
-    (owes (see (inWindow g c (e .number)) x))
-  where
-    e : Entry
-    e = entryAt g c i
-
-    x : Entry
-    x = entryOf 0x82 (e .number) (e .previous) (e .previous)
-
-    old : kindAt g c i ≡ pending (e .number) (some (e .previous)) (e .current)
-    old = pending-kind g c i u ∙ ap (λ (o : Option ℕ). pending (e .number) o (e .current)) (previous-some (e .previous) f)
-
-    from : (k : Kind) → kindNumber k ≡ some (e .number) → kindCurrent k ≡ some (e .previous) → kindHome k ≡ some (e .previous)
-        → ((x : ℕ) → kindPrevious k ≡ some x → x ≡ e .previous) → ((b q : ℕ) → k ≡ live false b q → ⊥)
-        → Owes (g .blocks) (g .disk) row (viewOf g c d) i k
-    from k = restored-owes i (e .number) (e .previous) k (v .safe) l (ap kindNumber old) (ap kindPrevious old) (ap kindHome old)
-
-    owes : Seen (inWindow g c (e .number)) x → Owes (g .blocks) (g .disk) row (viewOf g c d) i (kindOf (inWindow g c (e .number)) x)
-    owes (seen-idle a k) = absurd-bool (kept-used (e .number) (e .previous) (e .previous)) a
-    owes (seen-live a b k) =
-        from (kindOf (inWindow g c (e .number)) x) (ap kindNumber k) (ap kindCurrent k) (ap kindHome k)
-        (λ y h. none-some (ap kindPrevious k) h)
-        (λ b′ q′ h. let w = kept-modified (e .number) (e .previous) (e .previous) in let z : _≡_ {A = ℕ} 0 1 = cc in omega arith)
-    owes (seen-pending a b k) =
-        from (kindOf (inWindow g c (e .number)) x) (ap kindNumber k) (ap kindCurrent k) (ap kindHome k ∙ previous-some (e .previous) f)
-        (λ y h. same-some h (ap kindPrevious k ∙ previous-some (e .previous) f))
-        (λ b′ q′ h. let z : _≡_ {A = ℕ} 0 1 = cc in omega arith)
+    from : kindNumber k ≡ some b → kindCurrent k ≡ some p → kindHome k ≡ some p → ((x : ℕ) → kindPrevious k ≡ some x → x ≡ p)
+        → (isClean k ≡ true → wasClean (v .kind i) ≡ true) → (wasClean k ≡ true → wasClean (v .kind i) ≡ true) → Owes n d row v i k
+    from = restored-owes i b p k s l (ap kindNumber old) (ap kindPrevious old) (ap kindHome old)
 
 -- ---- the turns
 
@@ -223,38 +236,79 @@ undoable-unfolds : (g : Geometry) (c : List ℕ) (i : ℕ)
 unfolding undoableAt usedAt
 undoable-unfolds g c i = refl
 
-undoable-here : (g : Geometry) (c : List ℕ) (i : ℕ) {x : Entry} → entryAt g c i ≡ x → undoableAt g c i ≡ undoable (inWindow g c (x .number)) x
-undoable-here g c i e = undoable-at g c i ∙ ap (λ (x : Entry). undoable (inWindow g c (x .number)) x) e
+kind-here : (g : Geometry) (c : List ℕ) (i : ℕ) {x : Entry} → entryAt g c i ≡ x → kindAt g c i ≡ kindOf (versionOf c) (inWindow g c (x .number)) x
+unfolding kindAt
+kind-here g c i e = ap (λ (x : Entry). kindOf (versionOf c) (inWindow g c (x .number)) x) e
 
 pub settled-by : (g : Geometry) (c : List ℕ) → headOf c ≡ tailOf c → ((i : ℕ) → i < g .blocks → hasLogRole (entryAt g c i) ≡ false)
     → isSettled g c ≡ true
 unfolding isSettled roleFreeAt
 settled-by g c e f = and-both (eq-eqb _ _ e) (all-of _ (g .blocks) (λ i l. ap not (f i l)))
 
+-- settled as it is, the kind is the same as undone
+abbrev Rested : Kind → Type 0
+Rested k = settledKind k ≡ undoneKind k
+
+undone-rests : {old : Kind} (new : Kind) → UndoneKind old new → Rested new
+undone-rests new (gone p e) = ap settledKind e ∙ sym (ap undoneKind e)
+undone-rests new (back m b p h e) = ⊎-elim (λ k. ap settledKind k ∙ sym (ap undoneKind k)) (λ k. ap settledKind k ∙ sym (ap undoneKind k)) e
+
+undone-again : {old : Kind} (new : Kind) → UndoneKind old new → undoneKind new ≡ old
+undone-again new (gone p e) = ap undoneKind e ∙ sym p
+undone-again new (back m b p h e) = ⊎-elim (λ k. ap undoneKind k ∙ sym h) (λ k. ap undoneKind k ∙ sym h) e
+
+rested-home : (k : Kind) → Rested k → kindCurrent k ≡ kindHome k
+rested-home idle e = refl
+rested-home (live m b q) e = refl
+rested-home (pending m w b none q) e = let z : _≡_ {A = ℕ} 0 1 = cc in absurd (omega arith)
+rested-home (pending m w b (some p) q) e = ap kindCurrent e
+
+settled-undone : (k : Kind) → undoneKind (settledKind k) ≡ settledKind k
+settled-undone idle = refl
+settled-undone (live m b q) = refl
+settled-undone (pending m w b o q) = refl
+
+calm-rests : (g : Geometry) (c : List ℕ) (i : ℕ) → undoableAt g c i ≡ false → Rested (kindAt g c i)
+calm-rests g c i h =
+    ⊎-elim
+    (λ u. let k = live-kind g c i u h in ap settledKind k ∙ sym (ap undoneKind k))
+    (λ u. let k = idle-kind g c i u in ap settledKind k ∙ sym (ap undoneKind k))
+    (either (usedAt g c i))
+
 module _ (g : Geometry) (row : ℕ → List ℕ) (c : List ℕ) where
+  -- what every entry is once it is undone stays all along
+  abbrev pub Kept : List ℕ → List ℕ → Type 0
+  Kept c′ d′ = Inv g row c′ d′ × Back g (λ i. undoneKind (kindAt g c i)) c′
+
   -- before turn i
   record Turn (i : ℕ) (c′ d′ : List ℕ) : Type 0 where
     inv : Inv g row c′ d′
+    backs : Back g (λ i. undoneKind (kindAt g c i)) c′
     heads : headOf c′ ≡ headOf c
     tails : tailOf c′ ≡ tailOf c
+    versions : versionOf c′ ≡ versionOf c
     windows : (b : ℕ) → inWindow g c′ b ≡ inWindow g c b
     ahead : (j : ℕ) → i ≤ j → j < g .blocks → entryAt g c′ j ≡ entryAt g c j
     free : (j : ℕ) → j < i → j < g .blocks → hasLogRole (entryAt g c′ j) ≡ false
-    rests : (j : ℕ) → j < i → j < g .blocks → undoableAt g c′ j ≡ true
-        → (entryAt g c′ j .previous ≡ entryAt g c′ j .current) × (entryAt g c′ j .previous ≡ FRESH → ⊥)
+    rests : (j : ℕ) → j < i → j < g .blocks → Rested (kindAt g c′ j)
 
   -- one entry more is done with
   advance : (i : ℕ) (c′ d′ c″ d″ : List ℕ) → i < g .blocks → Turn i c′ d′ → Inv g row c″ d″
-      → headOf c″ ≡ headOf c′ → tailOf c″ ≡ tailOf c′ → ((b : ℕ) → inWindow g c″ b ≡ inWindow g c′ b)
+      → headOf c″ ≡ headOf c′ → tailOf c″ ≡ tailOf c′ → versionOf c″ ≡ versionOf c′ → ((b : ℕ) → inWindow g c″ b ≡ inWindow g c′ b)
       → ((j : ℕ) → j < g .blocks → (j ≡ i → ⊥) → entryAt g c″ j ≡ entryAt g c′ j)
-      → hasLogRole (entryAt g c″ i) ≡ false
-      → (undoableAt g c″ i ≡ true → (entryAt g c″ i .previous ≡ entryAt g c″ i .current) × (entryAt g c″ i .previous ≡ FRESH → ⊥))
+      → hasLogRole (entryAt g c″ i) ≡ false → undoneKind (kindAt g c″ i) ≡ undoneKind (kindAt g c′ i) → Rested (kindAt g c″ i)
       → Turn (suc i) c″ d″
-  advance i c′ d′ c″ d″ l t v eh et ew others role rest =
+  advance i c′ d′ c″ d″ l t v eh et ev ew others role same rest =
       record {
         inv = v;
+        backs = λ j m.
+            ⊎-elim
+            (λ e. subst (λ (z : ℕ). undoneKind (kindAt g c″ z) ≡ undoneKind (kindAt g c z)) (sym e) (same ∙ t .backs i l))
+            (λ e. ap undoneKind (kind-other j m e) ∙ t .backs j m)
+            (same-or-other j i);
         heads = eh ∙ t .heads;
         tails = et ∙ t .tails;
+        versions = ev ∙ t .versions;
         windows = λ b. ew b ∙ t .windows b;
         ahead = λ j h m. others j m (λ e. omega arith) ∙ t .ahead j (omega arith) m;
         free = λ j h m.
@@ -262,22 +316,23 @@ module _ (g : Geometry) (row : ℕ → List ℕ) (c : List ℕ) where
             (λ e. ap (λ (z : ℕ). hasLogRole (entryAt g c″ z)) e ∙ role)
             (λ k. ap hasLogRole (others j m (λ e. omega arith)) ∙ t .free j k m)
             (last-or-before j i h);
-        rests = λ j h m u.
+        rests = λ j h m.
             ⊎-elim
-            (λ e. subst Rest (sym e) (rest (ap (undoableAt g c″) (sym e) ∙ u)))
-            (λ k.
-            subst (λ (x : Entry). (x .previous ≡ x .current) × (x .previous ≡ FRESH → ⊥)) (sym (others j m (λ e. omega arith)))
-            (t .rests j k m (sym (undoable-same g c′ c″ j (others j m (λ e. omega arith)) ew) ∙ u)))
+            (λ e. subst (λ (z : ℕ). Rested (kindAt g c″ z)) (sym e) rest)
+            (λ k. subst Rested (sym (kind-other j m (λ e. omega arith))) (t .rests j k m))
             (last-or-before j i h);
       }
     where
-      Rest : ℕ → Type 0
-      Rest z = (entryAt g c″ z .previous ≡ entryAt g c″ z .current) × (entryAt g c″ z .previous ≡ FRESH → ⊥)
+      kind-other : (j : ℕ) → j < g .blocks → (j ≡ i → ⊥) → kindAt g c″ j ≡ kindAt g c′ j
+      kind-other j m h = kind-same g c′ c″ j ev (others j m h) ew
 
-  turn : (i : ℕ) (c′ d′ : List ℕ) → i < g .blocks → Turn i c′ d′ → Along (Inv g row) (Turn (suc i)) (undoRuns g c i) c′ d′
+  turn : (i : ℕ) (c′ d′ : List ℕ) → i < g .blocks → Turn i c′ d′ → Along Kept (Turn (suc i)) (undoRuns g c i) c′ d′
   unfolding undoRuns
   turn i c′ d′ l t = go (undoableAt g c i) refl
     where
+      v : ℕ
+      v = versionOf c
+
       e : Entry
       e = entryAt g c i
 
@@ -287,78 +342,91 @@ module _ (g : Geometry) (row : ℕ → List ℕ) (c : List ℕ) where
       u-same : undoableAt g c′ i ≡ undoableAt g c i
       u-same = undoable-same g c c′ i same (t .windows)
 
-      goodE : goodEntry (g .blocks) (g .disk) e ≡ true
-      goodE = sym (ap (goodEntry (g .blocks) (g .disk)) same) ∙ t .inv .shape .entries i l
+      goodE : goodEntry v (g .blocks) (g .disk) e ≡ true
+      goodE = sym (λ x. goodEntry (t .versions x) (g .blocks) (g .disk) (same x)) ∙ t .inv .shape .entries i l
 
       idle-turn : undoableAt g c i ≡ false → Turn (suc i) c′ d′
       idle-turn h =
-          advance i c′ d′ c′ d′ l t (t .inv) refl refl (λ b. refl) (λ j m k. refl)
-          (ap hasLogRole same ∙ quiet (either (inUse e)))
-          (λ u. absurd-bool u (u-same ∙ h))
+          advance i c′ d′ c′ d′ l t (t .inv) refl refl refl (λ b. refl) (λ j m k. refl)
+          (ap hasLogRole same ∙ quiet (either (inUse e))) refl
+          (calm-rests g c′ i (u-same ∙ h))
         where
           quiet : (inUse e ≡ true) ⊎ (inUse e ≡ false) → hasLogRole e ≡ false
           quiet (inl a) =
               let w : inUse e && (hasLogRole e || inWindow g c (e .number)) ≡ false = sym (undoable-unfolds g c i) ∙ h in
               or-false (hasLogRole e) (inWindow g c (e .number)) (sym (ap (λ (b : Bool). b && (hasLogRole e || inWindow g c (e .number))) a) ∙ w) .0
-          quiet (inr a) = ap hasLogRole (not-used-blank (g .blocks) (g .disk) e goodE a) ∙ unused-role
+          quiet (inr a) = ap hasLogRole (not-used-blank v (g .blocks) (g .disk) e goodE a) ∙ unused-role
 
-      go : (b : Bool) → undoableAt g c i ≡ b → Along (Inv g row) (Turn (suc i)) (cond b (ifChanging c (entryStore g i (undone e))) []) c′ d′
-      go false h = along-none c′ d′ (t .inv) (idle-turn h)
-      go true h =
-          along-changing c c′ d′ (entryStore g i (undone e)) (t .inv) skipped
-          (subst (Inv g row c″) (sym (entry-elsewhere g i (undone e) d′)) kept)
-          (advance i c′ d′ c″ _ l t (subst (Inv g row c″) (sym (entry-elsewhere g i (undone e) d′)) kept)
-          (head-kept ch (λ p q. omega arith)) (tail-kept ch (λ p q. omega arith)) (window-calm (t .inv .shape) ch (calm-entry g i))
-          (λ j m k. entry-kept ch j m (λ p q. k (sym q)))
-          (ap hasLogRole new ∙ undone-role (g .blocks) (g .disk) e cases)
-          (λ u. subst (λ (x : Entry). (x .previous ≡ x .current) × (x .previous ≡ FRESH → ⊥)) (sym new)
-          (undone-rests (g .blocks) (g .disk) e (inWindow g c″ (undone e .number)) cases (sym (undoable-here g c″ i new) ∙ u))))
+      go : (b : Bool) → undoableAt g c i ≡ b → Along Kept (Turn (suc i)) (cond b (ifChanging c (entryStore g i (undone v e))) []) c′ d′
+      go false h = along-none c′ d′ (t .inv, t .backs) (idle-turn h)
+      go true h = along-changing c c′ d′ (entryStore g i x) (t .inv, t .backs) skipped (after .inv, after .backs) after
         where
-          used : UsedEntry (g .blocks) (g .disk) e
-          used = used-entry (g .blocks) (g .disk) e goodE (and-left (inUse e) _ (sym (undoable-unfolds g c i) ∙ h))
+          x : Entry
+          x = undone v e
 
-          cases : Undone (g .blocks) (g .disk) e
-          cases = undo-cases (g .blocks) (g .disk) e used
+          used : UsedEntry v (g .blocks) (g .disk) e
+          used = used-entry v (g .blocks) (g .disk) e goodE (and-left (inUse e) _ (sym (undoable-unfolds g c i) ∙ h))
 
-          fit : goodEntry (g .blocks) (g .disk) (undone e) ≡ true
-          fit = undone-good (g .blocks) (g .disk) e used cases
+          cases : Undone v (g .blocks) (g .disk) e
+          cases = undo-cases v (g .blocks) (g .disk) e used
 
-          fits : EntryFits (undone e)
-          fits = fits-entry (t .inv .shape) (undone e) fit
+          fit : goodEntry v (g .blocks) (g .disk) x ≡ true
+          fit = undone-good e used cases
+
+          fits : EntryFits x
+          fits = fits-entry v (t .inv .shape) x fit
+
+          fit′ : goodEntry (versionOf c′) (g .blocks) (g .disk) x ≡ true
+          fit′ = ap (λ (z : ℕ). goodEntry z (g .blocks) (g .disk) x) (t .versions) ∙ fit
 
           c″ : List ℕ
-          c″ = storedOn card (entryStore g i (undone e)) c′
+          c″ = storedOn card (entryStore g i x) c′
 
           ch : Changed g (entry i) c′ c″
-          ch = entry-changed g c′ i (undone e) l
+          ch = entry-changed g c′ i x l
 
-          new : entryAt g c″ i ≡ undone e
-          new = entry-stored g c′ i (undone e) l (t .inv .shape .cardSized) fits
+          new : entryAt g c″ i ≡ x
+          new = entry-stored g c′ i x l (t .inv .shape .cardSized) fits
+
+          old : kindAt g c′ i ≡ pendingOf v e
+          old = pending-kind g c′ i (u-same ∙ h) ∙ (λ z. pendingOf (t .versions z) (same z))
+
+          becomes : UndoneKind (undoneKind (pendingOf v e)) (kindOf (versionOf c′) (inWindow g c′ (x .number)) x)
+          becomes =
+              subst (λ (z : ℕ). UndoneKind (undoneKind (pendingOf v e)) (kindOf z (inWindow g c′ (x .number)) x)) (sym (t .versions))
+              (undone-kind v (inWindow g c′ (x .number)) e cases)
 
           kept : Inv g row c″ d′
           kept =
-              entry-changes i (undone e) (t .inv) l ch new fit
-              (undone-modified (g .blocks) (g .disk) e (inWindow g c′ (undone e .number)) cases)
-              (subst (λ (x : Entry). Owes (g .blocks) (g .disk) row (viewOf g c′ d′) i (kindOf (inWindow g c′ (undone x .number)) (undone x))) same
-              (undo-owes (t .inv) i l (u-same ∙ h) (subst (Undone (g .blocks) (g .disk)) (sym same) cases)))
+              entry-changes i x (t .inv) l ch new fit′
+              (undo-owes i (isModified e) (dirtyBefore v e) (e .number) (previousOf (e .previous)) (e .current) _ (t .inv .safe) l old becomes)
 
-          skipped : part c (entryStore g i (undone e) .place) (length (entryStore g i (undone e) .bytes)) ≡ entryStore g i (undone e) .bytes
-              → Turn (suc i) c′ d′
+          -- the entry has its new kind on the card c₁
+          done : (c₁ d₁ : List ℕ) → Inv g row c₁ d₁ → headOf c₁ ≡ headOf c′ → tailOf c₁ ≡ tailOf c′ → versionOf c₁ ≡ versionOf c′
+              → ((b : ℕ) → inWindow g c₁ b ≡ inWindow g c′ b) → ((j : ℕ) → j < g .blocks → (j ≡ i → ⊥) → entryAt g c₁ j ≡ entryAt g c′ j)
+              → entryAt g c₁ i ≡ x → kindAt g c₁ i ≡ kindOf (versionOf c′) (inWindow g c′ (x .number)) x → Turn (suc i) c₁ d₁
+          done c₁ d₁ w eh et ev ew others is k =
+              advance i c′ d′ c₁ d₁ l t w eh et ev ew others (ap hasLogRole is ∙ undone-role e cases)
+              (ap undoneKind k ∙ undone-again _ becomes ∙ sym (ap undoneKind old))
+              (subst Rested (sym k) (undone-rests _ becomes))
+
+          after : Turn (suc i) c″ (storedOn disk (entryStore g i x) d′)
+          after =
+              done c″ _ (subst (Inv g row c″) (sym (entry-elsewhere g i x d′)) kept)
+              (head-kept ch (λ p q. omega arith)) (tail-kept ch (λ p q. omega arith)) (version-kept ch (λ p q. omega arith))
+              (window-calm (t .inv .shape) ch (calm-entry g i)) (λ j m k. entry-kept ch j m (λ p q. k (sym q))) new
+              (kind-new i x (t .inv) l ch new fit′)
+
+          skipped : part c (entryStore g i x .place) (length (entryStore g i x .bytes)) ≡ entryStore g i x .bytes → Turn (suc i) c′ d′
           skipped eq =
-              advance i c′ d′ c′ d′ l t (t .inv) refl refl (λ b. refl) (λ j m k. refl)
-              (ap hasLogRole now ∙ undone-role (g .blocks) (g .disk) e cases)
-              (λ u. subst (λ (x : Entry). (x .previous ≡ x .current) × (x .previous ≡ FRESH → ⊥)) (sym now)
-              (undone-rests (g .blocks) (g .disk) e (inWindow g c′ (undone e .number)) cases (sym (undoable-here g c′ i now) ∙ u)))
-            where
-              now : entryAt g c′ i ≡ undone e
-              now = same ∙ stands-there g c i (undone e) fits eq
+              let now : entryAt g c′ i ≡ x = same ∙ stands-there g c i x fits eq in
+              done c′ d′ (t .inv) refl refl refl (λ b. refl) (λ j m k. refl) now (kind-here g c′ i now)
 
   -- Tail's store, or none where Tail stands at Head already
-  settle : (c′ d′ : List ℕ) → Turn (g .blocks) c′ d′
-      → Along (Inv g row) (λ c″ d″. (Inv g row c″ d″) × (isSettled g c″ ≡ true)) (ifChanging c (tailStore (headOf c))) c′ d′
+  settle : (c′ d′ : List ℕ) → Turn (g .blocks) c′ d′ → Along Kept (λ c″ d″. Kept c″ d″ × (isSettled g c″ ≡ true)) (ifChanging c (tailStore (headOf c))) c′ d′
   settle c′ d′ t =
-      along-changing c c′ d′ (tailStore (headOf c)) (t .inv)
-      (λ eq. (t .inv, settled-already (t .tails ∙ tail-stands c (headOf c) small eq ∙ sym (t .heads))))
+      along-changing c c′ d′ (tailStore (headOf c)) (t .inv, t .backs)
+      (λ eq. ((t .inv, t .backs), settled-already (t .tails ∙ tail-stands c (headOf c) small eq ∙ sym (t .heads))))
       after-tail (after-tail, tail-settled (t .inv) ch (new ∙ sym (t .heads)) roles)
     where
       small : headOf c < 65536 + 65536
@@ -381,39 +449,35 @@ module _ (g : Geometry) (row : ℕ → List ℕ) (c : List ℕ) where
 
       -- every entry's current block is its settled block by now
       full : (i b q : ℕ) → i < g .blocks → kindNumber (kindAt g c′ i) ≡ some b → kindCurrent (kindAt g c′ i) ≡ some q → blockAt g c′ q ≡ row b
-      full i b q l n k = go (either (undoableAt g c′ i))
-        where
-          go : (undoableAt g c′ i ≡ true) ⊎ (undoableAt g c′ i ≡ false) → blockAt g c′ q ≡ row b
-          go (inl u) =
-              let (e, f) = t .rests i l l u in
-              let p = pending-kind g c′ i u in
-              t .inv .safe .held i b q l n
-              (ap kindHome p ∙ previous-some (entryAt g c′ i .previous) f ∙ ap some e ∙ sym (ap kindCurrent p) ∙ k)
-          go (inr u) =
-              let p = live-kind g c′ i (number-used g c′ i n .0) u in
-              t .inv .safe .held i b q l n (ap kindHome p ∙ sym (ap kindCurrent p) ∙ k)
+      full i b q l n k = t .inv .safe .held i b q l n (sym (rested-home (kindAt g c′ i) (t .rests i l l)) ∙ k)
 
-      after-tail : Inv g row (storedOn card (tailStore (headOf c)) c′) (storedOn disk (tailStore (headOf c)) d′)
-      after-tail =
-          subst (Inv g row (storedOn card (tailStore (headOf c)) c′)) (sym (tail-elsewhere (headOf c) d′))
-          (tail-moves (t .inv) ch (new ∙ sym (t .heads)) roles full
-          (λ b l none′. t .inv .safe .bare b l (λ i m n. absurd (none′ i m n))))
+      after-tail : Kept (storedOn card (tailStore (headOf c)) c′) (storedOn disk (tailStore (headOf c)) d′)
+      after-tail = (
+        subst (Inv g row (storedOn card (tailStore (headOf c)) c′)) (sym (tail-elsewhere (headOf c) d′))
+            (tail-moves (t .inv) ch (new ∙ sym (t .heads)) roles full
+            (λ b l none′. t .inv .safe .bare b l (λ i m n. absurd (none′ i m n)))),
+        λ i l.
+            ap undoneKind (settled-kinds (t .inv) ch (new ∙ sym (t .heads)) roles i l)
+            ∙ settled-undone (kindAt g c′ i) ∙ t .rests i l l ∙ t .backs i l,
+      )
 
 -- recovery of a card that the invariant holds of
 pub recovery : {g : Geometry} {row : ℕ → List ℕ} {c d : List ℕ} → Inv g row c d
-    → Along (Inv g row) (λ c′ d′. (Inv g row c′ d′) × (isSettled g c′ ≡ true)) (recoverRuns g c) c d
+    → Along (Kept g row c) (λ c′ d′. Kept g row c c′ d′ × (isSettled g c′ ≡ true)) (recoverRuns g c) c d
 unfolding recoverRuns
 recovery {g} {row} {c} {d} v =
     along-then (eachBelow (undoRuns g c) (g .blocks)) (ifChanging c (tailStore (headOf c))) c d
-    (along-each (Turn g row c) (undoRuns g c) (g .blocks) c d v start (turn g row c))
+    (along-each (Turn g row c) (undoRuns g c) (g .blocks) c d (v, λ i l. refl) start (turn g row c))
     (settle g row c)
   where
     start : Turn g row c 0 c d
     start =
         record {
           inv = v;
+          backs = λ i l. refl;
           heads = refl;
           tails = refl;
+          versions = refl;
           windows = λ b. refl;
           ahead = λ j h l. refl;
           free = λ j h l. absurd (omega arith);

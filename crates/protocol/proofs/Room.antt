@@ -16,7 +16,7 @@ use Rattle.protocol.specs.declared.Entry.{Entry}
 use Rattle.protocol.specs.declared.Geometry.{Geometry}
 use Rattle.protocol.specs.declared.Map.{Map}
 use Rattle.protocol.specs.Below.{anyBelow, countBelow, eachBelow}
-use Rattle.protocol.specs.Layout.{geometryOf, blockAt}
+use Rattle.protocol.specs.Layout.{between, geometryOf, versionOf, blockAt}
 use Rattle.protocol.specs.Entry.{unused, entryOf, switched, entryAt, inUse, isModified}
 use Rattle.protocol.specs.Ring.{headOf, tailOf, usedAt, isSettled, entryFor, findEntry, cached, currentOf}
 use Rattle.protocol.specs.Check.{_orElse_, cardRefusal}
@@ -31,7 +31,8 @@ use Rattle.protocol.proofs.Allowed.{unused-good, unused-used}
 use Rattle.protocol.proofs.Below.{absurd-bool, either, last-or-before, and-left, and-right, and-both, and-true, and-fails, any-found, first-cong, count-le}
 use Rattle.protocol.proofs.Checks.{limits}
 use Rattle.protocol.proofs.Committed.{among, e-below, Entries, commit-entries}
-use Rattle.protocol.proofs.Holds.{pass, none-first, fit-passes, card-refuses}
+use Rattle.protocol.proofs.Codec.{version-same}
+use Rattle.protocol.proofs.Holds.{pass, none-first, header-version, fit-header, fit-passes, card-refuses}
 use Rattle.protocol.proofs.Lawful.{Intact, intact, inv-intact, current-below, number-below, entry-found, entry-cached, held, home, lawful}
 use Rattle.protocol.proofs.Left.{made-evict, clear-marked}
 use Rattle.protocol.proofs.Loaded.{cached-entry, eviction}
@@ -160,7 +161,7 @@ module _ {g : Geometry} {c : List ℕ} (t ns : List ℕ) (w : Intact g c) (a : i
   one-more : isSettled g next ≡ true → Intact g next → Evicted g c t ns (suc k) next
   one-more s i =
       let ch = entry-changed g c′ at unused at-below in
-      let fits = entry-fits g (w .good) unused (unused-good (g .blocks) (g .disk)) in
+      let fits = entry-fits 2 g (w .good) unused (unused-good 2 (g .blocks) (g .disk)) in
       record {
         sized = ch .sized ∙ x .sized;
         header = header-kept ch (λ p q. omega arith) ∙ x .header;
@@ -369,7 +370,7 @@ pub number-among : (ns : List ℕ) (i : ℕ) → i < length ns → isAmong ns (n
 unfolding isAmong
 number-among ns i l = any-found _ (length ns) i l (eq-eqb (numberOf ns i) (numberOf ns i) refl)
 
-module _ {g : Geometry} {c : List ℕ} (t ns bs ch : List ℕ) (w : Intact g c) (p : RoomPassed g c t ns bs ch) where
+module _ {v : ℕ} {g : Geometry} {c : List ℕ} (t ns bs ch : List ℕ) (w : Intact g c) (p : RoomPassed v g c t ns bs ch) where
   pub room-enough : missing g c ns ≤ length (victims g c t ns)
   unfolding enoughVictims
   room-enough = leb-true _ _ (p .saves .enough)
@@ -453,32 +454,35 @@ module _ {g : Geometry} {c : List ℕ} (t ns bs ch : List ℕ) (w : Intact g c) 
       (either (cached g roomDone (victimNumber g c t ns k)))
 
 -- making room, cut anywhere, keeps the invariant and the row, and leaves the card that the commit's searches see
-pub room-along : {g : Geometry} {row : ℕ → List ℕ} {c d : List ℕ} (t ns bs ch : List ℕ) → Inv g row c d → RoomPassed g c t ns bs ch
+pub room-along : {n : ℕ} {g : Geometry} {row : ℕ → List ℕ} {c d : List ℕ} (t ns bs ch : List ℕ) → Inv g row c d → RoomPassed n g c t ns bs ch
     → Along (Inv g row) (λ c′ d′. Inv g row c′ d′ × (c′ ≡ roomLeft g c t ns)) (roomRuns g c t ns) c d
 unfolding roomLeft roomRuns
-room-along {g} {row} {c} {d} t ns bs ch v p =
+room-along {n} {g} {row} {c} {d} t ns bs ch v p =
     let x = evicting t ns v (p .settled) (p .arranged) (missing g c ns) (room-enough t ns bs ch (inv-intact v) p) in
     record { during = x .during; end = (x .end .0, refl) }
 
 -- of every room-making commit that is not refused
-module _ (c d : List ℕ) (m : Map) (t ns bs ch : List ℕ) (z : roomRefusal c d m t ns bs ch ≡ 0) where
+module _ (c d : List ℕ) (m : Map) (t ns bs ch : List ℕ) (z : roomRefusal 2 c d m t ns bs ch ≡ 0) where
   abbrev g : Geometry
   g = geometryOf c
 
   abbrev c′ : List ℕ
   c′ = roomLeft g c t ns
 
-  has-passed : RoomPassed g c t ns bs ch
-  has-passed = room-passed c d m t ns bs ch z
+  pub has-passed : RoomPassed 2 g c t ns bs ch
+  has-passed = room-passed 2 c d m t ns bs ch z
 
-  whole : Intact g c
-  whole = intact c (has-passed .fit) (has-passed .undamaged)
+  pub whole : Intact g c
+  whole = intact 2 2 c (omega arith) (omega arith) (has-passed .fit) (has-passed .undamaged)
 
   as-left : Evicted g c t ns (missing g c ns) c′
   as-left = room-left t ns bs ch whole has-passed
 
   pub room-geometry : geometryOf c′ ≡ g
   room-geometry = as-left .intact .own
+
+  pub room-version : versionOf c′ ≡ versionOf c
+  room-version = version-same c c′ (as-left .header)
 
   pub room-head : headOf c′ ≡ headOf c
   room-head = as-left .head
@@ -495,11 +499,12 @@ module _ (c d : List ℕ) (m : Map) (t ns bs ch : List ℕ) (z : roomRefusal c d
   room-entry i l = kept-entry as-left (room-enough t ns bs ch whole has-passed) (numberOf ns i) (number-among ns i l)
 
   -- "The searches then see the card so left", with its own map: a plain commit there is not refused
-  pub room-commit : commitRefusal c′ (mapOf c′) ns bs ch ≡ 0
+  pub room-commit : commitRefusal 2 c′ (mapOf c′) ns bs ch ≡ 0
   unfolding commitRefusal
   room-commit =
       let v = lawful (as-left .intact) (as-left .settled) in
-      none-first _ (fit-passes v)
+      let two = header-version c 2 2 (fit-header c 2 2 (has-passed .fit)) in
+      none-first _ (fit-passes v 2 2 (ap (between 2 2) room-version ∙ two))
       ∙ ap (λ (y : Geometry). cardRefusal y c′ orElse mapRefusal c′ (mapOf c′) orElse saveRefusal y ns bs ch (roomFor y c′ (length ns))) room-geometry
       ∙ none-first _ (card-refuses v ∙ pass 7 (as-left .settled))
       ∙ none-first _ (own-map c′)

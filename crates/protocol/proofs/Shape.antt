@@ -14,12 +14,13 @@ use Rattle.numbers.specs.Bytes.{be, part, numberAt}
 use Rattle.protocol.specs.declared.Entry.{Entry}
 use Rattle.protocol.specs.declared.Geometry.{Geometry}
 use Rattle.protocol.specs.Below.{anyBelow, around}
-use Rattle.protocol.specs.Layout.{goodGeometry, blockSize, blockAt, diskBlock, geometryOf, goodHeader, cardLength, diskLength, entryPlace}
+use Rattle.protocol.specs.Layout.{goodGeometry, blockSize, blockAt, diskBlock, geometryOf, versionOf, goodHeader, cardLength, diskLength, entryPlace}
 use Rattle.protocol.specs.Entry.{FRESH, entryIn, entryAt, inUse, isModified, hasLogRole, goodEntry}
-use Rattle.protocol.specs.Ring.{headOf, tailOf, slotAt, windowLength, windowOf, windowNumber, windowHas, inWindow, undoableAt}
+use Rattle.protocol.specs.Ring.{headOf, tailOf, slotAt, windowLength, windowOf, windowNumber, windowHas, inWindow}
+use Rattle.protocol.proofs.Allowed.{dirtyBefore}
 use Rattle.protocol.proofs.Below.{either, any-cong}
-use Rattle.protocol.proofs.Codec.{entry-of-part, header-same, geometry-same}
-use Rattle.protocol.proofs.Invariant.{Kind, idle, live, pending, View, Safe}
+use Rattle.protocol.proofs.Codec.{entry-of-part, header-same, version-same, geometry-same}
+use Rattle.protocol.proofs.Invariant.{Kind, idle, live, pending, undoneKind, View, Safe}
 use Rattle.protocol.proofs.Region.{Region, header, head, tail, slot, entry, block, place, Inside, Differ, cell, place-slot, place-entry, place-block}
 
 -- ---- the card's fields through its parts
@@ -56,6 +57,9 @@ pub record Changed (g : Geometry) (r : Region) (c c′ : List ℕ) : Type 0 wher
 module _ {g : Geometry} {r : Region} {c c′ : List ℕ} (x : Changed g r c c′) where
   pub header-kept : Differ r header → part c′ 0 64 ≡ part c 0 64
   header-kept d = header-cell g c′ ∙ x .others header (omega arith) d ∙ sym (header-cell g c)
+
+  pub version-kept : Differ r header → versionOf c′ ≡ versionOf c
+  version-kept d = version-same c c′ (header-kept d)
 
   pub head-kept : Differ r head → headOf c′ ≡ headOf c
   head-kept d = head-cell g c′ ∙ ap be (x .others head (omega arith) d) ∙ sym (head-cell g c)
@@ -166,45 +170,45 @@ previous-is p x e = go (eqb p FRESH) refl e
     go true f q = let z : _≡_ {A = ℕ} 0 1 = cc in absurd (omega arith)
     go false f q = (cc, eqb-false p FRESH f)
 
--- the kind of an entry, told whether its number stands in the window
-unfoldable pub kindOf : Bool → Entry → Kind
-kindOf w e =
-    cond (inUse e)
-    (cond (hasLogRole e || w) (pending (e .number) (previousOf (e .previous)) (e .current)) (live (isModified e) (e .number) (e .current)))
-    idle
+-- an undoable entry's kind
+abbrev pub pendingOf : ℕ → Entry → Kind
+pendingOf v e = pending (isModified e) (dirtyBefore v e) (e .number) (previousOf (e .previous)) (e .current)
+
+-- the kind of an entry with the version v, told whether its number stands in the window
+unfoldable pub kindOf : ℕ → Bool → Entry → Kind
+kindOf v w e = cond (inUse e) (cond (hasLogRole e || w) (pendingOf v e) (live (isModified e) (e .number) (e .current))) idle
 
 unfoldable pub kindAt : Geometry → List ℕ → ℕ → Kind
-kindAt g c i = kindOf (inWindow g c (entryAt g c i .number)) (entryAt g c i)
+kindAt g c i = kindOf (versionOf c) (inWindow g c (entryAt g c i .number)) (entryAt g c i)
 
 abbrev pub viewOf : Geometry → List ℕ → List ℕ → View
 viewOf g c d = record { kind = kindAt g c; block = blockAt g c; home = diskBlock g d }
 
 -- the entry's kind, by its flags
-pub data Seen (w : Bool) (e : Entry) : Type 0 where
-  seen-idle : inUse e ≡ false → kindOf w e ≡ idle → Seen w e
-  seen-live : inUse e ≡ true → hasLogRole e || w ≡ false → kindOf w e ≡ live (isModified e) (e .number) (e .current) → Seen w e
-  seen-pending : inUse e ≡ true → hasLogRole e || w ≡ true
-      → kindOf w e ≡ pending (e .number) (previousOf (e .previous)) (e .current) → Seen w e
+pub data Seen (v : ℕ) (w : Bool) (e : Entry) : Type 0 where
+  seen-idle : inUse e ≡ false → kindOf v w e ≡ idle → Seen v w e
+  seen-live : inUse e ≡ true → hasLogRole e || w ≡ false → kindOf v w e ≡ live (isModified e) (e .number) (e .current) → Seen v w e
+  seen-pending : inUse e ≡ true → hasLogRole e || w ≡ true → kindOf v w e ≡ pendingOf v e → Seen v w e
 
-pub see : (w : Bool) (e : Entry) → Seen w e
+pub see : (v : ℕ) (w : Bool) (e : Entry) → Seen v w e
 unfolding kindOf
-see w e = go (either (inUse e)) (either (hasLogRole e || w))
+see v w e = go (either (inUse e)) (either (hasLogRole e || w))
   where
-    go : (inUse e ≡ true) ⊎ (inUse e ≡ false) → (hasLogRole e || w ≡ true) ⊎ (hasLogRole e || w ≡ false) → Seen w e
+    go : (inUse e ≡ true) ⊎ (inUse e ≡ false) → (hasLogRole e || w ≡ true) ⊎ (hasLogRole e || w ≡ false) → Seen v w e
     go (inl p) (inl q) = seen-pending p q (rw (p, q))
     go (inl p) (inr q) = seen-live p q (rw (p, q))
     go (inr p) q = seen-idle p (rw p)
 
 -- ---- the shape
 
--- the header of c is good and spells g
+-- the header of c is good, of version 1 or 2, and spells g
 abbrev pub Headed : Geometry → List ℕ → Type 0
-Headed g c = (goodHeader c ≡ true) × (geometryOf c ≡ g)
+Headed g c = (goodHeader 1 2 c ≡ true) × (geometryOf c ≡ g)
 
 pub headed-kept : {g : Geometry} (c c′ : List ℕ) → part c′ 0 64 ≡ part c 0 64 → Headed g c → Headed g c′
-headed-kept {g} c c′ e h = (header-same c c′ e ∙ h .0, geometry-same c c′ e ∙ h .1)
+headed-kept {g} c c′ e h = (header-same c c′ e 1 2 ∙ h .0, geometry-same c c′ e ∙ h .1)
 
--- the lengths, the header, Head and Tail, the window's numbers, the entries; and that an undoable entry is modified
+-- the lengths, the header, Head and Tail, the window's numbers, the entries
 pub record Shape (g : Geometry) (c d : List ℕ) : Type 0 where
   pub good : goodGeometry g ≡ true
   pub headed : Headed g c
@@ -213,10 +217,13 @@ pub record Shape (g : Geometry) (c d : List ℕ) : Type 0 where
   pub headBelow : headOf c < g .slots
   pub tailBelow : tailOf c < g .slots
   pub window : (j : ℕ) → j < windowOf g c → windowNumber g c j < g .disk
-  pub entries : (i : ℕ) → i < g .blocks → goodEntry (g .blocks) (g .disk) (entryAt g c i) ≡ true
-  pub undoableModified : (i : ℕ) → i < g .blocks → undoableAt g c i ≡ true → isModified (entryAt g c i) ≡ true
+  pub entries : (i : ℕ) → i < g .blocks → goodEntry (versionOf c) (g .blocks) (g .disk) (entryAt g c i) ≡ true
 
 -- the invariant behind the cut rule, of card, disk and row
 pub record Inv (g : Geometry) (row : ℕ → List ℕ) (c d : List ℕ) : Type 0 where
   pub shape : Shape g c d
   pub safe : Safe (g .blocks) (g .disk) row (viewOf g c d)
+
+-- each entry, undone, has the kind k
+abbrev pub Back : Geometry → (ℕ → Kind) → List ℕ → Type 0
+Back g k c = (i : ℕ) → i < g .blocks → undoneKind (kindAt g c i) ≡ k i

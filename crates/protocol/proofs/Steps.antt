@@ -15,13 +15,14 @@ use borrow.Author.Tests.{eqb-true, eq-eqb}
 use Rattle.protocol.specs.declared.Entry.{Entry}
 use Rattle.protocol.specs.declared.Geometry.{Geometry}
 use Rattle.protocol.specs.Below.{anyBelow, around}
-use Rattle.protocol.specs.Layout.{blockAt, diskBlock}
+use Rattle.protocol.specs.Layout.{versionOf, blockAt, diskBlock}
 use Rattle.protocol.specs.Entry.{entryAt, inUse, isModified, hasLogRole, goodEntry}
 use Rattle.protocol.specs.Ring.{headOf, tailOf, slotAt, windowLength, windowOf, windowNumber, windowHas, inWindow, usedAt, undoableAt, roleFreeAt, isSettled}
-use Rattle.protocol.proofs.Below.{and-fails, all-of, either, any-cong, around-below, around-apart, below-or-above, same-or-other, and-both, absurd-bool}
-use Rattle.protocol.proofs.Invariant.{idle, live, pending, kindNumber, kindCurrent, kindPrevious, settledKind, Owes, change-media, change-entry, settle-all}
+use Rattle.protocol.proofs.Below.{all-of, either, any-cong, around-below, around-apart, below-or-above, same-or-other, and-both, absurd-bool}
+use Rattle.protocol.proofs.Invariant.{idle, live, kindNumber, kindCurrent, kindPrevious, settledKind, Owes, change-media, change-entry, settle-all}
 use Rattle.protocol.proofs.Region.{Region, header, head, tail, slot, entry, block, Differ}
-use Rattle.protocol.proofs.Shape.{Changed, header-kept, headed-kept, head-kept, tail-kept, slot-kept, entry-kept, block-kept, window-short, window-empty, window-end, window-grows, window-kept, number-kept, in-window-kept, kindOf, kindAt, viewOf, Seen, seen-idle, seen-live, seen-pending, see, previousOf, Shape, Inv}
+use Rattle.protocol.proofs.Codec.{version-same}
+use Rattle.protocol.proofs.Shape.{Changed, header-kept, version-kept, headed-kept, head-kept, tail-kept, slot-kept, entry-kept, block-kept, window-short, window-empty, window-end, window-grows, window-kept, number-kept, in-window-kept, pendingOf, kindOf, kindAt, viewOf, Seen, seen-idle, seen-live, seen-pending, see, Shape, Inv}
 
 -- an entry is undoable, told whether its number stands in the window
 unfoldable pub undoable : Bool → Entry → Bool
@@ -32,12 +33,11 @@ unfolding undoableAt usedAt undoable
 undoable-at g c i = refl
 
 -- the same entry and the same window: the same kind, and undoable or not alike
-pub kind-same : (g : Geometry) (c c′ : List ℕ) (i : ℕ) → entryAt g c′ i ≡ entryAt g c i → ((b : ℕ) → inWindow g c′ b ≡ inWindow g c b)
-    → kindAt g c′ i ≡ kindAt g c i
+pub kind-same : (g : Geometry) (c c′ : List ℕ) (i : ℕ) → versionOf c′ ≡ versionOf c → entryAt g c′ i ≡ entryAt g c i
+    → ((b : ℕ) → inWindow g c′ b ≡ inWindow g c b) → kindAt g c′ i ≡ kindAt g c i
 unfolding kindAt
-kind-same g c c′ i e w =
-    ap (λ (b : Bool). kindOf b (entryAt g c′ i)) (w (entryAt g c′ i .number))
-    ∙ ap (λ (x : Entry). kindOf (inWindow g c (x .number)) x) e
+kind-same g c c′ i v e w =
+    (λ t. kindOf (v t) (w (entryAt g c′ i .number) t) (entryAt g c′ i)) ∙ ap (λ (x : Entry). kindOf (versionOf c) (inWindow g c (x .number)) x) e
 
 pub undoable-same : (g : Geometry) (c c′ : List ℕ) (i : ℕ) → entryAt g c′ i ≡ entryAt g c i → ((b : ℕ) → inWindow g c′ b ≡ inWindow g c b)
     → undoableAt g c′ i ≡ undoableAt g c i
@@ -77,10 +77,9 @@ module _ {g : Geometry} {c c′ d : List ℕ} (s : Shape g c d) where
   -- the ring's fields and the window's numbers stay
   shape-frame : part c′ 0 64 ≡ part c 0 64 → length c′ ≡ length c → headOf c′ ≡ headOf c → tailOf c′ ≡ tailOf c
       → ((j : ℕ) → j < windowOf g c → windowNumber g c′ j ≡ windowNumber g c j)
-      → ((i : ℕ) → i < g .blocks → goodEntry (g .blocks) (g .disk) (entryAt g c′ i) ≡ true)
-      → ((i : ℕ) → i < g .blocks → undoableAt g c′ i ≡ true → isModified (entryAt g c′ i) ≡ true)
+      → ((i : ℕ) → i < g .blocks → goodEntry (versionOf c) (g .blocks) (g .disk) (entryAt g c′ i) ≡ true)
       → Shape g c′ d
-  shape-frame ep el eh et nums good loaded =
+  shape-frame ep el eh et nums good =
       record {
         good = s .good;
         headed = headed-kept _ _ ep (s .headed);
@@ -91,16 +90,14 @@ module _ {g : Geometry} {c c′ d : List ℕ} (s : Shape g c d) where
         window = λ j l.
             let m : j < windowOf g c = subst (λ (z : ℕ). j < z) (window-kept g c c′ eh et) l in
             subst (λ (z : ℕ). z < g .disk) (sym (nums j m)) (s .window j m);
-        entries = good;
-        undoableModified = loaded;
+        entries = λ i l. ap (λ (v : ℕ). goodEntry v (g .blocks) (g .disk) (entryAt g c′ i)) (version-same c c′ ep) ∙ good i l;
       }
 
   shape-calm : {r : Region} → Changed g r c c′ → Calm g r
-      → ((i : ℕ) → i < g .blocks → goodEntry (g .blocks) (g .disk) (entryAt g c′ i) ≡ true)
-      → ((i : ℕ) → i < g .blocks → undoableAt g c′ i ≡ true → isModified (entryAt g c′ i) ≡ true)
+      → ((i : ℕ) → i < g .blocks → goodEntry (versionOf c) (g .blocks) (g .disk) (entryAt g c′ i) ≡ true)
       → Shape g c′ d
-  shape-calm {r} x k good loaded =
-      shape-frame (header-kept x (k .calm-header)) (x .sized) (head-kept x (k .calm-head)) (tail-kept x (k .calm-tail)) (number-calm x k) good loaded
+  shape-calm {r} x k good =
+      shape-frame (header-kept x (k .calm-header)) (x .sized) (head-kept x (k .calm-head)) (tail-kept x (k .calm-tail)) (number-calm x k) good
 
 -- the window leaves one slot at least, and Head stands after its last
 pub window-below : {g : Geometry} {row : ℕ → List ℕ} {c d : List ℕ} → Inv g row c d → windowOf g c < g .slots
@@ -111,14 +108,10 @@ pub head-after : {g : Geometry} {row : ℕ → List ℕ} {c d : List ℕ} → In
 unfolding windowOf
 head-after {g} {row} {c} v = window-end (g .slots) (tailOf c) (headOf c) (v .shape .tailBelow) (v .shape .headBelow)
 
--- the same entries and the same window: what check 5 allows, and that undoable entries are modified, stay
+-- the same entries: what check 5 allows stays
 module _ {g : Geometry} {c d : List ℕ} (c′ : List ℕ) (s : Shape g c d) (same : (i : ℕ) → i < g .blocks → entryAt g c′ i ≡ entryAt g c i) where
-  goods-same : (i : ℕ) → i < g .blocks → goodEntry (g .blocks) (g .disk) (entryAt g c′ i) ≡ true
-  goods-same i l = ap (goodEntry (g .blocks) (g .disk)) (same i l) ∙ s .entries i l
-
-  modified-same : ((i : ℕ) → i < g .blocks → undoableAt g c′ i ≡ undoableAt g c i) → (i : ℕ) → i < g .blocks → undoableAt g c′ i ≡ true
-      → isModified (entryAt g c′ i) ≡ true
-  modified-same w i l u = ap isModified (same i l) ∙ s .undoableModified i l (sym (w i l) ∙ u)
+  goods-same : (i : ℕ) → i < g .blocks → goodEntry (versionOf c) (g .blocks) (g .disk) (entryAt g c′ i) ≡ true
+  goods-same i l = ap (goodEntry (versionOf c) (g .blocks) (g .disk)) (same i l) ∙ s .entries i l
 
 -- ---- runs
 
@@ -129,10 +122,9 @@ pub run-in-block : {g : Geometry} {row : ℕ → List ℕ} {c c′ d : List ℕ}
     → Inv g row c′ d
 run-in-block {g} {row} {c} {c′} {d} q v x nc np =
     record {
-      shape = shape-calm (v .shape) x (calm-block g q) (goods-same c′ (v .shape) same)
-          (modified-same c′ (v .shape) same (λ i l. undoable-same g c c′ i (same i l) win));
+      shape = shape-calm (v .shape) x (calm-block g q) (goods-same c′ (v .shape) same);
       safe = change-media (v .safe)
-          (λ i l. kind-same g c c′ i (same i l) win)
+          (λ i l. kind-same g c c′ i (version-kept x (λ p h. omega arith)) (same i l) win)
           (λ i p l e. block-kept x p (v .safe .currentUnder i p l e) (λ t h. nc i l (e ∙ ap some (sym h))))
           (λ i p l e. block-kept x p (v .safe .previousUnder i p l e) (λ t h. np i l (e ∙ ap some (sym h))))
           (λ b l. inl refl);
@@ -146,7 +138,8 @@ run-in-block {g} {row} {c} {c′} {d} q v x nc np =
 
 pub block-kinds : {g : Geometry} {c c′ d : List ℕ} {q : ℕ} → Shape g c d → Changed g (block q) c c′ → (i : ℕ) → i < g .blocks
     → kindAt g c′ i ≡ kindAt g c i
-block-kinds {g} {c} {c′} {d} {q} s x i l = kind-same g c c′ i (entry-kept x i l (λ p h. omega arith)) (window-calm s x (calm-block g q))
+block-kinds {g} {c} {c′} {d} {q} s x i l =
+    kind-same g c c′ i (version-kept x (λ p h. omega arith)) (entry-kept x i l (λ p h. omega arith)) (window-calm s x (calm-block g q))
 
 -- any change inside a disk block that a modified live entry stands for
 pub run-in-home : {g : Geometry} {row : ℕ → List ℕ} {c d d′ : List ℕ} (b i q : ℕ) → Inv g row c d → length d′ ≡ length d
@@ -163,7 +156,6 @@ run-in-home {g} {row} {c} {d} {d′} b i q v len others l e =
         tailBelow = v .shape .tailBelow;
         window = v .shape .window;
         entries = v .shape .entries;
-        undoableModified = v .shape .undoableModified;
       };
       safe = change-media (v .safe) (λ j m. refl) (λ j p m h. refl) (λ j p m h. refl)
           (λ a m. ⊎-elim (λ h. inr (i, q, l, e ∙ ap (λ (z : ℕ). live true z q) (sym h))) (λ h. inl (others a m h)) (same-or-other a b));
@@ -172,55 +164,44 @@ run-in-home {g} {row} {c} {d} {d′} b i q v len others l e =
 -- ---- entries
 
 module _ {g : Geometry} {row : ℕ → List ℕ} {c c′ d : List ℕ} (i : ℕ) (x : Entry) (v : Inv g row c d) (l : i < g .blocks)
-    (ch : Changed g (entry i) c c′) (new : entryAt g c′ i ≡ x) (fit : goodEntry (g .blocks) (g .disk) x ≡ true)
-    (loaded : undoable (inWindow g c (x .number)) x ≡ true → isModified x ≡ true) where
+    (ch : Changed g (entry i) c c′) (new : entryAt g c′ i ≡ x) (fit : goodEntry (versionOf c) (g .blocks) (g .disk) x ≡ true) where
+  same-version : versionOf c′ ≡ versionOf c
+  same-version = version-kept ch (λ p h. omega arith)
+
   win : (b : ℕ) → inWindow g c′ b ≡ inWindow g c b
   win = window-calm (v .shape) ch (calm-entry g i)
 
   old : (j : ℕ) → j < g .blocks → (j ≡ i → ⊥) → entryAt g c′ j ≡ entryAt g c j
   old j m h = entry-kept ch j m (λ p e. h (sym e))
 
-  kind-new : kindAt g c′ i ≡ kindOf (inWindow g c (x .number)) x
+  pub kind-new : kindAt g c′ i ≡ kindOf (versionOf c) (inWindow g c (x .number)) x
   unfolding kindAt
-  kind-new = ap (λ (e : Entry). kindOf (inWindow g c′ (e .number)) e) new ∙ ap (λ (b : Bool). kindOf b x) (win (x .number))
+  kind-new = ap (λ (e : Entry). kindOf (versionOf c′) (inWindow g c′ (e .number)) e) new ∙ (λ t. kindOf (same-version t) (win (x .number) t) x)
 
-  kind-old : (j : ℕ) → j < g .blocks → (j ≡ i → ⊥) → kindAt g c′ j ≡ kindAt g c j
-  kind-old j m h = kind-same g c c′ j (old j m h) win
+  pub kind-old : (j : ℕ) → j < g .blocks → (j ≡ i → ⊥) → kindAt g c′ j ≡ kindAt g c j
+  kind-old j m h = kind-same g c c′ j same-version (old j m h) win
 
   shape-new : Shape g c′ d
-  shape-new = shape-calm (v .shape) ch (calm-entry g i) goods modified
+  shape-new = shape-calm (v .shape) ch (calm-entry g i) goods
     where
-      goods : (j : ℕ) → j < g .blocks → goodEntry (g .blocks) (g .disk) (entryAt g c′ j) ≡ true
+      goods : (j : ℕ) → j < g .blocks → goodEntry (versionOf c) (g .blocks) (g .disk) (entryAt g c′ j) ≡ true
       goods j m =
           ⊎-elim
-          (λ h. subst (λ (e : Entry). goodEntry (g .blocks) (g .disk) e ≡ true) (sym (ap (entryAt g c′) h ∙ new)) fit)
-          (λ h. subst (λ (e : Entry). goodEntry (g .blocks) (g .disk) e ≡ true) (sym (old j m h)) (v .shape .entries j m))
-          (same-or-other j i)
-
-      here : undoableAt g c′ i ≡ undoable (inWindow g c (x .number)) x
-      here =
-          undoable-at g c′ i
-          ∙ ap (λ (e : Entry). undoable (inWindow g c′ (e .number)) e) new
-          ∙ ap (λ (b : Bool). undoable b x) (win (x .number))
-
-      modified : (j : ℕ) → j < g .blocks → undoableAt g c′ j ≡ true → isModified (entryAt g c′ j) ≡ true
-      modified j m u =
-          ⊎-elim
-          (λ h. ap (λ (z : ℕ). isModified (entryAt g c′ z)) h ∙ ap isModified new ∙ loaded (sym here ∙ ap (undoableAt g c′) (sym h) ∙ u))
-          (λ h. ap isModified (old j m h) ∙ v .shape .undoableModified j m (sym (undoable-same g c c′ j (old j m h) win) ∙ u))
+          (λ h. subst (λ (e : Entry). goodEntry (versionOf c) (g .blocks) (g .disk) e ≡ true) (sym (ap (entryAt g c′) h ∙ new)) fit)
+          (λ h. subst (λ (e : Entry). goodEntry (versionOf c) (g .blocks) (g .disk) e ≡ true) (sym (old j m h)) (v .shape .entries j m))
           (same-or-other j i)
 
   -- an entry of another kind, which owes what the invariant asks
-  pub entry-changes : Owes (g .blocks) (g .disk) row (viewOf g c d) i (kindOf (inWindow g c (x .number)) x) → Inv g row c′ d
+  pub entry-changes : Owes (g .blocks) (g .disk) row (viewOf g c d) i (kindOf (versionOf c) (inWindow g c (x .number)) x) → Inv g row c′ d
   entry-changes o =
       record {
         shape = shape-new;
-        safe = change-entry i (kindOf (inWindow g c (x .number)) x) (v .safe) l kind-new kind-old
+        safe = change-entry i (kindOf (versionOf c) (inWindow g c (x .number)) x) (v .safe) l kind-new kind-old
             (λ p m. block-kept ch p m (λ q h. omega arith)) (λ b m. refl) o;
       }
 
   -- an entry of the same kind: commit's role switch
-  pub entry-stays : kindOf (inWindow g c (x .number)) x ≡ kindAt g c i → Inv g row c′ d
+  pub entry-stays : kindOf (versionOf c) (inWindow g c (x .number)) x ≡ kindAt g c i → Inv g row c′ d
   entry-stays k =
       record {
         shape = shape-new;
@@ -239,10 +220,9 @@ module _ {g : Geometry} {row : ℕ → List ℕ} {c c′ d : List ℕ} (i : ℕ)
 pub slot-changes : {g : Geometry} {row : ℕ → List ℕ} {c c′ d : List ℕ} → Inv g row c d → Changed g (slot (headOf c)) c c′ → Inv g row c′ d
 slot-changes {g} {row} {c} {c′} {d} v x =
     record {
-      shape = shape-frame (v .shape) (header-kept x (λ p h. omega arith)) (x .sized) eh et nums (goods-same c′ (v .shape) same)
-          (modified-same c′ (v .shape) same (λ i l. undoable-same g c c′ i (same i l) win));
+      shape = shape-frame (v .shape) (header-kept x (λ p h. omega arith)) (x .sized) eh et nums (goods-same c′ (v .shape) same);
       safe = change-media (v .safe)
-          (λ i l. kind-same g c c′ i (same i l) win)
+          (λ i l. kind-same g c c′ i (version-kept x (λ p h. omega arith)) (same i l) win)
           (λ i p l e. block-kept x p (v .safe .currentUnder i p l e) (λ q h. omega arith))
           (λ i p l e. block-kept x p (v .safe .previousUnder i p l e) (λ q h. omega arith))
           (λ b l. inl refl);
@@ -318,28 +298,21 @@ module _ {g : Geometry} {row : ℕ → List ℕ} {c c′ d : List ℕ} (v : Inv 
       or-none true = refl
       or-none false = refl
 
-  kinds : (i : ℕ) → i < g .blocks → kindAt g c′ i ≡ kindAt g c i
+  pub kinds : (i : ℕ) → i < g .blocks → kindAt g c′ i ≡ kindAt g c i
   unfolding kindAt kindOf
   kinds i l =
-      ap (λ (e : Entry). kindOf (inWindow g c′ (e .number)) e) (same i l)
+      ap (λ (e : Entry). kindOf (versionOf c′) (inWindow g c′ (e .number)) e) (same i l)
+      ∙ ap (λ (v : ℕ). kindOf v (inWindow g c′ (entryAt g c i .number)) (entryAt g c i)) (version-kept x (λ p h. omega arith))
       ∙ ⊎-elim
       (λ u.
       ap
       (λ (b : Bool).
       cond (inUse (entryAt g c i))
-      (cond b (pending (entryAt g c i .number) (previousOf (entryAt g c i .previous)) (entryAt g c i .current)) (live (isModified (entryAt g c i)) (entryAt g c i .number) (entryAt g c i .current)))
+      (cond b (pendingOf (versionOf c) (entryAt g c i)) (live (isModified (entryAt g c i)) (entryAt g c i .number) (entryAt g c i .current)))
       idle)
       (role-stays i l u))
       (λ u. rw u)
       (either (inUse (entryAt g c i)))
-
-  undoables : (i : ℕ) → i < g .blocks → undoableAt g c′ i ≡ undoableAt g c i
-  unfolding undoable
-  undoables i l =
-      undoable-at g c′ i
-      ∙ ap (λ (e : Entry). undoable (inWindow g c′ (e .number)) e) (same i l)
-      ∙ ⊎-elim (λ u. ap (λ (b : Bool). inUse (entryAt g c i) && b) (role-stays i l u)) (λ u. rw u) (either (inUse (entryAt g c i)))
-      ∙ sym (undoable-at g c i)
 
   pub head-moves : Inv g row c′ d
   head-moves =
@@ -352,8 +325,7 @@ module _ {g : Geometry} {row : ℕ → List ℕ} {c c′ d : List ℕ} (v : Inv 
           headBelow = subst (λ (z : ℕ). z < g .slots) (sym moved) (around-below (g .slots) (headOf c) 1 (v .shape .headBelow) (omega arith));
           tailBelow = subst (λ (z : ℕ). z < g .slots) (sym et) (v .shape .tailBelow);
           window = numbers;
-          entries = goods-same c′ (v .shape) same;
-          undoableModified = modified-same c′ (v .shape) same undoables;
+          entries = good-entries;
         };
         safe = change-media (v .safe) kinds
             (λ i p l e. block-kept x p (v .safe .currentUnder i p l e) (λ q h. omega arith))
@@ -361,6 +333,10 @@ module _ {g : Geometry} {row : ℕ → List ℕ} {c c′ d : List ℕ} (v : Inv 
             (λ b l. inl refl);
       }
     where
+      good-entries : (i : ℕ) → i < g .blocks → goodEntry (versionOf c′) (g .blocks) (g .disk) (entryAt g c′ i) ≡ true
+      good-entries i l =
+          ap (λ (v : ℕ). goodEntry v (g .blocks) (g .disk) (entryAt g c′ i)) (version-kept x (λ p h. omega arith)) ∙ goods-same c′ (v .shape) same i l
+
       numbers : (j : ℕ) → j < windowOf g c′ → windowNumber g c′ j < g .disk
       numbers j l =
           let m : j < windowOf g c + 1 = subst (λ (z : ℕ). j < z) window-longer l in
@@ -391,45 +367,27 @@ module _ {g : Geometry} {row : ℕ → List ℕ} {c c′ d : List ℕ} (v : Inv 
   role-free : (i : ℕ) → i < g .blocks → hasLogRole (entryAt g c i) || inWindow g c′ (entryAt g c i .number) ≡ false
   role-free i l = rw (free i l, none-in-window (entryAt g c i .number))
 
-  settled-kinds : (i : ℕ) → i < g .blocks → kindAt g c′ i ≡ settledKind (kindAt g c i)
-  unfolding kindAt undoable
+  tail-version : versionOf c′ ≡ versionOf c
+  tail-version = version-kept x (λ p h. omega arith)
+
+  pub settled-kinds : (i : ℕ) → i < g .blocks → kindAt g c′ i ≡ settledKind (kindAt g c i)
+  unfolding kindAt
   settled-kinds i l =
-      ap (λ (e : Entry). kindOf (inWindow g c′ (e .number)) e) (tail-entry i l) ∙ go (see (inWindow g c (entryAt g c i .number)) (entryAt g c i))
+      ap (λ (e : Entry). kindOf (versionOf c′) (inWindow g c′ (e .number)) e) (tail-entry i l)
+      ∙ go (see (versionOf c) (inWindow g c (entryAt g c i .number)) (entryAt g c i)) (see (versionOf c′) (inWindow g c′ (entryAt g c i .number)) (entryAt g c i))
     where
       e : Entry
       e = entryAt g c i
 
-      now-live : inUse e ≡ true → kindOf (inWindow g c′ (e .number)) e ≡ live (isModified e) (e .number) (e .current)
-      now-live u = pick (see (inWindow g c′ (e .number)) e)
-        where
-          pick : Seen (inWindow g c′ (e .number)) e → kindOf (inWindow g c′ (e .number)) e ≡ live (isModified e) (e .number) (e .current)
-          pick (seen-idle p q) = absurd-bool u p
-          pick (seen-live p q r) = r
-          pick (seen-pending p q r) = absurd-bool q (role-free i l)
-
-      go : Seen (inWindow g c (e .number)) e → kindOf (inWindow g c′ (e .number)) e ≡ settledKind (kindOf (inWindow g c (e .number)) e)
-      go (seen-idle p q) = now-idle (see (inWindow g c′ (e .number)) e) ∙ sym (ap settledKind q)
-        where
-          now-idle : Seen (inWindow g c′ (e .number)) e → kindOf (inWindow g c′ (e .number)) e ≡ idle
-          now-idle (seen-idle a b) = b
-          now-idle (seen-live a b r) = absurd-bool a p
-          now-idle (seen-pending a b r) = absurd-bool a p
-      go (seen-live p q r) = now-live p ∙ sym (ap settledKind r)
-      go (seen-pending p q r) =
-          let u : undoableAt g c i ≡ true = undoable-at g c i ∙ both p q in
-          now-live p
-          ∙ ap (λ (b : Bool). live b (e .number) (e .current)) (v .shape .undoableModified i l u)
-          ∙ sym (ap settledKind r)
-        where
-          both : inUse e ≡ true → hasLogRole e || inWindow g c (e .number) ≡ true → undoable (inWindow g c (e .number)) e ≡ true
-          both a b = and-both a b
-
-  not-undoable : (i : ℕ) → i < g .blocks → undoableAt g c′ i ≡ false
-  unfolding undoable
-  not-undoable i l =
-      undoable-at g c′ i
-      ∙ ap (λ (e : Entry). undoable (inWindow g c′ (e .number)) e) (tail-entry i l)
-      ∙ and-fails (inUse (entryAt g c i)) _ (role-free i l)
+      go : Seen (versionOf c) (inWindow g c (e .number)) e → Seen (versionOf c′) (inWindow g c′ (e .number)) e
+          → kindOf (versionOf c′) (inWindow g c′ (e .number)) e ≡ settledKind (kindOf (versionOf c) (inWindow g c (e .number)) e)
+      go x (seen-pending p q r) = absurd-bool q (role-free i l)
+      go (seen-idle p q) (seen-idle a b) = b ∙ sym (ap settledKind q)
+      go (seen-idle p q) (seen-live a b r) = absurd-bool a p
+      go (seen-live p q r) (seen-idle a b) = absurd-bool p a
+      go (seen-live p q r) (seen-live a b t) = t ∙ sym (ap settledKind r)
+      go (seen-pending p q r) (seen-idle a b) = absurd-bool p a
+      go (seen-pending p q r) (seen-live a b t) = t ∙ sym (ap settledKind r)
 
   pub tail-settled : isSettled g c′ ≡ true
   unfolding isSettled roleFreeAt
@@ -451,8 +409,7 @@ module _ {g : Geometry} {row : ℕ → List ℕ} {c c′ d : List ℕ} (v : Inv 
           headBelow = subst (λ (z : ℕ). z < g .slots) (sym tail-head) (v .shape .headBelow);
           tailBelow = subst (λ (z : ℕ). z < g .slots) (sym moved) (v .shape .headBelow);
           window = λ j l. absurd (omega (arith, no-window));
-          entries = goods-same c′ (v .shape) tail-entry;
-          undoableModified = λ i l u. absurd-bool u (not-undoable i l);
+          entries = λ i l. ap (λ (v : ℕ). goodEntry v (g .blocks) (g .disk) (entryAt g c′ i)) tail-version ∙ goods-same c′ (v .shape) tail-entry i l;
         };
         safe = settle-all (v .safe) settled-kinds (λ p l. block-kept x p l (λ q h. omega arith)) (λ b l. refl) full empty;
       }

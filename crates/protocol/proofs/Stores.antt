@@ -117,6 +117,12 @@ runs-before a ch rs qs none h =
     ∙ sym (runs-covered a ch rs l))
     (below-or-above a (length (flat rs)))
 
+-- a single store that comes last is not made where the runs are cut
+pub last-cut : (a : ℕ) (ch : List ℕ) (rs : List Run) (s : Store) → a < length (flat (rs ++ single s)) → made a ch (rs ++ single s) ≡ made a ch rs
+last-cut a ch rs s l =
+    let short : a ≤ length (flat rs) = omega (arith, ap length (flat-last rs s), length-append (flat rs) (s ∷ [])) in
+    runs-before a ch rs (single s) (single-cut ch s) short
+
 -- ---- stores confined to n bytes from `at` of one medium
 
 pub record Held (m : Medium) (at n : ℕ) (s : Store) : Type 0 where

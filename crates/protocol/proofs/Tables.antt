@@ -72,7 +72,7 @@ module _ (m : Media) (t : List ℕ) (h : isArranged t ≡ true) where
       ⊎-elim
       (λ e.
       let z = eqb-true _ 0 (and-left (eqb (recentRefusal c (m .onDisk) t out b) 0) (cached g c b) e) in
-      let few = limits g (pair-sound c (m .onDisk) (first-zero (pairRefusal c (m .onDisk)) _ z) .0 .good) in
+      let few = limits g (pair-sound c (m .onDisk) (first-zero (pairRefusal 2 c (m .onDisk)) _ z) .0 .good) in
       let low = cached-entry g c b (and-right (eqb (recentRefusal c (m .onDisk) t out b) 0) (cached g c b) e) .below in
       rw e (front-arranged (findEntry g c b) t h (omega arith)))
       (λ e. rw e h)
@@ -81,8 +81,8 @@ module _ (m : Media) (t : List ℕ) (h : isArranged t ≡ true) where
   load-stays : (a : ℕ) (s : Map) (b : ℕ) (ch : List ℕ) → isArranged (tableAfterLoad a c (m .onDisk) s t b ch) ≡ true
   unfolding tableAfterLoad loadWork loadRefusal roomFor
   load-stays a s b ch =
-      turned-stays (answerOf a (loadWork c (m .onDisk) s t b ch)) _ (λ n e.
-      let (pair, z) = orElse-none (pairRefusal c (m .onDisk)) _ (done-passed a n (loadWork c (m .onDisk) s t b ch) e .0) in
+      turned-stays (answerOf a (loadWork 2 c (m .onDisk) s t b ch)) _ (λ n e.
+      let (pair, z) = orElse-none (pairRefusal 2 c (m .onDisk)) _ (done-passed a n (loadWork 2 c (m .onDisk) s t b ch) e .0) in
       let asked = second-zero (choiceRefusal g ch) _ (second-zero (tableRefusal t) _ (second-zero (mapRefusal c s) _ z)) in
       let last = second-zero (refuse 12 (not (cached g c b))) _ (second-zero (blockRefusal g b) _ asked) in
       let (w, q) = pair-sound c (m .onDisk) pair in
@@ -95,9 +95,9 @@ module _ (m : Media) (t : List ℕ) (h : isArranged t ≡ true) where
   save-stays : (a : ℕ) (s : Map) (ns bs ch : List ℕ) → isArranged (tableAfterSave a c (m .onDisk) s t ns bs ch) ≡ true
   unfolding tableAfterSave roomWork
   save-stays a s ns bs ch =
-      turned-stays (answerOf a (roomWork c (m .onDisk) s t ns bs ch)) _ (λ n e.
-      let p = room-passed c (m .onDisk) s t ns bs ch (done-passed a n (roomWork c (m .onDisk) s t ns bs ch) e .0) in
-      let w = intact c (p .fit) (p .undamaged) in
+      turned-stays (answerOf a (roomWork 2 c (m .onDisk) s t ns bs ch)) _ (λ n e.
+      let p = room-passed 2 c (m .onDisk) s t ns bs ch (done-passed a n (roomWork 2 c (m .onDisk) s t ns bs ch) e .0) in
+      let w = intact 2 2 c (omega arith) (omega arith) (p .fit) (p .undamaged) in
       let few = limits g (w .good) in
       all-arranged (entryFound g (roomLeft g c t ns) ns) (length ns) t h (λ i l. omega (arith, room-place t ns bs ch w p i l)))
 

@@ -7,7 +7,7 @@ use lib.ListN.{length, getD}
 use lib.Dec.{eqb, ltb, leb}
 use Rattle.protocol.specs.declared.Geometry.{Geometry}
 use Rattle.protocol.specs.Below.{allBelow}
-use Rattle.protocol.specs.Layout.{goodHeader, geometryOf, blockSize, cardLength, diskLength}
+use Rattle.protocol.specs.Layout.{goodHeader, geometryOf, versionOf, blockSize, cardLength, diskLength}
 use Rattle.protocol.specs.Entry.{FRESH, entryAt, goodEntry}
 use Rattle.protocol.specs.Ring.{headOf, tailOf, windowOf, windowNumber, usedAt, settledBlock, isSettled}
 
@@ -21,9 +21,9 @@ unfoldable pub _orElse_ : ℕ → ℕ → ℕ
 zero orElse r = r
 (suc n) orElse r = suc n
 
--- not 1: "card under 128 bytes, or a header field not as above"
-unfoldable pub headerFits : List ℕ → Bool
-headerFits c = not (ltb (length c) 128) && goodHeader c
+-- not 1: "card under 128 bytes, or a header field not as above", of a call that takes versions from low to high
+unfoldable pub headerFits : ℕ → ℕ → List ℕ → Bool
+headerFits low high c = not (ltb (length c) 128) && goodHeader low high c
 
 -- not 2: "card of the wrong length"
 unfoldable pub cardFits : Geometry → List ℕ → Bool
@@ -42,9 +42,9 @@ unfoldable pub ringFits : Geometry → List ℕ → Bool
 ringFits g c =
     ltb (headOf c) (g .slots) && (ltb (tailOf c) (g .slots) && allBelow (windowNumberFits g c) (windowOf g c))
 
--- entry i is one that check 5 allows
+-- entry i is one that check 5 allows with the card's version
 unfoldable pub goodEntryAt : Geometry → List ℕ → ℕ → Bool
-goodEntryAt g c i = goodEntry (g .blocks) (g .disk) (entryAt g c i)
+goodEntryAt g c i = goodEntry (versionOf c) (g .blocks) (g .disk) (entryAt g c i)
 
 -- not 5: every entry is one that check 5 allows
 unfoldable pub entriesFit : Geometry → List ℕ → Bool
@@ -69,9 +69,10 @@ apartBefore g c i = allBelow (apart g c i) i
 unfoldable pub entriesApart : Geometry → List ℕ → Bool
 entriesApart g c = allBelow (apartBefore g c) (g .blocks)
 
--- 1 and 2: the fitter
-unfoldable pub fitRefusal : List ℕ → ℕ
-fitRefusal c = refuse 1 (headerFits c) orElse refuse 2 (cardFits (geometryOf c) c)
+-- 1 and 2: the fitter; "other calls but format and making the map refuse version 1 with 1; upgrade refuses version 2 with 1": a call takes versions
+-- from low to high
+unfoldable pub fitRefusal : ℕ → ℕ → List ℕ → ℕ
+fitRefusal low high c = refuse 1 (headerFits low high c) orElse refuse 2 (cardFits (geometryOf c) c)
 
 -- 3, for the calls that take the disk
 unfoldable pub diskRefusal : Geometry → List ℕ → ℕ

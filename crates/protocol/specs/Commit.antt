@@ -1,4 +1,4 @@
--- Document 01, "Commit": its plan from the card at entry, its runs of stores, its refusals; document 02's checks 15 and 17 among them.
+-- Document 01, "Commit": its plan from the card at entry, its runs of stores, its refusals; document 02's checks 15 and 17 among them, and its flag P.
 use Prim.Native.Nat.{ℕ, _+_, _*_, _-_}
 use mathlib.Core.List.{List, _∷_, _++_}
 use mathlib.Core.Bool.{Bool, cond, not, _&&_}
@@ -9,8 +9,8 @@ use Rattle.protocol.specs.declared.Geometry.{Geometry}
 use Rattle.protocol.specs.declared.Entry.{Entry}
 use Rattle.protocol.specs.declared.Map.{Map}
 use Rattle.protocol.specs.Below.{allBelow, countBelow, eachBelow, around}
-use Rattle.protocol.specs.Layout.{geometryOf, blockSize}
-use Rattle.protocol.specs.Entry.{FRESH, entryOf, switched}
+use Rattle.protocol.specs.Layout.{geometryOf, versionOf, blockSize}
+use Rattle.protocol.specs.Entry.{FRESH, entryOf, entryAt, isModified, logFlags, switched}
 use Rattle.protocol.specs.Ring.{headOf, findEntry, cached, currentOf}
 use Rattle.protocol.specs.Check.{refuse, _orElse_, fitRefusal, cardRefusal, choiceRefusal}
 use Rattle.protocol.specs.Store.{Run, Work, words, entryStore, slotStore, headStore, tailStore, single}
@@ -40,9 +40,13 @@ entryFound g c ns i =
 unfoldable pub oldBlock : Geometry → List ℕ → List ℕ → ℕ → ℕ
 oldBlock g c ns i = cond (uncachedAt g c ns i) FRESH (currentOf g c (numberOf ns i))
 
--- "its entry (83, number, previous = the old current or FRESH, current = the new one)"
+-- the i-th block is saved "over a modified entry", and not "over a clean or absent one"
+unfoldable pub overModified : Geometry → List ℕ → List ℕ → ℕ → Bool
+overModified g c ns i = cached g c (numberOf ns i) && isModified (entryAt g c (findEntry g c (numberOf ns i)))
+
+-- "its entry (83, number, previous = the old current or FRESH, current = the new one)", and 87 where document 02 asks for it
 unfoldable pub logEntry : Geometry → List ℕ → List ℕ → ℕ → Entry
-logEntry g c ns i = entryOf 0x83 (numberOf ns i) (oldBlock g c ns i) (newBlock g c i)
+logEntry g c ns i = entryOf (logFlags (versionOf c) (overModified g c ns i)) (numberOf ns i) (oldBlock g c ns i) (newBlock g c i)
 
 -- the bytes given for block i
 unfoldable pub dataOf : Geometry → List ℕ → ℕ → List ℕ
@@ -59,7 +63,7 @@ blockRuns g c ns bs i =
     ∷ (single (entryStore g (entryFound g c ns i) (logEntry g c ns i))
     ++ (single (slotStore (headAfter g c i) (numberOf ns i)) ++ single (headStore (headAfter g c (i + 1)))))
 
--- "its entry with flag 82 and nothing else changed"
+-- "its entry with flag 82 and nothing else changed": R cleared
 unfoldable pub switchRuns : Geometry → List ℕ → List ℕ → ℕ → List Run
 switchRuns g c ns i = single (entryStore g (entryFound g c ns i) (switched (logEntry g c ns i)))
 
@@ -111,15 +115,15 @@ saveRefusal g ns bs ch room =
     orElse refuse 11 (numbersApart ns)
     orElse refuse 14 room
 
--- commit is refused with 1, 2, 4 to 7 and 15, then by its own checks
-unfoldable pub commitRefusal : List ℕ → Map → List ℕ → List ℕ → List ℕ → ℕ
-commitRefusal c m ns bs ch =
-    fitRefusal c
+-- commit of a library of the version v, which takes cards of its own version alone, is refused with 1, 2, 4 to 7 and 15, then by its own checks
+unfoldable pub commitRefusal : ℕ → List ℕ → Map → List ℕ → List ℕ → List ℕ → ℕ
+commitRefusal v c m ns bs ch =
+    fitRefusal v v c
     orElse cardRefusal (geometryOf c) c
     orElse mapRefusal c m
     orElse saveRefusal (geometryOf c) ns bs ch (roomFor (geometryOf c) c (length ns))
 
 -- commit of the numbers ns with the bytes bs and the choice ch, given the map m
-unfoldable pub commitWork : List ℕ → Map → List ℕ → List ℕ → List ℕ → Work
-commitWork c m ns bs ch =
-    record { refusal = commitRefusal c m ns bs ch; runs = commitRuns (geometryOf c) c ns bs; choice = ch }
+unfoldable pub commitWork : ℕ → List ℕ → Map → List ℕ → List ℕ → List ℕ → Work
+commitWork v c m ns bs ch =
+    record { refusal = commitRefusal v c m ns bs ch; runs = commitRuns (geometryOf c) c ns bs; choice = ch }

@@ -13,7 +13,7 @@ use Rattle.protocol.specs.declared.Geometry.{Geometry}
 use Rattle.protocol.specs.declared.Map.{Map}
 use Rattle.protocol.specs.declared.Mapped.the-variants.{Is}
 use Rattle.protocol.specs.Below.{countBelow}
-use Rattle.protocol.specs.Layout.{geometryOf, blockSize, diskBlock, diskLength}
+use Rattle.protocol.specs.Layout.{between, geometryOf, versionOf, blockSize, diskBlock, diskLength}
 use Rattle.protocol.specs.Ring.{isSettled, cached, contents}
 use Rattle.protocol.specs.Check.{refuse, _orElse_}
 use Rattle.protocol.specs.Map.{mapOf, mapRefusal, madeMap}
@@ -24,60 +24,71 @@ use Rattle.protocol.specs.Commit.{numberOf, numbersApart}
 use Rattle.protocol.specs.Load.{pairRefusal, loadWork, tableAfterLoad}
 use Rattle.protocol.specs.Room.{isAmong, missing, victimNumber, enoughVictims, roomWork, tableAfterSave}
 use Rattle.protocol.specs.Recover.{recoverRefusal}
+use Rattle.protocol.specs.Upgrade.{upgradeRefusal}
 use Rattle.protocol.specs.Read.{readRefusal, outputAfter, recentRefusal, recentOutput, recentTable, lookRefusal, lookedAt}
 use Rattle.protocol.specs.History.{Request, makeRoom, recover, Media, answerTo, run, answers, fresh, Row, rowAfter, Asked, served}
 
--- the media that a list of calls leaves, from a fresh card c over the disk d
-unfoldable pub left : Geometry → List ℕ → List ℕ → List Request → Media
-left g c d rs = run rs (fresh g c d)
+-- the media that a list of calls leaves, from a card c formatted with the version v, over the disk d
+unfoldable pub left : ℕ → Geometry → List ℕ → List ℕ → List Request → Media
+left v g c d rs = run rs (fresh v g c d)
 
 -- "The row is D blocks, at first those of the disk. It is then fed each call's other arguments and its answer"
-unfoldable pub rowLeft : Geometry → List ℕ → List ℕ → List Request → Row
-rowLeft g c d rs = rowAfter g rs (answers rs (fresh g c d)) (diskBlock g d)
+unfoldable pub rowLeft : ℕ → Geometry → List ℕ → List ℕ → List Request → Row
+rowLeft v g c d rs = rowAfter g rs (answers rs (fresh v g c d)) (diskBlock g d)
 
--- a recovery that gets the map s, under the allowance a
-abbrev pub recovering : Map → ℕ → Request
-recovering s a = record { call = recover; map = s; allowance = a }
+-- a recovery by a library of the version w that gets the map s, under the allowance a
+abbrev pub recovering : ℕ → Map → ℕ → Request
+recovering w s a = record { version = w; call = recover; map = s; allowance = a }
 
 -- what the cut rule says of one list of calls
-pub record Sound (g : Geometry) (c d : List ℕ) (rs : List Request) : Type 0 where
+pub record Sound (v : ℕ) (g : Geometry) (c d : List ℕ) (rs : List Request) : Type 0 where
+  -- the card's version is 1 or 2
+  pub versioned : between 1 2 (versionOf (left v g c d rs .onCard)) ≡ true
   -- "recover isn't refused with any of 1 to 6": with no other number than 15, and so not with the map that the card gives
-  pub recovers : (s : Map) → recoverRefusal (left g c d rs .onCard) s ≡ mapRefusal (left g c d rs .onCard) s
+  pub recovers : (s : Map) → recoverRefusal 2 (left v g c d rs .onCard) s ≡ mapRefusal (left v g c d rs .onCard) s
   -- which can be made
-  pub maps : madeMap (left g c d rs .onCard) ≡ Is (mapOf (left g c d rs .onCard))
+  pub maps : madeMap (left v g c d rs .onCard) ≡ Is (mapOf (left v g c d rs .onCard))
   -- "if the last call is a recover that answered done, the card is settled"
-  pub settles : (before : List Request) (s : Map) (a n : ℕ) → rs ≡ before ++ (recovering s a ∷ [])
-      → answerTo (recovering s a) (left g c d before) ≡ Done n
-      → isSettled g (left g c d rs .onCard) ≡ true
+  pub settles : (before : List Request) (w : ℕ) (s : Map) (a n : ℕ) → rs ≡ before ++ (recovering w s a ∷ [])
+      → answerTo (recovering w s a) (left v g c d before) ≡ Done n
+      → isSettled g (left v g c d rs .onCard) ≡ true
   -- "whenever the card is settled, the contents of each disk block b are, byte for byte, block b of the row"
-  pub holds : isSettled g (left g c d rs .onCard) ≡ true → (b : ℕ) → b < g .disk
-      → contents g (left g c d rs .onCard) (left g c d rs .onDisk) b ≡ rowLeft g c d rs b
-  -- "Read and look hand out exactly these bytes"
-  pub reads : isSettled g (left g c d rs .onCard) ≡ true → (out : List ℕ) (b : ℕ) → length out ≡ blockSize g → b < g .disk
-      → outputAfter (left g c d rs .onCard) (left g c d rs .onDisk) out b ≡ rowLeft g c d rs b
-  pub looks : isSettled g (left g c d rs .onCard) ≡ true → (b : ℕ) → b < g .disk
-      → lookedAt (left g c d rs .onCard) (left g c d rs .onDisk) b ≡ rowLeft g c d rs b
-  -- "refused only as their own checks say": 7 on a card that is not settled, 9 and 10
-  pub readRefuses : (out : List ℕ) (b : ℕ) → readRefusal (left g c d rs .onCard) (left g c d rs .onDisk) out b
-      ≡ refuse 7 (isSettled g (left g c d rs .onCard)) orElse refuse 9 (eqb (length out) (blockSize g)) orElse refuse 10 (ltb b (g .disk))
-  pub lookRefuses : (b : ℕ) → lookRefusal (left g c d rs .onCard) (left g c d rs .onDisk) b
-      ≡ refuse 7 (isSettled g (left g c d rs .onCard)) orElse refuse 10 (ltb b (g .disk))
+  pub holds : isSettled g (left v g c d rs .onCard) ≡ true → (b : ℕ) → b < g .disk
+      → contents g (left v g c d rs .onCard) (left v g c d rs .onDisk) b ≡ rowLeft v g c d rs b
+  -- "Upgrade turns a settled version 1 card into version 2": it is refused with 1 and 7 alone
+  pub upgrades : upgradeRefusal (left v g c d rs .onCard) ≡ refuse 1 (eqb (versionOf (left v g c d rs .onCard)) 1) orElse refuse 7 (isSettled g (left v g c d rs .onCard))
+  -- "Read and look hand out exactly these bytes", of a version 2 card
+  pub reads : versionOf (left v g c d rs .onCard) ≡ 2 → isSettled g (left v g c d rs .onCard) ≡ true → (out : List ℕ) (b : ℕ) → length out ≡ blockSize g → b < g .disk
+      → outputAfter (left v g c d rs .onCard) (left v g c d rs .onDisk) out b ≡ rowLeft v g c d rs b
+  pub looks : versionOf (left v g c d rs .onCard) ≡ 2 → isSettled g (left v g c d rs .onCard) ≡ true → (b : ℕ) → b < g .disk
+      → lookedAt (left v g c d rs .onCard) (left v g c d rs .onDisk) b ≡ rowLeft v g c d rs b
+  -- "refused only as their own checks say": 1 of another version, 7 on a card that is not settled, 9 and 10
+  pub readRefuses : (out : List ℕ) (b : ℕ) → readRefusal (left v g c d rs .onCard) (left v g c d rs .onDisk) out b
+      ≡ refuse 1 (eqb (versionOf (left v g c d rs .onCard)) 2)
+      orElse refuse 7 (isSettled g (left v g c d rs .onCard))
+      orElse refuse 9 (eqb (length out) (blockSize g))
+      orElse refuse 10 (ltb b (g .disk))
+  pub lookRefuses : (b : ℕ) → lookRefusal (left v g c d rs .onCard) (left v g c d rs .onDisk) b
+      ≡ refuse 1 (eqb (versionOf (left v g c d rs .onCard)) 2) orElse refuse 7 (isSettled g (left v g c d rs .onCard)) orElse refuse 10 (ltb b (g .disk))
   -- and so does a read with the table, refused with 16 besides
-  pub recentReads : isSettled g (left g c d rs .onCard) ≡ true → (t out : List ℕ) (b : ℕ) → isArranged t ≡ true → length out ≡ blockSize g
-      → b < g .disk → recentOutput (left g c d rs .onCard) (left g c d rs .onDisk) t out b ≡ rowLeft g c d rs b
-  pub recentRefuses : (t out : List ℕ) (b : ℕ) → recentRefusal (left g c d rs .onCard) (left g c d rs .onDisk) t out b
-      ≡ refuse 7 (isSettled g (left g c d rs .onCard))
+  pub recentReads : versionOf (left v g c d rs .onCard) ≡ 2 → isSettled g (left v g c d rs .onCard) ≡ true → (t out : List ℕ) (b : ℕ) → isArranged t ≡ true → length out ≡ blockSize g
+      → b < g .disk → recentOutput (left v g c d rs .onCard) (left v g c d rs .onDisk) t out b ≡ rowLeft v g c d rs b
+  pub recentRefuses : (t out : List ℕ) (b : ℕ) → recentRefusal (left v g c d rs .onCard) (left v g c d rs .onDisk) t out b
+      ≡ refuse 1 (eqb (versionOf (left v g c d rs .onCard)) 2)
+      orElse refuse 7 (isSettled g (left v g c d rs .onCard))
       orElse refuse 16 (isArranged t)
       orElse refuse 9 (eqb (length out) (blockSize g))
       orElse refuse 10 (ltb b (g .disk))
 
 -- demand 3: "The list starts from a card that format answered with done, whatever its data blocks hold, and any disk of D·B bytes";
--- "After every such list, an empty one too"
+-- "After every such list, an empty one too". "The cut rule holds for both and across an upgrade; a version 1 card's past is any history of the earlier
+-- calls, format among them": it starts from a format of version 1 or 2, and calls of either library come in any order
 abbrev pub CutRule : Type 0
-CutRule = (g : Geometry) (c d : List ℕ) (rs : List Request)
+CutRule = (v : ℕ) (g : Geometry) (c d : List ℕ) (rs : List Request)
+    → between 1 2 v ≡ true
     → outcomeOf (formatRefusal g c) ≡ FormatDone
     → length d ≡ diskLength g
-    → Sound g c d rs
+    → Sound v g c d rs
 
 -- no call of the list is cut
 abbrev pub Uncut : List Answer → Type 0
@@ -86,12 +97,13 @@ Uncut (a ∷ ans) = (a ≡ Cut → ⊥) × Uncut ans
 
 -- demand 2: without cuts the card is settled after every call and reads as one plain row, in which a commit replaces its blocks at once
 abbrev pub PlainRow : Type 0
-PlainRow = (g : Geometry) (c d : List ℕ) (rs : List Request)
+PlainRow = (v : ℕ) (g : Geometry) (c d : List ℕ) (rs : List Request)
+    → between 1 2 v ≡ true
     → outcomeOf (formatRefusal g c) ≡ FormatDone
     → length d ≡ diskLength g
-    → Uncut (answers rs (fresh g c d))
-    → (isSettled g (left g c d rs .onCard) ≡ true)
-    × ((b : ℕ) → b < g .disk → contents g (left g c d rs .onCard) (left g c d rs .onDisk) b ≡ rowLeft g c d rs b)
+    → Uncut (answers rs (fresh v g c d))
+    → (isSettled g (left v g c d rs .onCard) ≡ true)
+    × ((b : ℕ) → b < g .disk → contents g (left v g c d rs .onCard) (left v g c d rs .onDisk) b ≡ rowLeft v g c d rs b)
 
 -- no answer up to the first cut is a refusal with 15
 abbrev pub Kept : List Answer → Type 0
@@ -115,14 +127,14 @@ TableKept = (isArranged ascending ≡ true) × ((m : Media) (t : List ℕ) → i
 
 -- "cut and refused calls don't change it": a load or a room-making commit under the allowance a that does not answer done leaves the table t
 pub record TableWaits (m : Media) (s : Map) (t : List ℕ) (a : ℕ) : Type 0 where
-  pub loads : (b : ℕ) (ch : List ℕ) → ((n : ℕ) → answerOf a (loadWork (m .onCard) (m .onDisk) s t b ch) ≡ Done n → ⊥)
+  pub loads : (b : ℕ) (ch : List ℕ) → ((n : ℕ) → answerOf a (loadWork 2 (m .onCard) (m .onDisk) s t b ch) ≡ Done n → ⊥)
       → tableAfterLoad a (m .onCard) (m .onDisk) s t b ch ≡ t
-  pub saves : (ns bs ch : List ℕ) → ((n : ℕ) → answerOf a (roomWork (m .onCard) (m .onDisk) s t ns bs ch) ≡ Done n → ⊥)
+  pub saves : (ns bs ch : List ℕ) → ((n : ℕ) → answerOf a (roomWork 2 (m .onCard) (m .onDisk) s t ns bs ch) ≡ Done n → ⊥)
       → tableAfterSave a (m .onCard) (m .onDisk) s t ns bs ch ≡ t
 
--- a room-making commit with the map s and the table t, under the allowance a
-abbrev pub makingRoom : Map → List ℕ → List ℕ → List ℕ → List ℕ → ℕ → Request
-makingRoom s t ns bs ch a = record { call = makeRoom t ns bs ch; map = s; allowance = a }
+-- a room-making commit by a library of the version w, with the map s and the table t, under the allowance a
+abbrev pub makingRoom : ℕ → Map → List ℕ → List ℕ → List ℕ → List ℕ → ℕ → Request
+makingRoom w s t ns bs ch a = record { version = w; call = makeRoom t ns bs ch; map = s; allowance = a }
 
 -- how many of a transaction's numbers are cached
 unfoldable pub cachedAmong : Geometry → List ℕ → List ℕ → ℕ
@@ -131,7 +143,7 @@ cachedAmong g c ns = countBelow (λ i. cached g c (numberOf ns i)) (length ns)
 -- document 02, ask 4, for users: where 1 to 7, 11 and 16 pass, "too few victims" means that the transaction, with its cached blocks counted twice,
 -- has more blocks than the card
 abbrev pub RoomEnough : Type 0
-RoomEnough = (c d t ns : List ℕ) → pairRefusal c d ≡ 0 → isArranged t ≡ true → numbersApart ns ≡ true
+RoomEnough = (c d t ns : List ℕ) → pairRefusal 2 c d ≡ 0 → isArranged t ≡ true → numbersApart ns ≡ true
     → enoughVictims (geometryOf c) c t ns ≡ leb (length ns + cachedAmong (geometryOf c) c ns) (geometryOf c .blocks)
 
 -- document 02, ask 4, for users: a room-making commit that answers done leaves the contents of every block outside the transaction, from the
@@ -145,8 +157,9 @@ pub record RoomKept (g : Geometry) (m after : Media) (t ns : List ℕ) : Type 0 
       × (diskBlock g (after .onDisk) (victimNumber g (m .onCard) t ns k) ≡ contents g (m .onCard) (m .onDisk) (victimNumber g (m .onCard) t ns k))
 
 abbrev pub RoomKeeps : Type 0
-RoomKeeps = (g : Geometry) (c d : List ℕ) (rs : List Request) (s : Map) (t ns bs ch : List ℕ) (a n : ℕ)
+RoomKeeps = (v : ℕ) (g : Geometry) (c d : List ℕ) (rs : List Request) (w : ℕ) (s : Map) (t ns bs ch : List ℕ) (a n : ℕ)
+    → between 1 2 v ≡ true
     → outcomeOf (formatRefusal g c) ≡ FormatDone
     → length d ≡ diskLength g
-    → answerTo (makingRoom s t ns bs ch a) (left g c d rs) ≡ Done n
-    → RoomKept g (left g c d rs) (left g c d (rs ++ (makingRoom s t ns bs ch a ∷ []))) t ns
+    → answerTo (makingRoom w s t ns bs ch a) (left v g c d rs) ≡ Done n
+    → RoomKept g (left v g c d rs) (left v g c d (rs ++ (makingRoom w s t ns bs ch a ∷ []))) t ns

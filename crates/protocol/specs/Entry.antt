@@ -1,5 +1,6 @@
--- Document 01, "An entry": its bytes, its flags, which entries are allowed, and what a role switch and an undo make of one.
-use Prim.Native.Nat.{ℕ, _+_, _/_, _%_}
+-- Document 01, "An entry": its bytes, its flags, which entries are allowed, and what a role switch and an undo make of one; and document 02, ask 7:
+-- flag P. Where the two differ, the card's version decides: 1 is document 01's, 2 is document 02's.
+use Prim.Native.Nat.{ℕ, _+_, _*_, _/_, _%_}
 use mathlib.Core.List.{List, _∷_, _++_}
 use mathlib.Core.Bool.{Bool, cond, _&&_, _||_}
 use lib.ListN.{getD}
@@ -45,26 +46,38 @@ isModified e = eqb (e .flags / 0x02 % 2) 1
 unfoldable pub hasLogRole : Entry → Bool
 hasLogRole e = eqb (e .flags % 2) 1
 
--- "Allowed flag bytes: 80, 82, 83"
-unfoldable pub allowedFlags : ℕ → Bool
-allowedFlags f = eqb f 0x80 || (eqb f 0x82 || eqb f 0x83)
+-- "P = 04 .. the previous version was modified"
+unfoldable pub wasModified : Entry → Bool
+wasModified e = eqb (e .flags / 0x04 % 2) 1
+
+-- "Allowed bytes become 80, 82, 83, 86, 87, on a version 1 card the old ones": the flag byte f with the version v
+unfoldable pub allowedFlags : ℕ → ℕ → Bool
+allowedFlags v f = eqb f 0x80 || (eqb f 0x82 || (eqb f 0x83 || (eqb v 2 && (eqb f 0x86 || eqb f 0x87))))
 
 -- all four fields are zero
 unfoldable pub isUnused : Entry → Bool
 isUnused e = eqb (e .flags) 0 && (eqb (e .number) 0 && (eqb (e .previous) 0 && eqb (e .current) 0))
 
--- what check 5 allows with N data blocks and D disk blocks: an unused entry, or one in use with an allowed flag byte, a number below D,
+-- what check 5 allows with the version v, N data blocks and D disk blocks: an unused entry, or one in use with an allowed flag byte, a number below D,
 -- a current block below N, and a previous block below N or FRESH
-unfoldable pub goodEntry : ℕ → ℕ → Entry → Bool
-goodEntry n d e =
+unfoldable pub goodEntry : ℕ → ℕ → ℕ → Entry → Bool
+goodEntry v n d e =
     isUnused e
-    || (allowedFlags (e .flags)
+    || (allowedFlags v (e .flags)
     && (ltb (e .number) d && (ltb (e .current) n && (ltb (e .previous) n || eqb (e .previous) FRESH))))
 
--- "its entry with flag 82 and nothing else changed": commit's role switch
-unfoldable pub switched : Entry → Entry
-switched e = entryOf 0x82 (e .number) (e .previous) (e .current)
+-- "A commit over a modified entry stores 87, over a clean or absent one 83"; with version 1 always 83
+unfoldable pub logFlags : ℕ → Bool → ℕ
+logFlags v over = cond (eqb v 2 && over) 0x87 0x83
 
--- "becomes zeros if its previous is FRESH, else 82, number, previous, previous": recovery's undo
-unfoldable pub undone : Entry → Entry
-undone e = cond (eqb (e .previous) FRESH) unused (entryOf 0x82 (e .number) (e .previous) (e .previous))
+-- "the role switch clears only R", "and nothing else changed"
+unfoldable pub switched : Entry → Entry
+switched e = entryOf (e .flags / 2 * 2) (e .number) (e .previous) (e .current)
+
+-- "Undoing gives 86 if P is set and 80 if not"; with version 1 always 82
+unfoldable pub undoneFlags : ℕ → Entry → ℕ
+undoneFlags v e = cond (eqb v 2) (cond (wasModified e) 0x86 0x80) 0x82
+
+-- "becomes zeros if its previous is FRESH, else" these flags, "number, previous, previous": recovery's undo with the version v
+unfoldable pub undone : ℕ → Entry → Entry
+undone v e = cond (eqb (e .previous) FRESH) unused (entryOf (undoneFlags v e) (e .number) (e .previous) (e .previous))

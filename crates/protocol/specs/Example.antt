@@ -1,5 +1,5 @@
--- Two worked histories that compute: saves, cuts, recoveries, an evict, a load, room-making and refusals, with what each call answers and what is
--- read. Each call gets the map of the card that it meets, but for the first history's last.
+-- Worked histories that compute: saves, cuts, recoveries, an evict, a load, room-making, an upgrade and refusals, with what each call answers and what
+-- is read. Each call gets the map of the card that it meets, but for the first history's last.
 use Prim.Native.Nat.{ℕ, _+_}
 use mathlib.Core.List.{List, [], _∷_, _++_}
 use mathlib.Core.Bool.{true, false}
@@ -11,7 +11,7 @@ use Rattle.protocol.specs.declared.Map.{Map}
 use Rattle.protocol.specs.Ring.{isSettled, cached, contents}
 use Rattle.protocol.specs.Table.{geometry}
 use Rattle.protocol.specs.Recency.{ascending, allToFront}
-use Rattle.protocol.specs.History.{Call, commit, makeRoom, load, evict, recover, Request, Media, fresh, run, answers}
+use Rattle.protocol.specs.History.{Call, commit, makeRoom, load, evict, recover, upgrade, Request, Media, fresh, run, answers}
 
 -- four data blocks, four disk blocks of 512 bytes
 abbrev pub tiny : Geometry
@@ -19,7 +19,7 @@ tiny = geometry 9 8 4 4
 
 -- a zeroed card, formatted, over a disk of ones
 abbrev pub start : Media
-start = fresh tiny (replicate 2304 0) (replicate 2048 1)
+start = fresh 2 tiny (replicate 2304 0) (replicate 2048 1)
 
 -- 2^20 stores are enough for any call
 abbrev pub ample : ℕ
@@ -34,7 +34,7 @@ abbrev pub quiet : List ℕ
 quiet = replicate 64 0
 
 abbrev pub ask : Call → ℕ → ℕ → Request
-ask q x a = record { call = q; map = taken x; allowance = a }
+ask q x a = record { version = 2; call = q; map = taken x; allowance = a }
 
 -- blocks 2 and 3, filled with one byte
 abbrev pub save : ℕ → Call
@@ -69,6 +69,26 @@ more t = makeRoom t (0 ∷ []) (replicate 512 9) quiet
 abbrev pub busy : List Request
 busy = saved ++ (ask (makeRoom ascending (0 ∷ 1 ∷ []) (replicate 1024 8) quiet) 3 ample ∷ ask (more used) 15 1 ∷ ask (more used) 15 ample ∷ ask (more []) 11 ample ∷ [])
 
+-- block 0 loaded, a save of it cut behind its entry, and recovered: by version 2's rule it comes back clean, and its eviction is one store
+abbrev pub tidy : List Request
+tidy = ask (load ascending 0 quiet) 0 ample ∷ ask (commit (0 ∷ []) (replicate 512 9) quiet) 1 65 ∷ ask recover 2 ample ∷ ask (evict 0 quiet) 1 ample ∷ []
+
+-- the same by a library of version 1 on its own card up to the cut; then today's calls: one that is refused, recovery by the old rule, upgrade, and the
+-- eviction, which writes the sector
+abbrev pub earlier : Call → ℕ → ℕ → Request
+earlier q x a = record { version = 1; call = q; map = taken x; allowance = a }
+
+abbrev pub older : List Request
+older =
+    earlier (load ascending 0 quiet) 0 ample
+    ∷ earlier (commit (0 ∷ []) (replicate 512 9) quiet) 1 65
+    ∷ ask (evict 0 quiet) 2 ample
+    ∷ ask recover 2 ample
+    ∷ ask upgrade 0 0
+    ∷ ask upgrade 0 ample
+    ∷ ask (evict 0 quiet) 1 ample
+    ∷ []
+
 -- the first byte of disk block b as it is read
 unfoldable pub firstByte : Media → ℕ → ℕ
 firstByte m b = getD (contents tiny (m .onCard) (m .onDisk) b) 0 0
@@ -84,3 +104,8 @@ pub record Worked : Type 0 where
   pub room-kept : firstByte (run busy start) 0 ∷ firstByte (run busy start) 1 ∷ firstByte (run busy start) 2 ∷ firstByte (run busy start) 3 ∷ []
       ≡ 9 ∷ 8 ∷ 7 ∷ 7 ∷ []
   pub room-made : cached tiny (run busy start .onCard) 2 ≡ false
+
+-- "Undone blocks come back dirty": not on a version 2 card
+pub record Renewed : Type 0 where
+  pub tidy-said : answers tidy start ≡ Done 65 ∷ Cut ∷ Done 1 ∷ Done 1 ∷ []
+  pub older-said : answers older (fresh 1 tiny (replicate 2304 0) (replicate 2048 1)) ≡ Done 65 ∷ Cut ∷ Refused 1 ∷ Done 1 ∷ Cut ∷ Done 1 ∷ Done 2 ∷ []

@@ -14,6 +14,7 @@ use Rattle.protocol.specs.Commit.{commitRuns}
 use Rattle.protocol.specs.Load.{loadRuns, evictRuns}
 use Rattle.protocol.specs.Room.{roomRuns, roomLeft}
 use Rattle.protocol.specs.Recover.{recoverRuns}
+use Rattle.protocol.specs.Upgrade.{upgradeRuns}
 
 -- document 01's rule: "exactly the first ones are made, as many as the allowance"
 unfoldable pub firstMade : ℕ → List Run → List Store
@@ -64,3 +65,4 @@ pub record CallsFenced (g : Geometry) (c d t ns bs : List ℕ) (b : ℕ) : Type 
   pub load : Fenced (loadRuns g c d b)
   pub evict : Fenced (evictRuns g c b)
   pub recover : Fenced (recoverRuns g c)
+  pub upgrade : Fenced (upgradeRuns g)

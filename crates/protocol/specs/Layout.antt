@@ -68,20 +68,24 @@ blockAt g c p = part c (blockPlace g p) (blockSize g)
 unfoldable pub diskBlock : Geometry → List ℕ → ℕ → List ℕ
 diskBlock g d b = part d (diskPlace g b) (blockSize g)
 
--- the header's 64 bytes: length 64, version 1, k, S, N, D, zeros
-unfoldable pub headerBytes : Geometry → List ℕ
-headerBytes g =
-    bytesBE 4 64 ++ (1 ∷ g .k ∷ (bytesBE 2 (g .slots) ++ (bytesBE 4 (g .blocks) ++ (bytesBE 4 (g .disk) ++ replicate 48 0))))
+-- the header's 64 bytes: length 64, version, k, S, N, D, zeros. Document 01's version is 1, document 02's, ask 7, is 2
+unfoldable pub headerBytes : ℕ → Geometry → List ℕ
+headerBytes v g =
+    bytesBE 4 64 ++ (v ∷ g .k ∷ (bytesBE 2 (g .slots) ++ (bytesBE 4 (g .blocks) ++ (bytesBE 4 (g .disk) ++ replicate 48 0))))
 
 -- the geometry that the header of c spells
 unfoldable pub geometryOf : List ℕ → Geometry
 geometryOf c = record { k = getD c 5 0; slots = numberAt c 6 2; blocks = numberAt c 8 4; disk = numberAt c 12 4 }
 
+-- "Byte 4: version"
+unfoldable pub versionOf : List ℕ → ℕ
+versionOf c = getD c 4 0
+
 -- byte `at` + i is zero
 unfoldable pub zeroFrom : List ℕ → ℕ → ℕ → Bool
 zeroFrom c at i = eqb (getD c (at + i) 0) 0
 
--- every field of the header is as document 01 says
-unfoldable pub goodHeader : List ℕ → Bool
-goodHeader c =
-    eqb (numberAt c 0 4) 64 && (eqb (getD c 4 0) 1 && (goodGeometry (geometryOf c) && allBelow (zeroFrom c 16) 48))
+-- every field of the header is as document 01 says, with a version from low to high
+unfoldable pub goodHeader : ℕ → ℕ → List ℕ → Bool
+goodHeader low high c =
+    eqb (numberAt c 0 4) 64 && (between low high (versionOf c) && (goodGeometry (geometryOf c) && allBelow (zeroFrom c 16) 48))

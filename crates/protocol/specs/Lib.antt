@@ -14,9 +14,11 @@ pub mod Recency
 pub mod Load
 pub mod Room
 pub mod Recover
+pub mod Upgrade
 pub mod Fence
 pub mod Read
 pub mod Table
 pub mod History
 pub mod CutRule
+pub mod Undone
 pub mod Example

@@ -17,9 +17,9 @@ use Rattle.protocol.specs.Map.{mapRefusal}
 use Rattle.protocol.specs.Recency.{tableRefusal, toFront, turned}
 use Rattle.protocol.specs.Commit.{newBlock, roomFor}
 
--- checks 1 to 7 of a card and a disk
-unfoldable pub pairRefusal : List ℕ → List ℕ → ℕ
-pairRefusal c d = fitRefusal c orElse diskRefusal (geometryOf c) d orElse cardRefusal (geometryOf c) c
+-- checks 1 to 7 of a card and a disk, by a library of the version v, which takes cards of its own version alone
+unfoldable pub pairRefusal : ℕ → List ℕ → List ℕ → ℕ
+pairRefusal v c d = fitRefusal v v c orElse diskRefusal (geometryOf c) d orElse cardRefusal (geometryOf c) c
 
 -- 10: "a block number not below D"
 unfoldable pub blockRefusal : Geometry → ℕ → ℕ
@@ -35,9 +35,9 @@ loadRuns g c d b =
     words g (newBlock g c 0) (diskBlock g d b) ∷ single (entryStore g (getD (unusedEntries g c) 0 0) (cleanEntry g c b))
 
 -- 12: "load of a cached block"; 14: "load with none free"; 16 "after 15"
-unfoldable pub loadRefusal : List ℕ → List ℕ → Map → List ℕ → ℕ → List ℕ → ℕ
-loadRefusal c d m t b ch =
-    pairRefusal c d
+unfoldable pub loadRefusal : ℕ → List ℕ → List ℕ → Map → List ℕ → ℕ → List ℕ → ℕ
+loadRefusal v c d m t b ch =
+    pairRefusal v c d
     orElse mapRefusal c m
     orElse tableRefusal t
     orElse choiceRefusal (geometryOf c) ch
@@ -46,13 +46,13 @@ loadRefusal c d m t b ch =
     orElse refuse 14 (roomFor (geometryOf c) c 1)
 
 -- load of disk block b with the choice ch, given the map m and the table t
-unfoldable pub loadWork : List ℕ → List ℕ → Map → List ℕ → ℕ → List ℕ → Work
-loadWork c d m t b ch = record { refusal = loadRefusal c d m t b ch; runs = loadRuns (geometryOf c) c d b; choice = ch }
+unfoldable pub loadWork : ℕ → List ℕ → List ℕ → Map → List ℕ → ℕ → List ℕ → Work
+loadWork v c d m t b ch = record { refusal = loadRefusal v c d m t b ch; runs = loadRuns (geometryOf c) c d b; choice = ch }
 
 -- "a load .. move[s its] entry to the front": the table after a load
 unfoldable pub tableAfterLoad : ℕ → List ℕ → List ℕ → Map → List ℕ → ℕ → List ℕ → List ℕ
 tableAfterLoad allowance c d m t b ch =
-    turned (answerOf allowance (loadWork c d m t b ch)) t (toFront (getD (unusedEntries (geometryOf c) c) 0 0) t)
+    turned (answerOf allowance (loadWork 2 c d m t b ch)) t (toFront (getD (unusedEntries (geometryOf c) c) 0 0) t)
 
 -- "Evict of a modified block writes its B/512 sectors ascending", of a clean block none
 unfoldable pub writeBack : Geometry → List ℕ → ℕ → List Run
@@ -64,14 +64,14 @@ unfoldable pub evictRuns : Geometry → List ℕ → ℕ → List Run
 evictRuns g c b = writeBack g c b ++ single (entryStore g (findEntry g c b) unused)
 
 -- 13: "evict of an uncached block"
-unfoldable pub evictRefusal : List ℕ → List ℕ → Map → ℕ → List ℕ → ℕ
-evictRefusal c d m b ch =
-    pairRefusal c d
+unfoldable pub evictRefusal : ℕ → List ℕ → List ℕ → Map → ℕ → List ℕ → ℕ
+evictRefusal v c d m b ch =
+    pairRefusal v c d
     orElse mapRefusal c m
     orElse choiceRefusal (geometryOf c) ch
     orElse blockRefusal (geometryOf c) b
     orElse refuse 13 (cached (geometryOf c) c b)
 
 -- evict of disk block b with the choice ch, given the map m
-unfoldable pub evictWork : List ℕ → List ℕ → Map → ℕ → List ℕ → Work
-evictWork c d m b ch = record { refusal = evictRefusal c d m b ch; runs = evictRuns (geometryOf c) c b; choice = ch }
+unfoldable pub evictWork : ℕ → List ℕ → List ℕ → Map → ℕ → List ℕ → Work
+evictWork v c d m b ch = record { refusal = evictRefusal v c d m b ch; runs = evictRuns (geometryOf c) c b; choice = ch }

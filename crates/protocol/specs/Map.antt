@@ -48,13 +48,13 @@ sameMap m n = eqb (m .low) (n .low) && eqb (m .high) (n .high)
 unfoldable pub mapRefusal : List ℕ → Map → ℕ
 mapRefusal c m = refuse 15 (sameMap m (mapOf c))
 
--- "Making it from the card at start is refused with 1, 2 or 4 to 6"
-unfoldable pub makeRefusal : List ℕ → ℕ
-makeRefusal c = fitRefusal c orElse damageRefusal (geometryOf c) c
+-- "Making it from the card at start is refused with 1, 2 or 4 to 6"; it takes every version up to the library's own, v
+unfoldable pub makeRefusal : ℕ → List ℕ → ℕ
+makeRefusal v c = fitRefusal 1 v c orElse damageRefusal (geometryOf c) c
 
 -- the map made from a card, settled or not
 unfoldable pub madeMap : List ℕ → Mapped
-madeMap c = cond (eqb (makeRefusal c) 0) (Is (mapOf c)) (RefusedMap (makeRefusal c))
+madeMap c = cond (eqb (makeRefusal 2 c) 0) (Is (mapOf c)) (RefusedMap (makeRefusal 2 c))
 
 -- "hand the map on in step with the card; a refused or cut call hands back the map it got": after the answer, the old map or the new one
 unfoldable pub handedOn : Answer → Map → Map → Map

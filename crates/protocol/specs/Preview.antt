@@ -24,7 +24,7 @@ lengthsFit g ns bs out = dataFits g ns bs && eqb (length out) (length ns)
 -- preview is refused as commit is, and with 9 for its output too
 unfoldable pub previewRefusal : List ℕ → Map → List ℕ → List ℕ → List ℕ → ℕ
 previewRefusal c m ns bs out =
-    fitRefusal c
+    fitRefusal 2 2 c
     orElse cardRefusal (geometryOf c) c
     orElse mapRefusal c m
     orElse refuse 8 (countFits (geometryOf c) ns)
@@ -51,12 +51,12 @@ blocksAfter c m ns bs out = cond (eqb (previewRefusal c m ns bs out) 0) (blocksO
 -- with an output of n numbers the answer is commit's, under every allowance that is ample and with any choice that 17 accepts
 abbrev pub AnswersAlike : Type 0
 AnswersAlike = (c : List ℕ) (m : Map) (ns bs ch out : List ℕ) (a : ℕ) → length out ≡ length ns → choiceFits (geometryOf c) ch ≡ true
-    → storesOf (commitWork c m ns bs ch) ≤ a → previewAnswer c m ns bs out ≡ answerOf a (commitWork c m ns bs ch)
+    → storesOf (commitWork 2 c m ns bs ch) ≤ a → previewAnswer c m ns bs out ≡ answerOf a (commitWork 2 c m ns bs ch)
 
 -- with any other it is commit's of data that is not n·B bytes: 9, behind what commit asks before 9 and before what it asks after
 abbrev pub MisfitAlike : Type 0
 MisfitAlike = (c : List ℕ) (m : Map) (ns bs ds ch out : List ℕ) (a : ℕ) → (length out ≡ length ns → ⊥) → dataFits (geometryOf c) ns ds ≡ false
-    → previewAnswer c m ns bs out ≡ answerOf a (commitWork c m ns ds ch)
+    → previewAnswer c m ns bs out ≡ answerOf a (commitWork 2 c m ns ds ch)
 
 -- on the card c number i of a save is cached in data block p, which holds the bytes given for it
 pub record Stands (g : Geometry) (c ns bs : List ℕ) (i p : ℕ) : Type 0 where
@@ -68,7 +68,7 @@ pub record Stands (g : Geometry) (c ns bs : List ℕ) (i p : ℕ) : Type 0 where
 -- puts block i into the data block that the preview told
 abbrev pub Foretold : Type 0
 Foretold = (c : List ℕ) (m : Map) (ns bs ch out : List ℕ) (n a : ℕ) → choiceFits (geometryOf c) ch ≡ true → previewAnswer c m ns bs out ≡ Done n → n ≤ a
-    → (answerOf a (commitWork c m ns bs ch) ≡ Done n)
+    → (answerOf a (commitWork 2 c m ns bs ch) ≡ Done n)
     × ((i : ℕ) → i < length ns
-    → Stands (geometryOf (afterOn card a (commitWork c m ns bs ch) c)) (afterOn card a (commitWork c m ns bs ch) c) ns bs i
+    → Stands (geometryOf (afterOn card a (commitWork 2 c m ns bs ch) c)) (afterOn card a (commitWork 2 c m ns bs ch) c) ns bs i
     (getD (blocksAfter c m ns bs out) i 0))

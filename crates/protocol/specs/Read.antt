@@ -1,4 +1,4 @@
--- Document 01, "Read", "Look" and "State"; and document 02, ask 4: a read that moves its entry to the front of the table.
+-- Document 01, "Read", "Look" and "State", of version 2 cards; and document 02, ask 4: a read that moves its entry to the front of the table.
 use Prim.Native.Nat.{ℕ}
 use mathlib.Core.List.{List, []}
 use mathlib.Core.Bool.{Bool, cond, _&&_}
@@ -26,12 +26,12 @@ outputRefusal g out = refuse 9 (eqb (length out) (blockSize g))
 -- read is refused with 1 to 7, 9 and 10
 unfoldable pub readRefusal : List ℕ → List ℕ → List ℕ → ℕ → ℕ
 readRefusal c d out b =
-    pairRefusal c d orElse outputRefusal (geometryOf c) out orElse blockRefusal (geometryOf c) b
+    pairRefusal 2 c d orElse outputRefusal (geometryOf c) out orElse blockRefusal (geometryOf c) b
 
 -- a read with the table t is refused with 16 too, "after 7 for read"
 unfoldable pub recentRefusal : List ℕ → List ℕ → List ℕ → List ℕ → ℕ → ℕ
 recentRefusal c d t out b =
-    pairRefusal c d orElse tableRefusal t orElse outputRefusal (geometryOf c) out orElse blockRefusal (geometryOf c) b
+    pairRefusal 2 c d orElse tableRefusal t orElse outputRefusal (geometryOf c) out orElse blockRefusal (geometryOf c) b
 
 -- "says whether card or disk held it", after the refusal r
 unfoldable pub heldAfter : ℕ → List ℕ → ℕ → Held
@@ -58,7 +58,7 @@ recentTable c d t out b =
 
 -- look is refused with 1 to 7 and 10; "Look's refusal is the empty part"
 unfoldable pub lookRefusal : List ℕ → List ℕ → ℕ → ℕ
-lookRefusal c d b = pairRefusal c d orElse blockRefusal (geometryOf c) b
+lookRefusal c d b = pairRefusal 2 c d orElse blockRefusal (geometryOf c) b
 
 -- "hands back the block as a part of the card or of the disk"; "where it refuses, the part is empty"
 unfoldable pub lookedAt : List ℕ → List ℕ → ℕ → List ℕ
@@ -66,7 +66,7 @@ lookedAt c d b = cond (eqb (lookRefusal c d b) 0) (contents (geometryOf c) c d b
 
 -- state is refused with 1, 2 and 4 to 6
 unfoldable pub stateRefusal : List ℕ → ℕ
-stateRefusal c = fitRefusal c orElse damageRefusal (geometryOf c) c
+stateRefusal c = fitRefusal 2 2 c orElse damageRefusal (geometryOf c) c
 
 -- entry i is in use and modified
 unfoldable pub modifiedAt : Geometry → List ℕ → ℕ → Bool

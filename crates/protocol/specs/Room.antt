@@ -59,18 +59,18 @@ unfoldable pub enoughVictims : Geometry → List ℕ → List ℕ → List ℕ �
 enoughVictims g c t ns = leb (missing g c ns) (length (victims g c t ns))
 
 -- commit's refusals, with 3, and 16 "after 15"
-unfoldable pub roomRefusal : List ℕ → List ℕ → Map → List ℕ → List ℕ → List ℕ → List ℕ → ℕ
-roomRefusal c d m t ns bs ch =
-    pairRefusal c d
+unfoldable pub roomRefusal : ℕ → List ℕ → List ℕ → Map → List ℕ → List ℕ → List ℕ → List ℕ → ℕ
+roomRefusal v c d m t ns bs ch =
+    pairRefusal v c d
     orElse mapRefusal c m
     orElse tableRefusal t
     orElse saveRefusal (geometryOf c) ns bs ch (enoughVictims (geometryOf c) c t ns)
 
 -- the room-making commit of the numbers ns with the bytes bs and the choice ch, given the map m and the table t; "m counts the evictions' stores"
-unfoldable pub roomWork : List ℕ → List ℕ → Map → List ℕ → List ℕ → List ℕ → List ℕ → Work
-roomWork c d m t ns bs ch =
+unfoldable pub roomWork : ℕ → List ℕ → List ℕ → Map → List ℕ → List ℕ → List ℕ → List ℕ → Work
+roomWork v c d m t ns bs ch =
     record {
-      refusal = roomRefusal c d m t ns bs ch;
+      refusal = roomRefusal v c d m t ns bs ch;
       runs = roomRuns (geometryOf c) c t ns ++ commitRuns (geometryOf c) (roomLeft (geometryOf c) c t ns) ns bs;
       choice = ch;
     }
@@ -78,5 +78,5 @@ roomWork c d m t ns bs ch =
 -- "each block of a finished commit, in order, move[s its] entry to the front": the table after it
 unfoldable pub tableAfterSave : ℕ → List ℕ → List ℕ → Map → List ℕ → List ℕ → List ℕ → List ℕ → List ℕ
 tableAfterSave allowance c d m t ns bs ch =
-    turned (answerOf allowance (roomWork c d m t ns bs ch)) t
+    turned (answerOf allowance (roomWork 2 c d m t ns bs ch)) t
     (allToFront (entryFound (geometryOf c) (roomLeft (geometryOf c) c t ns) ns) (length ns) t)

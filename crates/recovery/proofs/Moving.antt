@@ -13,7 +13,7 @@ use Rattle.protocol.specs.declared.Entry.{Entry}
 use Rattle.protocol.specs.declared.Geometry.{Geometry}
 use Rattle.protocol.specs.declared.Map.{Map}
 use Rattle.protocol.specs.Below.{anyBelow, eachBelow}
-use Rattle.protocol.specs.Layout.{geometryOf}
+use Rattle.protocol.specs.Layout.{versionOf, geometryOf}
 use Rattle.protocol.specs.Entry.{FRESH, entryAt, goodEntry, undone}
 use Rattle.protocol.specs.Ring.{undoableAt}
 use Rattle.protocol.specs.Check.{goodEntryAt, entriesFit}
@@ -35,7 +35,7 @@ use Rattle.recovery.specs.Step.{changedAt, runsAt, undoes, Listed}
 use Rattle.recovery.specs.Went.{Went}
 use Rattle.recovery.specs.Blocks.{noted, blocksBy, BlocksNoted}
 use Rattle.recovery.proofs.Skipped.{same-fields}
-use Rattle.recovery.proofs.Turns.{entry-stays, changed-stays}
+use Rattle.recovery.proofs.Turns.{version-stays, entry-stays, changed-stays}
 
 -- ---- one index more
 
@@ -68,7 +68,7 @@ module _ (g : Geometry) (c : List ℕ) where
 module _ (g : Geometry) (c : List ℕ) (i : ℕ) (f : Fitted g c) (good : goodEntryAt g c i ≡ true) where
   has : Allowed (g .blocks) (g .disk) (entryAt g c i)
   unfolding goodEntryAt
-  has = let m : Limits g = limits g (f .good) in allowed (g .blocks) (g .disk) (entryAt g c i) (omega arith) (omega arith) good
+  has = let m : Limits g = limits g (f .good) in allowed (versionOf c) (g .blocks) (g .disk) (entryAt g c i) (omega arith) (omega arith) good
 
   current-small : entryAt g c i .current < 128
   current-small = let m : Limits g = limits g (f .good) in omega (arith, has .current)
@@ -154,7 +154,8 @@ module _ (g : Geometry) (c₀ : List ℕ) (i a : ℕ) (c : List ℕ) (n r : ℕ)
 
   pub good-stays : i < g .blocks → goodEntryAt g c i ≡ true
   unfolding goodEntryAt
-  good-stays l = ap (goodEntry (g .blocks) (g .disk)) (entry-stays g c₀ i a c n r x top w v l) ∙ good₀ l
+  good-stays l =
+      (λ t. goodEntry (version-stays g c₀ i a c n r x top t) (g .blocks) (g .disk) (entry-stays g c₀ i a c n r x top w v l t)) ∙ good₀ l
 
   pub noted-next : Fitted g c₀ → (u : Step) → Listed g c i u → (m m′ : Moved) → BlocksNoted g c₀ (min i (g .blocks)) m
       → m′ ≡ noted (undoes u) (entryAt g c i) m → BlocksNoted g c₀ (min (i + 1) (g .blocks)) m′
@@ -183,7 +184,7 @@ noted-last g c m i n h e x = let q : min i (g .blocks) ≡ g .blocks = omega ari
 
 -- ---- what the whole list leaves of the map
 
-pub moved-map : (c : List ℕ) (m : Map) → recoverRefusal c m ≡ 0 → (b : Moved) → BlocksNoted (geometryOf c) c (geometryOf c .blocks) b
+pub moved-map : (c : List ℕ) (m : Map) → recoverRefusal 2 c m ≡ 0 → (b : Moved) → BlocksNoted (geometryOf c) c (geometryOf c .blocks) b
     → movedMap (mapOf c) (b .gone) (b .come) ≡ mapOf (madeOn card (flat (recoverRuns (geometryOf c) c)) c)
 unfolding mapOf changedAt
 moved-map c m z b x =
@@ -196,5 +197,5 @@ moved-map c m z b x =
     only i e = and-left (undoableAt (geometryOf c) c i) _ e
 
     all : (i : ℕ) → changedAt (geometryOf c) c i ≡ false → undoableAt (geometryOf c) c i ≡ true
-        → undone (entryAt (geometryOf c) c i) ≡ entryAt (geometryOf c) c i
+        → undone (versionOf c) (entryAt (geometryOf c) c i) ≡ entryAt (geometryOf c) c i
     all i e u = sym (same-fields _ _ (not-false _ (rw u at e)))

@@ -39,7 +39,7 @@ use Rattle.recovery.proofs.Turns.{list-short}
 -- ---- refusals in order
 
 -- a refused card is examined no further
-refused-examined : (c : List ℕ) (s : Checked) → s .refusal ≡ makeRefusal c → (s .refusal ≡ 0 → ⊥) → Examined c s
+refused-examined : (c : List ℕ) (s : Checked) → s .refusal ≡ makeRefusal 2 c → (s .refusal ≡ 0 → ⊥) → Examined c s
 refused-examined c s e h =
     record {
       refusal-is = e;
@@ -50,10 +50,10 @@ refused-examined c s e h =
       map-is = λ z. absurd (h z);
     }
 
-module _ (c : List ℕ) (f : Fit) (o : Opened c f) where
+module _ (c : List ℕ) (f : Fit) (o : Opened 1 2 c f) where
   pub fit-refuses : (s : Checked) → (f .refusal ≡ 0 → ⊥) → s .refusal ≡ f .refusal → Examined c s
   unfolding makeRefusal
-  fit-refuses s h q = refused-examined c s (q ∙ orElse-first (f .refusal) (fitRefusal c) _ (o .refusal-is) h) (λ z. h (sym q ∙ z))
+  fit-refuses s h q = refused-examined c s (q ∙ orElse-first (f .refusal) (fitRefusal 1 2 c) _ (o .refusal-is) h) (λ z. h (sym q ∙ z))
 
   module _ (fz : f .refusal ≡ 0) where
     pub fit-framed : Framed c f
@@ -63,17 +63,17 @@ module _ (c : List ℕ) (f : Fit) (o : Opened c f) where
     own = fit-framed .geometry-is
 
     module _ (xs : List ℕ) (v : Verdict) (e : Inspected (f .geometry) c xs v) where
-      refusal-is : v .refusal ≡ makeRefusal c
+      refusal-is : v .refusal ≡ makeRefusal 2 c
       unfolding makeRefusal
       refusal-is =
-          orElse-next (v .refusal) (fitRefusal c) _ (sym fz ∙ o .refusal-is) (e .refusal-is ∙ ap (λ (y : Geometry). damageRefusal y c) own)
+          orElse-next (v .refusal) (fitRefusal 1 2 c) _ (sym fz ∙ o .refusal-is) (e .refusal-is ∙ ap (λ (y : Geometry). damageRefusal y c) own)
 
       pub damage-refuses : (s : Checked) → (v .refusal ≡ 0 → ⊥) → s .refusal ≡ v .refusal → Examined c s
       damage-refuses s h p = refused-examined c s (p ∙ refusal-is) (λ z. h (sym p ∙ z))
 
       module _ (z : v .refusal ≡ 0) where
         whole : Intact (geometryOf c) c
-        whole = intact c (sym (o .refusal-is) ∙ fz) (ap (λ (y : Geometry). damageRefusal y c) (sym own) ∙ sym (e .refusal-is) ∙ z)
+        whole = intact 1 2 c (omega arith) (omega arith) (sym (o .refusal-is) ∙ fz) (ap (λ (y : Geometry). damageRefusal y c) (sym own) ∙ sym (e .refusal-is) ∙ z)
 
         pub damage-placed : Fitted (f .geometry) c × Placed (f .geometry) c
         damage-placed = (fit-framed .fitted, subst (λ (y : Geometry). Placed y c) (sym own) (record { head = whole .head; tail = whole .tail }))
@@ -113,20 +113,20 @@ same-map m n h =
     λ t. record { low = low t; high = high t }
 
 module _ (a : ℕ) (c : List ℕ) (m : Map) where
-  refused-call : (r : ℕ) → r ≡ recoverRefusal c m → (r ≡ 0 → ⊥) → Recovered a c m c (record { answer = Refused r; map = m })
+  refused-call : (r : ℕ) → r ≡ recoverRefusal 2 c m → (r ≡ 0 → ⊥) → Recovered a c m c (record { answer = Refused r; map = m })
   unfolding recoverWork mapAfter handedOn
   refused-call r e h =
-      let said = refused-answer (recoverWork c m) a r e h in
+      let said = refused-answer (recoverWork 2 c m) a r e h in
       record {
         answer-is = said;
-        map-is = ap (λ (y : Answer). handedOn y m (mapOf (afterOn card a (recoverWork c m) c))) said;
-        after-is = refused-after (recoverWork c m) a card r c e h;
+        map-is = ap (λ (y : Answer). handedOn y m (mapOf (afterOn card a (recoverWork 2 c m) c))) said;
+        after-is = refused-after (recoverWork 2 c m) a card r c e h;
       }
 
   module _ (s : Checked) (x : Examined c s) where
     pub refused-recovery : (s .refusal ≡ 0 → ⊥) → Recovered a c m c (record { answer = Refused (s .refusal); map = m })
     unfolding recoverRefusal
-    refused-recovery h = refused-call (s .refusal) (orElse-first (s .refusal) (makeRefusal c) _ (x .refusal-is) h) h
+    refused-recovery h = refused-call (s .refusal) (orElse-first (s .refusal) (makeRefusal 2 c) _ (x .refusal-is) h) h
 
     module _ (z : s .refusal ≡ 0) (t : Bool) (same : t ≡ sameMap m (s .map)) where
       told : t ≡ sameMap m (mapOf c)
@@ -136,30 +136,30 @@ module _ (a : ℕ) (c : List ℕ) (m : Map) where
       unfolding recoverRefusal mapRefusal
       refused-map h =
           refused-call 15
-          (orElse-next 15 (makeRefusal c) _ (sym z ∙ x .refusal-is) (refuse-failed 15 (sameMap m (mapOf c)) (sym told ∙ not-true t h)))
+          (orElse-next 15 (makeRefusal 2 c) _ (sym z ∙ x .refusal-is) (refuse-failed 15 (sameMap m (mapOf c)) (sym told ∙ not-true t h)))
           (λ e. omega arith)
 
       -- ---- the stores made
 
       module _ (h : not t ≡ false) (k : ℕ) (credit : k ≡ min 129 a + 1) (d : List ℕ) (p : Progress) (y : Went (recoverRuns (s .geometry) c) k c d p) where
-        none : 0 ≡ recoverRefusal c m
+        none : 0 ≡ recoverRefusal 2 c m
         unfolding recoverRefusal mapRefusal
-        none = orElse-next 0 (makeRefusal c) _ (sym z ∙ x .refusal-is) (refuse-passed 15 (sameMap m (mapOf c)) (sym told ∙ not-false t h))
+        none = orElse-next 0 (makeRefusal 2 c) _ (sym z ∙ x .refusal-is) (refuse-passed 15 (sameMap m (mapOf c)) (sym told ∙ not-false t h))
 
         made : Went (recoverRuns (geometryOf c) c) k c d p
         made = subst (λ (g : Geometry). Went (recoverRuns g c) k c d p) (x .own z) y
 
-        short : storesOf (recoverWork c m) ≤ 129
+        short : storesOf (recoverWork 2 c m) ≤ 129
         unfolding recoverWork storesOf
         short = list-short (geometryOf c) c (subst (λ (g : Geometry). Fitted g c) (x .own z) (x .fitted z))
 
-        answer-is : (r : Answer) → r ≡ cond (ltb a (p .count)) Cut (Done (p .count)) → r ≡ answerOf a (recoverWork c m)
+        answer-is : (r : Answer) → r ≡ cond (ltb a (p .count)) Cut (Done (p .count)) → r ≡ answerOf a (recoverWork 2 c m)
         unfolding recoverWork storesOf
-        answer-is r e = made-answer (recoverWork c m) a 0 none refl (p .count) r (made .counted) e
+        answer-is r e = made-answer (recoverWork 2 c m) a 0 none refl (p .count) r (made .counted) e
 
-        after-is : d ≡ afterOn card a (recoverWork c m) c
+        after-is : d ≡ afterOn card a (recoverWork 2 c m) c
         unfolding recoverWork
-        after-is = made-after (recoverWork c m) a 0 none refl credit short (made .did)
+        after-is = made-after (recoverWork 2 c m) a 0 none refl credit short (made .did)
 
         pub cut-recovery : a < p .count → Recovered a c m d (record { answer = Cut; map = m })
         unfolding mapAfter handedOn
@@ -167,7 +167,7 @@ module _ (a : ℕ) (c : List ℕ) (m : Map) where
             let said = answer-is Cut (says-cut a (p .count) l) in
             record {
               answer-is = said;
-              map-is = ap (λ (r : Answer). handedOn r m (mapOf (afterOn card a (recoverWork c m) c))) said;
+              map-is = ap (λ (r : Answer). handedOn r m (mapOf (afterOn card a (recoverWork 2 c m) c))) said;
               after-is = after-is;
             }
 
@@ -181,7 +181,7 @@ module _ (a : ℕ) (c : List ℕ) (m : Map) where
             let left = e ∙ ap (λ (o : Map). movedMap o (b .gone) (b .come)) old ∙ moved-map c m (sym none) b own in
             record {
               answer-is = said;
-              map-is = made-map (recoverWork c m) a 0 none refl (Done (p .count)) c m n said left;
+              map-is = made-map (recoverWork 2 c m) a 0 none refl (Done (p .count)) c m n said left;
               after-is = after-is;
             }
 
@@ -190,8 +190,8 @@ module _ (a : ℕ) (c : List ℕ) (m : Map) where
 module _ (c : List ℕ) (s : Checked) (x : Examined c s) where
   pub map-refused : (s .refusal ≡ 0 → ⊥) → RefusedMap (s .refusal) ≡ madeMap c
   unfolding madeMap
-  map-refused h = let e = x .refusal-is in rw (ne-eqb (makeRefusal c) 0 (λ z. h (e ∙ z))) (ap RefusedMap e)
+  map-refused h = let e = x .refusal-is in rw (ne-eqb (makeRefusal 2 c) 0 (λ z. h (e ∙ z))) (ap RefusedMap e)
 
   pub map-told : s .refusal ≡ 0 → Is (s .map) ≡ madeMap c
   unfolding madeMap
-  map-told z = rw (eq-eqb (makeRefusal c) 0 (sym (x .refusal-is) ∙ z)) (ap Is (x .map-is z))
+  map-told z = rw (eq-eqb (makeRefusal 2 c) 0 (sym (x .refusal-is) ∙ z)) (ap Is (x .map-is z))

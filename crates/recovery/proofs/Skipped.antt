@@ -12,8 +12,8 @@ use Rattle.numbers.specs.Bytes.{be, bytesBE, part, patch, Bytes}
 use Rattle.numbers.proofs.Laws.{be-bytes, length-bytes, number-below}
 use Rattle.protocol.specs.declared.Entry.{Entry}
 use Rattle.protocol.specs.declared.Geometry.{Geometry}
-use Rattle.protocol.specs.Layout.{cardLength, entryPlace}
-use Rattle.protocol.specs.Entry.{FRESH, unused, entryOf, entryBytes, entryIn, entryAt, undone}
+use Rattle.protocol.specs.Layout.{versionOf, cardLength, entryPlace}
+use Rattle.protocol.specs.Entry.{FRESH, unused, entryOf, entryBytes, entryIn, entryAt, undoneFlags, undone}
 use Rattle.protocol.specs.Ring.{tailOf, headOf}
 use Rattle.protocol.specs.Store.{Store, single, entryStore, wordStore, tailStore}
 use Rattle.protocol.specs.Recover.{sameBytes, ifChanging}
@@ -69,11 +69,11 @@ module _ (c : List ℕ) (s : Store) (bs : List ℕ) (stands : part c (s .place) 
 
 -- ---- an entry
 
-undone-fits : (e : Entry) → EntryFits e → EntryFits (undone e)
+undone-fits : (v : ℕ) (e : Entry) → EntryFits e → EntryFits (undone v e)
 unfolding undone
-undone-fits e f = go (eqb (e .previous) FRESH)
+undone-fits v e f = go (eqb (e .previous) FRESH)
   where
-    go : (b : Bool) → EntryFits (cond b unused (entryOf 0x82 (e .number) (e .previous) (e .previous)))
+    go : (b : Bool) → EntryFits (cond b unused (entryOf (undoneFlags v e) (e .number) (e .previous) (e .previous)))
     go true = record { number = omega arith; previous = omega arith; current = omega arith }
     go false = record { number = f .number; previous = f .previous; current = f .previous }
 
@@ -103,19 +103,19 @@ module _ (g : Geometry) (c : List ℕ) (n : length c ≡ cardLength g) (b : Byte
       ∙ ap (λ (bs : List ℕ). entryIn (patch c (entryPlace g i) bs) (entryPlace g i)) e
       ∙ entry-read-back c (entryPlace g i) y on-card q
 
-  pub entry-left-out : sameEntry (entryAt g c i) (undone (entryAt g c i)) ≡ true → ifChanging c (entryStore g i (undone (entryAt g c i))) ≡ []
+  pub entry-left-out : sameEntry (entryAt g c i) (undone (versionOf c) (entryAt g c i)) ≡ true → ifChanging c (entryStore g i (undone (versionOf c) (entryAt g c i))) ≡ []
   unfolding entryStore
   entry-left-out h = left-out c _ _ (entry-stands _) (ap entryBytes (same-fields _ _ h))
 
-  pub entry-changing : sameEntry (entryAt g c i) (undone (entryAt g c i)) ≡ false
-      → ifChanging c (entryStore g i (undone (entryAt g c i))) ≡ single (entryStore g i (undone (entryAt g c i)))
+  pub entry-changing : sameEntry (entryAt g c i) (undone (versionOf c) (entryAt g c i)) ≡ false
+      → ifChanging c (entryStore g i (undone (versionOf c) (entryAt g c i))) ≡ single (entryStore g i (undone (versionOf c) (entryAt g c i)))
   unfolding entryStore
   entry-changing h =
       changing c _ _ (entry-stands _)
       (λ e.
       let x = entryAt g c i in
       absurd-bool
-      (ap (sameEntry x) (sym (bytes-tell x (undone x) read-fits (undone-fits x read-fits) e)) ∙ fields-same x) h)
+      (ap (sameEntry x) (sym (bytes-tell x (undone (versionOf c) x) read-fits (undone-fits (versionOf c) x read-fits) e)) ∙ fields-same x) h)
 
 -- ---- Tail
 

@@ -18,13 +18,13 @@ use Rattle.numbers.proofs.Laws.{length-bytes}
 use Rattle.protocol.specs.declared.Entry.{Entry}
 use Rattle.protocol.specs.declared.Geometry.{Geometry}
 use Rattle.protocol.specs.Below.{eachBelow}
-use Rattle.protocol.specs.Layout.{slotPlace, entryPlace}
-use Rattle.protocol.specs.Entry.{FRESH, unused, entryOf, entryBytes, entryIn, entryAt, inUse, hasLogRole, undone}
+use Rattle.protocol.specs.Layout.{versionOf, slotPlace, entryPlace}
+use Rattle.protocol.specs.Entry.{FRESH, unused, entryOf, entryBytes, entryIn, entryAt, inUse, hasLogRole, wasModified, undoneFlags, undone}
 use Rattle.protocol.specs.Ring.{headOf, tailOf, slotAt, inWindow, usedAt, undoableAt}
 use Rattle.protocol.specs.Store.{card, Store, Run, single, flat, made, entryStore, wordStore, tailStore}
 use Rattle.protocol.specs.Recover.{sameBytes, ifChanging, undoRuns, recoverRuns}
 use Rattle.protocol.proofs.Below.{around-below, absurd-bool, below-or-above}
-use Rattle.protocol.proofs.Codec.{entry-of-part, length-entry}
+use Rattle.protocol.proofs.Codec.{version-same, entry-of-part, length-entry}
 use Rattle.protocol.proofs.Shape.{window-kept, number-kept, in-window-kept}
 use Rattle.protocol.proofs.Stores.{Held, Confined, confined-append, confined-part, some-runs, single-cut, flat-append}
 use Rattle.protocol.proofs.Region.{entry, in-card, place-entry}
@@ -46,13 +46,28 @@ use Rattle.recovery.proofs.Skipped.{entry-left-out, entry-changing, tai
 
 -- ---- what an entry becomes
 
-pub undone-fresh : (e : Entry) → e .previous ≡ FRESH → unused ≡ undone e
-unfolding undone
-undone-fresh e h = rw (eq-eqb (e .previous) FRESH h)
+module _ (v : ℕ) (e : Entry) where
+  pub flags-first : (v ≡ 2 → ⊥) → 0x82 ≡ undoneFlags v e
+  unfolding undoneFlags
+  flags-first h = rw (ne-eqb v 2 h)
 
-pub undone-saved : (e : Entry) → (e .previous ≡ FRESH → ⊥) → entryOf 0x82 (e .number) (e .previous) (e .previous) ≡ undone e
+  module _ (h : v ≡ 2) (t : Bool) (k : t ≡ wasModified e) where
+    pub flags-dirty : t ≡ true → 0x86 ≡ undoneFlags v e
+    unfolding undoneFlags
+    flags-dirty z = rw (eq-eqb v 2 h, ← k, z)
+
+    pub flags-clean : t ≡ false → 0x80 ≡ undoneFlags v e
+    unfolding undoneFlags
+    flags-clean z = rw (eq-eqb v 2 h, ← k, z)
+
+pub undone-fresh : (v : ℕ) (e : Entry) → e .previous ≡ FRESH → unused ≡ undone v e
 unfolding undone
-undone-saved e h = rw (ne-eqb (e .previous) FRESH h)
+undone-fresh v e h = rw (eq-eqb (e .previous) FRESH h)
+
+pub undone-saved : (v : ℕ) (e : Entry) (f : ℕ) → (e .previous ≡ FRESH → ⊥) → f ≡ undoneFlags v e
+    → entryOf f (e .number) (e .previous) (e .previous) ≡ undone v e
+unfolding undone
+undone-saved v e f h k = rw (ne-eqb (e .previous) FRESH h) (ap (λ (x : ℕ). entryOf x (e .number) (e .previous) (e .previous)) k)
 
 -- ---- one step of the list
 
@@ -67,16 +82,16 @@ module _ (g : Geometry) (c : List ℕ) (i : ℕ) (e : Entry) (t : Bool) (p : e �
       let n : undoableAt g c i ≡ false = undoable-is g c i e t p q ∙ not-true t h in
       record { runs = rw n refl; changes = rw n refl }
 
-  module _ (f : Fitted g c) (b : Bytes c) (l : i < g .blocks) (h : not t ≡ false) (u : Entry) (k : u ≡ undone e) (s : Bool) (m : s ≡ sameEntry e u) where
+  module _ (f : Fitted g c) (b : Bytes c) (l : i < g .blocks) (h : not t ≡ false) (n : ℕ) (o : n ≡ versionOf c) (u : Entry) (k : u ≡ undone n e) (s : Bool) (m : s ≡ sameEntry e u) where
     is-undoable : undoableAt g c i ≡ true
     is-undoable = undoable-is g c i e t p q ∙ not-false t h
 
-    runs-are : undoRuns g c i ≡ ifChanging c (entryStore g i (undone (entryAt g c i)))
+    runs-are : undoRuns g c i ≡ ifChanging c (entryStore g i (undone (versionOf c) (entryAt g c i)))
     unfolding undoRuns
     runs-are = rw is-undoable
 
-    same-is : sameEntry (entryAt g c i) (undone (entryAt g c i)) ≡ s
-    same-is = ap (λ (x : Entry). sameEntry x (undone x)) (sym p) ∙ ap (sameEntry e) (sym k) ∙ sym m
+    same-is : sameEntry (entryAt g c i) (undone (versionOf c) (entryAt g c i)) ≡ s
+    same-is = (λ t. sameEntry (sym p t) (undone (sym o t) (sym p t))) ∙ ap (sameEntry e) (sym k) ∙ sym m
 
     changed-is : (b : Bool) → s ≡ b → not b ≡ changedAt g c i
     unfolding changedAt
@@ -95,7 +110,7 @@ module _ (g : Geometry) (c : List ℕ) (i : ℕ) (e : Entry) (t : Bool) (p : e �
               sym
               (runs-are
               ∙ entry-changing g c (f .long) b i l (same-is ∙ z)
-              ∙ ap (λ (y : Entry). single (entryStore g i y)) (ap undone (sym p) ∙ sym k));
+              ∙ ap (λ (y : Entry). single (entryStore g i y)) ((λ t. undone (sym o t) (sym p t)) ∙ sym k));
           changes = changed-is false z;
         }
 
@@ -200,10 +215,10 @@ turn-confined : (g : Geometry) (c : List ℕ) (i : ℕ) → Confined card (128 +
 unfolding undoRuns flat entryStore entryPlace
 turn-confined g c i = go (undoableAt g c i)
   where
-    go : (b : Bool) → Confined card (128 + 8 * g .slots) (16 * suc i) (flat (cond b (ifChanging c (entryStore g i (undone (entryAt g c i)))) []))
+    go : (b : Bool) → Confined card (128 + 8 * g .slots) (16 * suc i) (flat (cond b (ifChanging c (entryStore g i (undone (versionOf c) (entryAt g c i)))) []))
     go true =
-        changing-confined c (entryStore g i (undone (entryAt g c i))) (128 + 8 * g .slots) (16 * suc i)
-        (record { on = refl; from = omega arith; to = omega (arith, length-entry (undone (entryAt g c i))) })
+        changing-confined c (entryStore g i (undone (versionOf c) (entryAt g c i))) (128 + 8 * g .slots) (16 * suc i)
+        (record { on = refl; from = omega arith; to = omega (arith, length-entry (undone (versionOf c) (entryAt g c i))) })
     go false = tt
 
 turns-confined : (g : Geometry) (c : List ℕ) (i : ℕ) → i ≤ g .blocks → Confined card (128 + 8 * g .slots) (16 * i) (flat (eachBelow (runsAt g c) i))
@@ -236,6 +251,9 @@ module _ (g : Geometry) (c₀ : List ℕ) (i a : ℕ) (c : List ℕ) (n r : ℕ)
       ap (λ (z : List ℕ). part z from k) (x .did .made)
       ∙ confined-part card (128 + 8 * g .slots) (16 * i) (underCredit a [] (eachBelow (runsAt g c₀) i)) c₀ from k
       (confined-credit (128 + 8 * g .slots) (16 * i) a (eachBelow (runsAt g c₀) i) (turns-confined g c₀ i top)) d
+
+  pub version-stays : versionOf c ≡ versionOf c₀
+  version-stays = version-same c₀ c (kept 0 64 (inr (omega arith)))
 
   head-stays : headOf c ≡ headOf c₀
   unfolding headOf numberAt
@@ -294,15 +312,15 @@ module _ (g : Geometry) (c₀ : List ℕ) (i a : ℕ) (c : List ℕ) (n r : ℕ)
 
     pub changed-stays : (l : i < g .blocks) → changedAt g c i ≡ changedAt g c₀ i
     unfolding changedAt
-    changed-stays l = λ t. let y = entry-stays l t in undoable-stays l t && not (sameEntry y (undone y))
+    changed-stays l = λ t. let y = entry-stays l t in undoable-stays l t && not (sameEntry y (undone (version-stays t) y))
 
     runs-stay : (l : i < g .blocks) → undoRuns g c i ≡ undoRuns g c₀ i
     unfolding undoRuns entryStore entryPlace
     runs-stay l =
-        let u = undone (entryAt g c₀ i) in
+        let u = undone (versionOf c₀) (entryAt g c₀ i) in
         λ t.
         cond (undoable-stays l t)
-        ((ap (λ (y : Entry). ifChanging c (entryStore g i (undone y))) (entry-stays l)
+        (((λ t. ifChanging c (entryStore g i (undone (version-stays t) (entry-stays l t))))
         ∙ changing-by c c₀ (entryStore g i u)
         (ap (part c (entryPlace g i)) (length-entry u)
         ∙ kept (entryPlace g i) 16 (inl (omega arith))
@@ -351,7 +369,7 @@ list-whole g c =
 -- one store a place at most
 few-at : (g : Geometry) (c : List ℕ) (i : ℕ) → length (flat (runsAt g c i)) ≤ 1
 unfolding runsAt undoRuns ifChanging
-few-at g c i = if-few (ltb i (g .blocks)) _ _ (if-few (undoableAt g c i) _ _ (changing (entryStore g i (undone (entryAt g c i)))) none) (changing (tailStore (headOf c)))
+few-at g c i = if-few (ltb i (g .blocks)) _ _ (if-few (undoableAt g c i) _ _ (changing (entryStore g i (undone (versionOf c) (entryAt g c i)))) none) (changing (tailStore (headOf c)))
   where
     if-few : (b : Bool) (rs qs : List Run) → length (flat rs) ≤ 1 → length (flat qs) ≤ 1 → length (flat (cond b rs qs)) ≤ 1
     if-few true rs qs x y = x

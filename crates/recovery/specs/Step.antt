@@ -12,7 +12,7 @@ use Rattle.protocol.specs.Check.{entriesFit}
 use Rattle.protocol.specs.Map.{mapOf, makeRefusal}
 use Rattle.protocol.specs.Store.{Run, Store, flat, single, entryStore, tailStore}
 use Rattle.protocol.specs.Recover.{ifChanging, undoRuns}
-use Rattle.protocol.specs.Layout.{geometryOf, entryPlace}
+use Rattle.protocol.specs.Layout.{geometryOf, versionOf, entryPlace}
 use Rattle.ring.specs.Fitted.{Fitted, WindowOf}
 use Rattle.stores.specs.declared.Run.{Run as Told}
 use Rattle.stores.specs.declared.Run.the-variants.{Nothing as NoRun, Entry as EntryRun, Word as WordRun}
@@ -25,7 +25,7 @@ use Rattle.recovery.specs.Went.{sameEntry}
 
 -- recovery changes entry i: it is undoable, and not undone already
 unfoldable pub changedAt : Geometry → List ℕ → ℕ → Bool
-changedAt g c i = undoableAt g c i && not (sameEntry (entryAt g c i) (undone (entryAt g c i)))
+changedAt g c i = undoableAt g c i && not (sameEntry (entryAt g c i) (undone (versionOf c) (entryAt g c i)))
 
 -- the runs of place i of the list: those of entry i, and at place N Tail's
 unfoldable pub runsAt : Geometry → List ℕ → ℕ → List Run
@@ -70,7 +70,7 @@ pub record Listed (g : Geometry) (c : List ℕ) (i : ℕ) (u : Step) : Type 0 wh
 
 -- what recovery finds first: its refusal, or where there is none a card whose parts fit, its geometry, its window and its map
 pub record Examined (c : List ℕ) (s : Checked) : Type 0 where
-  pub refusal-is : s .refusal ≡ makeRefusal c
+  pub refusal-is : s .refusal ≡ makeRefusal 2 c
   pub own : s .refusal ≡ 0 → s .geometry ≡ geometryOf c
   pub fitted : s .refusal ≡ 0 → Fitted (s .geometry) c
   pub window : s .refusal ≡ 0 → WindowOf (s .geometry) c (s .window)

@@ -27,6 +27,6 @@ sameEntry a b =
 
 -- recovery of the card c under the map m and the allowance a, which left the card d and handed back r
 pub record Recovered (a : ℕ) (c : List ℕ) (m : Map) (d : List ℕ) (r : Stored) : Type 0 where
-  pub answer-is : r .answer ≡ answerOf a (recoverWork c m)
-  pub map-is : r .map ≡ mapAfter a (recoverWork c m) c m
-  pub after-is : d ≡ afterOn card a (recoverWork c m) c
+  pub answer-is : r .answer ≡ answerOf a (recoverWork 2 c m)
+  pub map-is : r .map ≡ mapAfter a (recoverWork 2 c m) c m
+  pub after-is : d ≡ afterOn card a (recoverWork 2 c m) c

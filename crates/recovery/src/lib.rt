@@ -15,7 +15,7 @@ ghost use Prim.Native.Nat.{ℕ, _≤_, _<_};
 ghost use lib.ListN.{length};
 ghost use Rattle.numbers.specs.Bytes.{bytesBE, part, Bytes};
 ghost use Rattle.protocol.specs.Layout.{goodGeometry};
-ghost use Rattle.protocol.specs.Entry.{FRESH as NO_BLOCK, undone, entryAt, entryBytes};
+ghost use Rattle.protocol.specs.Entry.{FRESH as NO_BLOCK, undoneFlags, undone, entryAt, entryBytes};
 ghost use Rattle.protocol.specs.Ring.{headOf};
 ghost use Rattle.protocol.specs.Check.{goodEntryAt, entriesFit};
 ghost use Rattle.protocol.specs.Store.{tailStore};
@@ -32,9 +32,19 @@ pub struct Progress {
     pub left: u64,
 }
 
+// Modified or clean as P tells; a version 1 card does not say, so there it is modified.
+fn undone_flags(version: u64, e: Entry) -> u8
+    ensures { λ r. ⌜ r ≡ undoneFlags version e ⌝ }
+{
+    if version != 2 {
+        return 0x82;
+    }
+    if codec::was_modified(e) { 0x86 } else { 0x80 }
+}
+
 // Zeros where there was no block before, else the saved block as both current and previous: a second recovery finds it again.
-fn undone_of(e: Entry) -> Entry
-    ensures { λ r. ⌜ r ≡ undone e ⌝ }
+fn undone_of(version: u64, e: Entry) -> Entry
+    ensures { λ r. ⌜ r ≡ undone version e ⌝ }
 {
     if e.previous == FRESH {
         return Entry {
@@ -45,7 +55,7 @@ fn undone_of(e: Entry) -> Entry
         };
     }
     Entry {
-        flags: 0x82,
+        flags: undone_flags(version, e),
         number: e.number,
         previous: e.previous,
         current: e.previous,
@@ -76,7 +86,7 @@ fn undo_step(g: Geometry, card: &[u8], w: Window, i: usize) -> Step
     if !checks::undoable(g, card, w, e) {
         return Step::Nothing;
     }
-    let u = undone_of(e);
+    let u = undone_of(ring::version_of(card), e);
     if same(e, u) {
         return Step::Nothing;
     }
@@ -290,11 +300,11 @@ fn refused(refusal: u8) -> Checked
     }
 }
 
-// 1, 2 and 4 to 6: recovery takes an unsettled card, and no disk.
+// 1, 2 and 4 to 6: recovery takes cards of both versions, unsettled ones too, and no disk.
 pub fn examine(card: &[u8]) -> Checked
     ensures { λ r. ⌜ Examined (now (card .entry)) r ⌝ }
 {
-    let f = ring::fit_of(card);
+    let f = ring::fit_of(card, 1, 2);
     if f.refusal != 0 {
         return refused(f.refusal);
     }
@@ -313,7 +323,7 @@ pub fn examine(card: &[u8]) -> Checked
     }
 }
 
-// The map of the card's data blocks, settled or not: what a station makes when it starts. Refused with 1, 2 and 4 to 6.
+// The map of the card's data blocks, settled or not, of either version: what a station makes when it starts. Refused with 1, 2 and 4 to 6.
 pub fn make_map(card: &[u8]) -> Mapped
     ensures { λ r. ⌜ r ≡ madeMap (now (card .entry)) ⌝ }
 {
@@ -325,8 +335,8 @@ pub fn make_map(card: &[u8]) -> Mapped
     Mapped::Is(map)
 }
 
-// Undoes what a cut left half made: each undoable entry becomes what it was, and Tail is set to Head. The service desk's undo of a
-// half-made commit is this same call.
+// Undoes what a cut left half made, by the rule of the card's version: each undoable entry becomes what it was, and Tail is set to Head. The
+// service desk's undo of a half-made commit is this same call.
 pub fn recover(card: &mut [u8], map: Map, allowance: u64) -> Stored
     ensures { λ r. ⌜ Recovered allowance (now (card .entry)) map (now (card .exit)) r ⌝ }
 {

@@ -116,6 +116,7 @@ fn fields(i: u64, e: Entry) {
     bytes(e);
     out(b" ");
     flag(codec::in_use(e), b" V");
+    flag(codec::was_modified(e), b" P");
     flag(codec::is_modified(e), b" M");
     flag(codec::has_log_role(e), b" R");
     out(b" ");
@@ -228,6 +229,19 @@ fn told(c: Condition) {
     out(b"\n");
 }
 
+// Why the card's state is not told: it is an earlier version's, which is only recovered and upgraded, or it is refused.
+fn unstated(card: &[u8]) {
+    let u = upgrade::examine(card);
+    if u.refusal == 0 {
+        out(b"condition  version 1, settled: to be upgraded\n");
+    } else if u.refusal == 7 {
+        out(b"condition  version 1, not settled: to be recovered, then upgraded\n");
+    } else {
+        let s = recovery::examine(card);
+        fault(STDOUT_FILENO, s.refusal, faults::fault_of(card, 1, 2), 1, 2);
+    }
+}
+
 // The card's condition in one line, or why it is refused.
 pub fn condition(card: &[u8]) {
     match lookup::state(card) {
@@ -236,7 +250,7 @@ pub fn condition(card: &[u8]) {
             out(b"condition  ");
             told(c);
         }
-        Reported::Refused(r) => fault(STDOUT_FILENO, r, faults::fault_of(card)),
+        Reported::Refused(_) => unstated(card),
     }
 }
 
@@ -249,7 +263,7 @@ fn ring(card: &[u8]) {
 
 fn entries(card: &[u8]) {
     out(
-        b"\nentries: V in use, M modified, R log role\n  place  bytes                               flags  number  previous  current  undoable   settled\n",
+        b"\nentries: V in use, P previous modified, M modified, R log role\n  place  bytes                               flags    number  previous  current  undoable   settled\n",
     );
     if !all(card, false) {
         out(b"  none in use\n");
@@ -273,7 +287,7 @@ fn has_entries(card: &[u8]) -> bool {
 }
 
 fn is_sound(card: &[u8]) -> bool {
-    match faults::fault_of(card) {
+    match faults::fault_of(card, 1, 2) {
         Fault::Sound => true,
         _ => false,
     }

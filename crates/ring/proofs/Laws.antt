@@ -18,7 +18,7 @@ use Rattle.numbers.specs.Post.{Number}
 use Rattle.numbers.proofs.Laws.{number-split, number-one}
 use Rattle.protocol.specs.declared.Geometry.{Geometry}
 use Rattle.protocol.specs.Below.{allBelow, anyBelow, around}
-use Rattle.protocol.specs.Layout.{goodGeometry, geometryOf, goodHeader, zeroFrom, slotPlace, cardLength, diskLength}
+use Rattle.protocol.specs.Layout.{between, goodGeometry, geometryOf, versionOf, goodHeader, zeroFrom, slotPlace, cardLength, diskLength}
 use Rattle.protocol.specs.Ring.{headOf, tailOf, slotAt, windowLength, windowOf, windowNumber, windowHas, inWindow}
 use Rattle.protocol.specs.Check.{refuse, headerFits, cardFits, diskFits, windowNumberFits, ringFits, fitRefusal, diskRefusal}
 use Rattle.ring.specs.declared.Window.{Window}
@@ -101,13 +101,14 @@ zeros-end c at n i a h k e = let q : i ≡ n = omega arith in e ∙ ap (λ (x : 
 
 -- ---- checks 1 to 3
 
-pub header-short : (c : List ℕ) → length c < 128 → false ≡ headerFits c
-unfolding headerFits
-header-short c h = rw (lt-ltb (length c) 128 h)
+module _ (low high : ℕ) (c : List ℕ) where
+  pub header-short : length c < 128 → false ≡ headerFits low high c
+  unfolding headerFits
+  header-short h = rw (lt-ltb (length c) 128 h)
 
-pub header-end : (c : List ℕ) (r : Bool) → 128 ≤ length c → r ≡ goodHeader c → r ≡ headerFits c
-unfolding headerFits
-header-end c r h e = rw (le-ltb (length c) 128 h) e
+  pub header-end : (r : Bool) → 128 ≤ length c → r ≡ goodHeader low high c → r ≡ headerFits low high c
+  unfolding headerFits
+  header-end r h e = rw (le-ltb (length c) 128 h) e
 
 pub disk-fits : (g : Geometry) (d : List ℕ) (n : ℕ) → n ≡ diskLength g → length d ≡ n → 0 ≡ diskRefusal g d
 unfolding diskRefusal diskFits
@@ -117,27 +118,32 @@ pub disk-misfits : (g : Geometry) (d : List ℕ) (n : ℕ) → n ≡ diskLength 
 unfolding diskRefusal diskFits
 disk-misfits g d n e h = refuse-failed 3 (diskFits g d) (ne-eqb (length d) (diskLength g) (λ q. h (q ∙ sym e)))
 
-header-passed : (c : List ℕ) (r : Bool) → r ≡ headerFits c → not r ≡ false → headerFits c ≡ true
-header-passed c r e h = sym e ∙ not-false r h
-
-pub header-long : (c : List ℕ) (r : Bool) → r ≡ headerFits c → not r ≡ false → 128 ≤ length c
-unfolding headerFits
-header-long c r e h =
-    ltb-false (length c) 128 (not-true _ (and-left (not (ltb (length c) 128)) (goodHeader c) (header-passed c r e h)))
-
-good-header-geometry : (c : List ℕ) → goodHeader c ≡ true → goodGeometry (geometryOf c) ≡ true
+-- what a good header says of its version and of its geometry
+good-header-parts : (low high : ℕ) (c : List ℕ) → goodHeader low high c ≡ true
+    → (between low high (versionOf c) ≡ true) × (goodGeometry (geometryOf c) ≡ true)
 unfolding goodHeader
-good-header-geometry c h =
+good-header-parts low high c h =
+    let v : Bool = between low high (versionOf c) in
     let g : Bool = goodGeometry (geometryOf c) in
     let z : Bool = allBelow (zeroFrom c 16) 48 in
-    and-left g z (and-right (eqb (getD c 4 0) 1) (g && z) (and-right (eqb (numberAt c 0 4) 64) (eqb (getD c 4 0) 1 && (g && z)) h))
+    let past = and-right (eqb (numberAt c 0 4) 64) (v && (g && z)) h in
+    (and-left v (g && z) past, and-left g z (and-right v (g && z) past))
 
-pub header-geometry : (c : List ℕ) (r : Bool) (g : Geometry) → r ≡ headerFits c → not r ≡ false → g ≡ geometryOf c
+module _ (low high : ℕ) (c : List ℕ) (r : Bool) (e : r ≡ headerFits low high c) (h : not r ≡ false) where
+  header-passed : headerFits low high c ≡ true
+  header-passed = sym e ∙ not-false r h
+
+  pub header-long : 128 ≤ length c
+  unfolding headerFits
+  header-long = ltb-false (length c) 128 (not-true _ (and-left (not (ltb (length c) 128)) (goodHeader low high c) header-passed))
+
+  header-parts : (between low high (versionOf c) ≡ true) × (goodGeometry (geometryOf c) ≡ true)
+  unfolding headerFits
+  header-parts = good-header-parts low high c (and-right (not (ltb (length c) 128)) (goodHeader low high c) header-passed)
+
+pub header-geometry : (low high : ℕ) (c : List ℕ) (r : Bool) (g : Geometry) → r ≡ headerFits low high c → not r ≡ false → g ≡ geometryOf c
     → goodGeometry g ≡ true
-unfolding headerFits
-header-geometry c r g e h q =
-    ap goodGeometry q
-    ∙ good-header-geometry c (and-right (not (ltb (length c) 128)) (goodHeader c) (header-passed c r e h))
+header-geometry low high c r g e h q = ap goodGeometry q ∙ header-parts low high c r e h .1
 
 pub card-fits : (g : Geometry) (c : List ℕ) (n : ℕ) → n ≡ cardLength g → length c ≡ n → 0 ≡ refuse 2 (cardFits g c)
 unfolding cardFits
@@ -147,51 +153,59 @@ pub card-misfits : (g : Geometry) (c : List ℕ) (n : ℕ) → n ≡ cardLength 
 unfolding cardFits
 card-misfits g c n e h = refuse-failed 2 (cardFits g c) (ne-eqb (length c) (cardLength g) (λ q. h (q ∙ sym e)))
 
--- a card that passes both checks fits
-pub fit-long : (c : List ℕ) (r : ℕ) → r ≡ fitRefusal c → r ≡ 0 → 128 ≤ length c
-unfolding fitRefusal
-fit-long c r e z =
-    let h : headerFits c ≡ true = refuse-none 1 (headerFits c) (omega arith) (orElse-none (refuse 1 (headerFits c)) _ (sym e ∙ z) .0) in
-    header-long c true (sym h) refl
+-- a card that passes both checks fits, and its version is one that the call takes
+module _ (low high : ℕ) (c : List ℕ) (r : ℕ) (e : r ≡ fitRefusal low high c) (z : r ≡ 0) where
+  fit-passed : (headerFits low high c ≡ true) × (cardFits (geometryOf c) c ≡ true)
+  unfolding fitRefusal
+  fit-passed =
+      let both = orElse-none (refuse 1 (headerFits low high c)) _ (sym e ∙ z) in
+      (refuse-none 1 (headerFits low high c) (omega arith) (both .0), refuse-none 2 (cardFits (geometryOf c) c) (omega arith) (both .1))
 
-pub fit-fitted : (c : List ℕ) (g : Geometry) (r : ℕ) → r ≡ fitRefusal c → r ≡ 0 → g ≡ geometryOf c → Fitted g c
-unfolding fitRefusal cardFits
-fit-fitted c g r e z q =
-    let both = orElse-none (refuse 1 (headerFits c)) _ (sym e ∙ z) in
-    let h : headerFits c ≡ true = refuse-none 1 (headerFits c) (omega arith) (both .0) in
-    let l : cardFits (geometryOf c) c ≡ true = refuse-none 2 (cardFits (geometryOf c) c) (omega arith) (both .1) in
+  pub fit-long : 128 ≤ length c
+  fit-long = header-long low high c true (sym (fit-passed .0)) refl
+
+  pub fit-version : between low high (versionOf c) ≡ true
+  fit-version = header-parts low high c true (sym (fit-passed .0)) refl .0
+
+pub fit-fitted : (low high : ℕ) (c : List ℕ) (g : Geometry) (r : ℕ) → r ≡ fitRefusal low high c → r ≡ 0 → g ≡ geometryOf c → Fitted g c
+unfolding cardFits
+fit-fitted low high c g r e z q =
+    let passed = fit-passed low high c r e z in
     record {
-      good = header-geometry c true g (sym h) refl q;
-      long = eqb-true (length c) (cardLength (geometryOf c)) l ∙ ap cardLength (sym q);
+      good = header-geometry low high c true g (sym (passed .0)) refl q;
+      long = eqb-true (length c) (cardLength (geometryOf c)) (passed .1) ∙ ap cardLength (sym q);
     }
 
-pub fit-header : (c : List ℕ) (r : Bool) → r ≡ headerFits c → not r ≡ true → 1 ≡ fitRefusal c
+pub fit-header : (low high : ℕ) (c : List ℕ) (r : Bool) → r ≡ headerFits low high c → not r ≡ true → 1 ≡ fitRefusal low high c
 unfolding fitRefusal
-fit-header c r e h =
-    orElse-first 1 (refuse 1 (headerFits c)) _ (refuse-failed 1 (headerFits c) (sym e ∙ not-true r h)) (omega arith)
+fit-header low high c r e h =
+    orElse-first 1 (refuse 1 (headerFits low high c)) _ (refuse-failed 1 (headerFits low high c) (sym e ∙ not-true r h)) (omega arith)
 
 -- past check 1, what is said of the length decides
-pub fit-past : (c : List ℕ) (r : Bool) (g : Geometry) (n : ℕ) → r ≡ headerFits c → not r ≡ false → g ≡ geometryOf c
-    → n ≡ refuse 2 (cardFits g c) → n ≡ fitRefusal c
+pub fit-past : (low high : ℕ) (c : List ℕ) (r : Bool) (g : Geometry) (n : ℕ) → r ≡ headerFits low high c → not r ≡ false → g ≡ geometryOf c
+    → n ≡ refuse 2 (cardFits g c) → n ≡ fitRefusal low high c
 unfolding fitRefusal
-fit-past c r g n e h q s =
-    orElse-next n (refuse 1 (headerFits c)) _ (refuse-passed 1 (headerFits c) (header-passed c r e h))
+fit-past low high c r g n e h q s =
+    orElse-next n (refuse 1 (headerFits low high c)) _ (refuse-passed 1 (headerFits low high c) (header-passed low high c r e h))
     (s ∙ ap (λ (x : Geometry). refuse 2 (cardFits x c)) q)
 
-pub fit-length : (c : List ℕ) (r : Bool) (g : Geometry) (n : ℕ) → r ≡ headerFits c → not r ≡ false → g ≡ geometryOf c
-    → n ≡ cardLength g → (length c ≡ n → ⊥) → 2 ≡ fitRefusal c
-fit-length c r g n e h q s t = fit-past c r g 2 e h q (card-misfits g c n s t)
+pub fit-length : (low high : ℕ) (c : List ℕ) (r : Bool) (g : Geometry) (n : ℕ) → r ≡ headerFits low high c → not r ≡ false → g ≡ geometryOf c
+    → n ≡ cardLength g → (length c ≡ n → ⊥) → 2 ≡ fitRefusal low high c
+fit-length low high c r g n e h q s t = fit-past low high c r g 2 e h q (card-misfits g c n s t)
 
-pub opened-none : (c : List ℕ) (r : Bool) (f : Fit) → r ≡ headerFits c → not r ≡ true → f .refusal ≡ 1 → Opened c f
-opened-none c r f e h one = record { refusal-is = one ∙ fit-header c r e h; framed = λ z. absurd (omega arith) }
+pub opened-none : (low high : ℕ) (c : List ℕ) (r : Bool) (f : Fit) → r ≡ headerFits low high c → not r ≡ true → f .refusal ≡ 1
+    → Opened low high c f
+opened-none low high c r f e h one =
+    record { refusal-is = one ∙ fit-header low high c r e h; framed = λ z. absurd (omega arith) }
 
-pub opened-past : (c : List ℕ) (r : Bool) (g : Geometry) (n h t : ℕ) → r ≡ headerFits c → not r ≡ false → g ≡ geometryOf c
-    → n ≡ refuse 2 (cardFits g c) → h ≡ headOf c → t ≡ tailOf c → Opened c (record { refusal = n; geometry = g; head = h; tail = t })
-opened-past c r g n h t e p eg en eh et =
-    let q : n ≡ fitRefusal c = fit-past c r g n e p eg en in
+pub opened-past : (low high : ℕ) (c : List ℕ) (r : Bool) (g : Geometry) (n v h t : ℕ) → r ≡ headerFits low high c → not r ≡ false
+    → g ≡ geometryOf c → n ≡ refuse 2 (cardFits g c) → v ≡ versionOf c → h ≡ headOf c → t ≡ tailOf c
+    → Opened low high c (record { refusal = n; geometry = g; version = v; head = h; tail = t })
+opened-past low high c r g n v h t e p eg en ev eh et =
+    let q : n ≡ fitRefusal low high c = fit-past low high c r g n e p eg en in
     record {
       refusal-is = q;
-      framed = λ z. record { geometry-is = eg; fitted = fit-fitted c g n q z eg; head-is = eh; tail-is = et };
+      framed = λ z. record { geometry-is = eg; fitted = fit-fitted low high c g n q z eg; version-is = ev; head-is = eh; tail-is = et };
     }
 
 -- ---- check 4

@@ -5,7 +5,7 @@ use mathlib.Core.Bool.{true}
 use lib.ListN.{length}
 use Prim.Native.Nat.{ℕ, _<_}
 use Rattle.protocol.specs.declared.Geometry.{Geometry}
-use Rattle.protocol.specs.Layout.{goodGeometry, geometryOf, cardLength}
+use Rattle.protocol.specs.Layout.{goodGeometry, geometryOf, versionOf, cardLength}
 use Rattle.protocol.specs.Ring.{headOf, tailOf, windowOf}
 use Rattle.protocol.specs.Check.{fitRefusal}
 use Rattle.ring.specs.declared.Fit.{Fit}
@@ -16,16 +16,17 @@ pub record Fitted (g : Geometry) (c : List ℕ) : Type 0 where
   pub good : goodGeometry g ≡ true
   pub long : length c ≡ cardLength g
 
--- the card c passed checks 1 and 2, and f has its geometry, Head and Tail
+-- the card c passed checks 1 and 2, and f has its geometry, version, Head and Tail
 pub record Framed (c : List ℕ) (f : Fit) : Type 0 where
   pub geometry-is : f .geometry ≡ geometryOf c
   pub fitted : Fitted (f .geometry) c
+  pub version-is : f .version ≡ versionOf c
   pub head-is : f .head ≡ headOf c
   pub tail-is : f .tail ≡ tailOf c
 
--- what checks 1 and 2 found, and of a card that passed them its frame
-pub record Opened (c : List ℕ) (f : Fit) : Type 0 where
-  pub refusal-is : f .refusal ≡ fitRefusal c
+-- what checks 1 and 2 of a call that takes versions from low to high found, and of a card that passed them its frame
+pub record Opened (low high : ℕ) (c : List ℕ) (f : Fit) : Type 0 where
+  pub refusal-is : f .refusal ≡ fitRefusal low high c
   pub framed : f .refusal ≡ 0 → Framed c f
 
 -- Head and Tail of c are slot positions

@@ -5,7 +5,7 @@ ghost use mathlib.Core.Bool.{true};
 ghost use Prim.Native.Nat.{_+_, _*_, _≤_, _<_};
 ghost use lib.ListN.{length};
 ghost use Rattle.protocol.specs.Below.{allBelow, around};
-ghost use Rattle.protocol.specs.Layout.{goodGeometry, geometryOf, diskLength, goodHeader, zeroFrom};
+ghost use Rattle.protocol.specs.Layout.{goodGeometry, geometryOf, versionOf, diskLength, goodHeader, zeroFrom};
 ghost use Rattle.protocol.specs.Ring.{headOf, tailOf, windowLength, windowNumber, inWindow};
 ghost use Rattle.protocol.specs.Check.{refuse, headerFits, cardFits, fitRefusal, diskRefusal, windowNumberFits, ringFits};
 ghost use Rattle.ring.specs.Fitted.{Fitted, Placed, WindowOf, Framed, Opened};
@@ -30,6 +30,14 @@ pub fn geometry_of(card: &[u8]) -> Geometry
     }
 }
 
+// The version that the header names, one that is known or not.
+pub fn version_of(card: &[u8]) -> u64
+    requires { ⌜ 128 ≤ length (now card) ⌝ }
+    ensures { λ r. ⌜ r ≡ versionOf (now (card .entry)) ⌝ }
+{
+    card[4] as u64
+}
+
 // Whether the n words of 8 bytes from `at` on are zero. It reads all of them, so that the compiler joins the reads.
 fn zeros(card: &[u8], at: usize, n: usize) -> bool
     requires { ⌜ at + 8 * n ≤ length (now card) ⌝ }
@@ -44,22 +52,25 @@ fn zeros(card: &[u8], at: usize, n: usize) -> bool
     all == 0
 }
 
-fn good_header(card: &[u8]) -> bool
+// Every field as it must be, with a version from low to high.
+fn good_header(card: &[u8], low: u64, high: u64) -> bool
     requires { ⌜ 128 ≤ length (now card) ⌝ }
-    ensures { λ r. ⌜ r ≡ goodHeader (now (card .entry)) ⌝ }
+    ensures { λ r. ⌜ r ≡ goodHeader low high (now (card .entry)) ⌝ }
 {
     let long = numbers::get(card, 0, 4) == 64;
-    let version = card[4] == 1;
-    long & (version & (codec::good_geometry(geometry_of(card)) & zeros(card, 16, 6)))
+    let version = version_of(card);
+    let taken = (low <= version) & (version <= high);
+    long & (taken & (codec::good_geometry(geometry_of(card)) & zeros(card, 16, 6)))
 }
 
-pub fn header_fits(card: &[u8]) -> bool
-    ensures { λ r. ⌜ r ≡ headerFits (now (card .entry)) ⌝ }
+// Not 1, of a call that takes versions from low to high.
+pub fn header_fits(card: &[u8], low: u64, high: u64) -> bool
+    ensures { λ r. ⌜ r ≡ headerFits low high (now (card .entry)) ⌝ }
 {
     if card.len() < 128 {
         return false;
     }
-    good_header(card)
+    good_header(card, low, high)
 }
 
 pub fn head_of(card: &[u8]) -> u64
@@ -88,10 +99,11 @@ fn length_refusal(g: Geometry, card: &[u8]) -> u8
     }
 }
 
-// What checks 1 and 2 find, and where they find nothing the geometry, Head and Tail, each read once for whoever goes on.
+// What checks 1 and 2 find, and where they find nothing the geometry, version, Head and Tail, each read once for whoever goes on.
 pub struct Fit {
     pub refusal: u8,
     pub geometry: Geometry,
+    pub version: u64,
     pub head: u64,
     pub tail: u64,
 }
@@ -109,33 +121,37 @@ fn unfit() -> Fit
     Fit {
         refusal: 1,
         geometry: g,
+        version: 0,
         head: 0,
         tail: 0,
     }
 }
 
-pub fn fit_of(card: &[u8]) -> Fit
-    ensures { λ r. ⌜ Opened (now (card .entry)) r ⌝ }
+// Checks 1 and 2 of a call that takes versions from low to high.
+pub fn fit_of(card: &[u8], low: u64, high: u64) -> Fit
+    ensures { λ r. ⌜ Opened low high (now (card .entry)) r ⌝ }
 {
-    if !header_fits(card) {
+    if !header_fits(card, low, high) {
         return unfit();
     }
     let g = geometry_of(card);
+    let version = version_of(card);
     let head = head_of(card);
     let tail = tail_of(card);
     Fit {
         refusal: length_refusal(g, card),
         geometry: g,
+        version: version,
         head: head,
         tail: tail,
     }
 }
 
-// 1 and 2: what the fitter can get wrong on the card.
-pub fn fit_refusal(card: &[u8]) -> u8
-    ensures { λ r. ⌜ r ≡ fitRefusal (now (card .entry)) ⌝ }
+// 1 and 2: what the fitter can get wrong on the card, of a call that takes versions from low to high.
+pub fn fit_refusal(card: &[u8], low: u64, high: u64) -> u8
+    ensures { λ r. ⌜ r ≡ fitRefusal low high (now (card .entry)) ⌝ }
 {
-    let f = fit_of(card);
+    let f = fit_of(card, low, high);
     f.refusal
 }
 

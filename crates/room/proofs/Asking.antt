@@ -63,21 +63,21 @@ module _ (c d : List ℕ) (m : Map) (t ns : List ℕ) (size room : ℕ) (xs : Li
 -- ---- and 14 behind it
 
 module _ (c d : List ℕ) (m : Map) (t ns bs ch : List ℕ) (size room : ℕ) (l : length bs ≡ size) (k : choiceRoom ch ≡ room) where
-  as-met : roomRefusal c d m t ns bs ch
+  as-met : roomRefusal 2 c d m t ns bs ch
       ≡ metRefusal c d m (isArranged t) orElse saveRefusal (geometryOf c) ns bs ch (enoughVictims (geometryOf c) c t ns)
   unfolding roomRefusal metRefusal tableRefusal
   as-met =
       sym
-      (orElse-assoc (pairRefusal c d) (mapRefusal c m orElse refuse 16 (isArranged t)) _
-      ∙ ap (λ (r : ℕ). pairRefusal c d orElse r) (orElse-assoc (mapRefusal c m) (refuse 16 (isArranged t)) _))
+      (orElse-assoc (pairRefusal 2 c d) (mapRefusal c m orElse refuse 16 (isArranged t)) _
+      ∙ ap (λ (r : ℕ). pairRefusal 2 c d orElse r) (orElse-assoc (mapRefusal c m) (refuse 16 (isArranged t)) _))
 
   good : metRefusal c d m (isArranged t) ≡ 0 → goodGeometry (geometryOf c) ≡ true
   unfolding metRefusal pairRefusal
   good z =
-      let fit = orElse-none (fitRefusal c) _ (orElse-none (pairRefusal c d) _ z .0) .0 in
-      fit-fitted c (geometryOf c) 0 (sym fit) refl refl .good
+      let fit = orElse-none (fitRefusal 2 2 c) _ (orElse-none (pairRefusal 2 c d) _ z .0) .0 in
+      fit-fitted 2 2 c (geometryOf c) 0 (sym fit) refl refl .good
 
-  pub asked-all : askedRefusal c d m t ns size room orElse refuse 14 (enoughVictims (geometryOf c) c t ns) ≡ roomRefusal c d m t ns bs ch
+  pub asked-all : askedRefusal c d m t ns size room orElse refuse 14 (enoughVictims (geometryOf c) c t ns) ≡ roomRefusal 2 c d m t ns bs ch
   unfolding askedRefusal
   asked-all = orElse-assoc (metRefusal c d m (isArranged t)) _ _ ∙ go (metRefusal c d m (isArranged t)) refl ∙ sym as-met
     where
@@ -96,7 +96,7 @@ unfolding askedRefusal metRefusal
 asked-fits c d m t ns size room z =
     let g = geometryOf c in
     let (met, own) = orElse-none (metRefusal c d m (isArranged t)) _ z in
-    let table = orElse-none (mapRefusal c m) _ (orElse-none (pairRefusal c d) _ met .1) .1 in
+    let table = orElse-none (mapRefusal c m) _ (orElse-none (pairRefusal 2 c d) _ met .1) .1 in
     let bs = replicate {A = ℕ} size 0 in
     let ch = replicate {A = ℕ} room 0 in
     let same = request-is g ns bs ch size room true (good c d m t ns bs ch size room (length-replicate {A = ℕ} size 0) (quiet-room room) met)

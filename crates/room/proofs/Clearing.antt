@@ -1,6 +1,6 @@
 -- The evictions one after the other: each victim is there when its turn comes, what its eviction needs lies on the media, and their stores add up.
 -- Assumes nothing.
-use Prim.Native.Nat.{ℕ, _+_, _-_, _/_, _≤_, _<_}
+use Prim.Native.Nat.{ℕ, _+_, _-_, _/_, _%_, _≤_, _<_}
 use mathlib.Core.List.{List, _++_}
 use mathlib.Core.Bool.{Bool, true, false, cond}
 use mathlib.Core.Path.{_≡_, refl, sym, ap, subst, _∙_}
@@ -9,6 +9,7 @@ use native.Mathlib.Numerals.{add-one}
 use native.Mathlib.Omega.{arith}
 use lib.ListN.{length, getD, set, length-set}
 use lib.Seq.{getD-set-same, getD-set-other}
+use borrow.Author.Tests.{lt-ltb}
 use Rattle.protocol.specs.declared.Entry.{Entry}
 use Rattle.protocol.specs.declared.Geometry.{Geometry}
 use Rattle.protocol.specs.Below.{eachBelow}
@@ -27,6 +28,7 @@ use Rattle.protocol.proofs.Room.{victim-below, roomAfter, victim-stays, victim-
 use Rattle.protocol.proofs.Searches.{length-sift}
 use Rattle.ring.specs.Fitted.{Fitted}
 use Rattle.stores.proofs.Laws.{did-then, did-same, did-all, did-spent, did-start, did-length, length-each}
+use Rattle.plan.specs.Planned.{previousOf}
 use Rattle.commit.proofs.Places.{each-same, each-plus}
 use Rattle.transfer.specs.Moved.{evictCount, Leaving, Both}
 use Rattle.transfer.proofs.Moving.{count-is}
@@ -120,6 +122,15 @@ module _ (g : Geometry) (c d ch vs : List ℕ) (n : ℕ) (v : Clearing g c d ch 
         let m : Limits g = limits g (clear-fitted g c d ch vs n v .good) in
         omega (arith, ap (λ (y : Entry). y .current) same, place-current g c d ch vs n v k l)
 
+    -- with nothing added it stands for the block in a plan, too
+    as-previous : previousOf (e .current) ≡ e .current
+    unfolding previousOf
+    as-previous =
+        let q : ℕ = e .current in
+        let few : q < 256 = omega (arith, current-few) in
+        let rest : q % 128 ≡ q = omega (arith, current-few) in
+        rw (lt-ltb q 256 few) rest
+
     pub counting-turn : (q : ℕ) → q ≡ evictCount g e → Counting g c vs (k + 1) (set fs k (e .current)) (r + q)
     unfolding takenRuns
     counting-turn q more =
@@ -133,9 +144,9 @@ module _ (g : Geometry) (c d ch vs : List ℕ) (n : ℕ) (v : Clearing g c d ch 
             freed = λ i h.
                 ⊎-elim
                 (λ (j : i ≡ k).
-                subst (λ (y : ℕ). getD (set fs k (e .current)) y 0 ≡ entryAt g c (getD vs y 0) .current) (sym j)
-                (getD-set-same fs k (e .current) 0 (omega (arith, x .long)) ∙ ap (λ (y : Entry). y .current) same))
-                (λ (j : i < k). getD-set-other fs k i (e .current) 0 (omega arith) ∙ x .so-far .freed i j)
+                subst (λ (y : ℕ). previousOf (getD (set fs k (e .current)) y 0) ≡ entryAt g c (getD vs y 0) .current) (sym j)
+                (ap previousOf (getD-set-same fs k (e .current) 0 (omega (arith, x .long))) ∙ as-previous ∙ ap (λ (y : Entry). y .current) same))
+                (λ (j : i < k). ap previousOf (getD-set-other fs k i (e .current) 0 (omega arith)) ∙ x .so-far .freed i j)
                 (last-or-before i k (rw add-one at h));
             most = omega (arith, x .so-far .most);
           };

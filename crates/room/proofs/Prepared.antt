@@ -55,14 +55,14 @@ module _ (c d : List ℕ) (m : Map) (t ns : List ℕ) (size room : ℕ) (xs : Li
 module _ (c d : List ℕ) (m : Map) (t ns bs ch : List ℕ) (room : ℕ) (k : room ≡ choiceRoom ch) (es ps vs : List ℕ) (p : Making)
     (x : Prepared c d m t ns (length bs) room es ps vs p)
   where
-    refusal-is : p .refusal ≡ roomRefusal c d m t ns bs ch
+    refusal-is : p .refusal ≡ roomRefusal 2 c d m t ns bs ch
     refusal-is = x .refusal-is bs ch refl (sym k)
 
     pub room-refused : (p .refusal ≡ 0 → ⊥) → (a : ℕ) (u : Stored) → (u .answer ≡ Refused (p .refusal)) × (u .map ≡ handedOn (Refused (p .refusal)) m m)
-        → Finished (roomWork c d m t ns bs ch) a m c c d d u × (t ≡ tableAfterSave a c d m t ns bs ch)
+        → Finished (roomWork 2 c d m t ns bs ch) a m c c d d u × (t ≡ tableAfterSave a c d m t ns bs ch)
     unfolding roomWork handedOn tableAfterSave turned
     room-refused h a u e =
-        let w = roomWork c d m t ns bs ch in
+        let w = roomWork 2 c d m t ns bs ch in
         let q = refused-answer w a (p .refusal) refusal-is h in (
           record {
             answer = e .0 ∙ q;

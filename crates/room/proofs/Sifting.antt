@@ -203,12 +203,12 @@ module _ (g : Geometry) (c ns es ps marks : List ℕ) (w : Intact g c) (h : Home
 -- ---- 14, or as many victims as are missing
 
 -- what was asked before passed checks 1 and 2
-pub asked-fit : (c d : List ℕ) (m : Map) (t ns : List ℕ) (size room : ℕ) → askedRefusal c d m t ns size room ≡ 0 → fitRefusal c ≡ 0
+pub asked-fit : (c d : List ℕ) (m : Map) (t ns : List ℕ) (size room : ℕ) → askedRefusal c d m t ns size room ≡ 0 → fitRefusal 2 2 c ≡ 0
 unfolding askedRefusal metRefusal pairRefusal
 asked-fit c d m t ns size room z =
-    orElse-none (fitRefusal c) _ (orElse-none (pairRefusal c d) _ (orElse-none (metRefusal c d m (isArranged t)) _ z .0) .0) .0
+    orElse-none (fitRefusal 2 2 c) _ (orElse-none (pairRefusal 2 c d) _ (orElse-none (metRefusal c d m (isArranged t)) _ z .0) .0) .0
 
-module _ (g : Geometry) (c : List ℕ) (h : ℕ) (xs : List ℕ) (m : Map) (free : ℕ) (own : g ≡ geometryOf c) (fit : fitRefusal c ≡ 0)
+module _ (g : Geometry) (c : List ℕ) (h : ℕ) (xs : List ℕ) (m : Map) (free : ℕ) (own : g ≡ geometryOf c) (fit : fitRefusal 2 2 c ≡ 0)
     (s : Searchable g c h xs m free) (t ns es ps vs : List ℕ)
   where
     whole : Intact g c × (isSettled g c ≡ true)

@@ -17,12 +17,12 @@ use Rattle.protocol.specs.declared.Geometry.{Geometry}
 use Rattle.protocol.specs.declared.Map.{Map}
 use Rattle.protocol.specs.declared.Stored.{Stored}
 use Rattle.protocol.specs.Layout.{geometryOf, blockSize}
-use Rattle.protocol.specs.Entry.{entryAt}
+use Rattle.protocol.specs.Entry.{entryAt, isModified}
 use Rattle.protocol.specs.Ring.{headOf, isSettled, findEntry, cached, currentOf}
 use Rattle.protocol.specs.Check.{refuse, _orElse_, fitRefusal, diskFits, diskRefusal, choiceFits}
 use Rattle.protocol.specs.Store.{Medium, card, disk, Store, Run, Work, madeOn, flat, made, storesOf, answerOf, afterOn}
 use Rattle.protocol.specs.Map.{mapBy, isMarked, mapOf, mapRefusal, sameMap, handedOn, mapAfter}
-use Rattle.protocol.specs.Commit.{numberOf, uncachedAt, entryFound, oldBlock, commitRuns, commitRefusal, commitWork}
+use Rattle.protocol.specs.Commit.{numberOf, uncachedAt, entryFound, oldBlock, overModified, commitRuns, commitRefusal, commitWork}
 use Rattle.protocol.specs.Recency.{isArranged, toFront, allToFront, turned}
 use Rattle.protocol.specs.Load.{pairRefusal}
 use Rattle.protocol.specs.Room.{victims, missing, roomRuns, roomLeft, roomRefusal, roomWork, tableAfterSave}
@@ -36,7 +36,7 @@ use Rattle.protocol.proofs.Stores.{made-append, flat-append, runs-past, runs-wi
 use Rattle.protocol.proofs.Words.{map-cong}
 use Rattle.checks.specs.Keys.{keyAt}
 use Rattle.recency.specs.Moved.{Places}
-use Rattle.plan.specs.Planned.{released, homeAt, NOWHERE, Homes}
+use Rattle.plan.specs.Planned.{previousOf, released, homeAt, NOWHERE, Homes}
 use Rattle.plan.proofs.Bounds.{Passed, passed, few-numbers, entry-below}
 use Rattle.plan.proofs.Count.{runs-count}
 use Rattle.plan.proofs.Order.{map-eq}
@@ -78,7 +78,7 @@ module _ (c d : List ℕ) (m : Map) (t ns bs ch es ps vs : List ℕ) (p : Making
 
   -- its work, its evictions, and the commit behind them
   abbrev work : Work
-  work = roomWork c d m t ns bs ch
+  work = roomWork 2 c d m t ns bs ch
 
   abbrev rs : List Run
   rs = roomRuns g c t ns
@@ -88,23 +88,23 @@ module _ (c d : List ℕ) (m : Map) (t ns bs ch es ps vs : List ℕ) (p : Making
 
   -- ---- what was passed
 
-  has-passed : RoomPassed g c t ns bs ch
-  has-passed = room-passed c d m t ns bs ch (v .passes)
+  has-passed : RoomPassed 2 g c t ns bs ch
+  has-passed = room-passed 2 c d m t ns bs ch (v .passes)
 
   whole : Intact g c
-  whole = intact c (has-passed .fit) (has-passed .undamaged)
+  whole = intact 2 2 c (omega arith) (omega arith) (has-passed .fit) (has-passed .undamaged)
 
   own-map : m ≡ mapBy (isMarked g c)
   unfolding roomRefusal mapRefusal mapOf
   own-map =
-      let rest = orElse-none (pairRefusal c d) _ (v .passes) .1 in
+      let rest = orElse-none (pairRefusal 2 c d) _ (v .passes) .1 in
       map-eq _ _ (refuse-none 15 _ (omega arith) (orElse-none (refuse 15 (sameMap m (mapBy (isMarked g c)))) _ rest .0))
 
   clearing : Clearing g c d ch vs (missing g c ns)
   unfolding roomRefusal pairRefusal diskRefusal diskFits choiceFits
   clearing =
-      let pair = orElse-none (pairRefusal c d) _ (v .passes) .0 in
-      let (three, seven) = orElse-none (diskRefusal g d) _ (orElse-none (fitRefusal c) _ pair .1) in
+      let pair = orElse-none (pairRefusal 2 c d) _ (v .passes) .0 in
+      let (three, seven) = orElse-none (diskRefusal g d) _ (orElse-none (fitRefusal 2 2 c) _ pair .1) in
       record {
         table = t;
         numbers = ns;
@@ -190,7 +190,7 @@ module _ (c d : List ℕ) (m : Map) (t ns bs ch es ps vs : List ℕ) (p : Making
         disk-left = did-all (y .disk) left-over ∙ ap (λ (z : List Run). madeOn disk (flat z) d) taken-room
 
         module _ (left : Map) (z : (q : ℕ → Bool) → m ≡ mapBy q → left ≡ mapBy (released q fs (p .count))) where
-          freed-is : (i : ℕ) → i < missing g c ns → getD fs i 0 ≡ entryAt g c (getD (victims g c t ns) i 0) .current
+          freed-is : (i : ℕ) → i < missing g c ns → previousOf (getD fs i 0) ≡ entryAt g c (getD (victims g c t ns) i 0) .current
           freed-is i h =
               x .freed i (subst (λ (b : ℕ). i < b) (sym (v .count)) h)
               ∙ (λ j. entryAt (v .geometry-is j) c (v .places i h j) .current)
@@ -209,25 +209,33 @@ module _ (c d : List ℕ) (m : Map) (t ns bs ch es ps vs : List ℕ) (p : Making
           found-is : (i : ℕ) → i < length ns → findEntry g c′ (numberOf ns i) ≡ findEntry g c (numberOf ns i)
           found-is = room-finds c d m t ns bs ch (v .passes)
 
+          -- by the same entries, or not at all
+          entry-is : (i : ℕ) → i < length ns
+              → ((cached g c (numberOf ns i) ≡ true) × (cached g c′ (numberOf ns i) ≡ true)
+              × (entryAt g c (findEntry g c (numberOf ns i)) ≡ entryAt g c′ (findEntry g c′ (numberOf ns i))))
+              ⊎ ((cached g c (numberOf ns i) ≡ false) × (cached g c′ (numberOf ns i) ≡ false))
+          unfolding cached
+          entry-is i h =
+              let same : ltb (findEntry g c′ (numberOf ns i)) (g .blocks) ≡ ltb (findEntry g c (numberOf ns i)) (g .blocks) =
+              ap (λ (q : ℕ). ltb q (g .blocks)) (found-is i h) in
+              ⊎-elim
+              (λ b.
+              inl (lt-ltb _ _ b, same ∙ lt-ltb _ _ b, sym (room-entry c d m t ns bs ch (v .passes) i h b) ∙ ap (entryAt g c′) (sym (found-is i h))))
+              (λ b. inr (le-ltb _ _ b, same ∙ le-ltb _ _ b))
+              (below-or-above (findEntry g c (numberOf ns i)) (g .blocks))
+
           homes-left : Homes g c′ ns es ps
-          unfolding homeAt cached oldBlock uncachedAt currentOf keyAt
+          unfolding homeAt cached oldBlock uncachedAt overModified currentOf keyAt
           homes-left = record {
             entries = λ i h.
                 v .homes .entries i h ∙ (λ j. cond (ltb (sym (found-is i h) j) (g .blocks)) (sym (found-is i h) j) NOWHERE);
-            previous = λ i h.
-                v .homes .previous i h
-                ∙ ⊎-elim
-                (λ b.
-                let on : ltb (findEntry g c (numberOf ns i)) (g .blocks) ≡ true = lt-ltb _ _ b in
-                let on′ : ltb (findEntry g c′ (numberOf ns i)) (g .blocks) ≡ true = ap (λ (q : ℕ). ltb q (g .blocks)) (found-is i h) ∙ on in
-                rw (on, on′)
-                (ap (λ (u : Entry). u .current)
-                (sym (room-entry c d m t ns bs ch (v .passes) i h b) ∙ ap (entryAt g c′) (sym (found-is i h)))))
-                (λ b.
-                let off : ltb (findEntry g c (numberOf ns i)) (g .blocks) ≡ false = le-ltb _ _ b in
-                let off′ : ltb (findEntry g c′ (numberOf ns i)) (g .blocks) ≡ false = ap (λ (q : ℕ). ltb q (g .blocks)) (found-is i h) ∙ off in
-                rw (off, off′))
-                (below-or-above (findEntry g c (numberOf ns i)) (g .blocks));
+            replaced = record {
+              previous = λ i h.
+                  v .homes .replaced .previous i h
+                  ∙ ⊎-elim (λ b. rw (b .0, b .1) (ap (λ (u : Entry). u .current) (b .2))) (λ b. rw (b .0, b .1)) (entry-is i h);
+              over = λ i h.
+                  v .homes .replaced .over i h ∙ ⊎-elim (λ b. rw (b .0, b .1) (ap isModified (b .2))) (λ b. rw (b .0, b .1)) (entry-is i h);
+            };
             long = v .homes .long;
           }
 
@@ -238,7 +246,7 @@ module _ (c d : List ℕ) (m : Map) (t ns bs ch es ps vs : List ℕ) (p : Making
           make-savable = record {
             own = own-left;
             head = v .head-is ∙ sym (room-head c d m t ns bs ch (v .passes)) ∙ ap headOf (sym card-left);
-            passes = (λ i. commitRefusal (card-left i) (left-is i) ns bs ch) ∙ room-commit c d m t ns bs ch (v .passes);
+            passes = (λ i. commitRefusal 2 (card-left i) (left-is i) ns bs ch) ∙ room-commit c d m t ns bs ch (v .passes);
             homes =
                 subst (λ (b : List ℕ). Homes (p .geometry) b ns es ps) (sym card-left)
                 (subst (λ (b : Geometry). Homes b c′ ns es ps) (sym (v .geometry-is)) homes-left);
@@ -252,7 +260,7 @@ module _ (c d : List ℕ) (m : Map) (t ns bs ch es ps vs : List ℕ) (p : Making
             entries-are i h = w .entries i h ∙ (λ j. entryFound ((sym own-left ∙ v .geometry-is) j) (card-left j) ns i)
 
             saving : Work
-            saving = commitWork c₁ left ns bs ch
+            saving = commitWork 2 c₁ left ns bs ch
 
             save-none : saving .refusal ≡ 0
             unfolding saving commitWork
@@ -333,7 +341,7 @@ module _ (c d : List ℕ) (m : Map) (t ns bs ch es ps vs : List ℕ) (p : Making
             unfolding saving
             make-places = (has-passed .arranged, few, placed, small)
               where
-                past : RoomPassed g c t ns bs ch
+                past : RoomPassed 2 g c t ns bs ch
                 past = has-passed
 
                 fine : Passed g c′ ns bs

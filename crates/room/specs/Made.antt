@@ -19,7 +19,7 @@ use Rattle.protocol.specs.Load.{evictRuns}
 use Rattle.protocol.specs.Room.{isAmong, victims, missing, enoughVictims, roomRefusal}
 use Rattle.plan.specs.declared.Basis.{Basis}
 use Rattle.plan.specs.Met.{metRefusal, Searchable}
-use Rattle.plan.specs.Planned.{Homes}
+use Rattle.plan.specs.Planned.{previousOf, Homes}
 use Rattle.plan.specs.Request.{choiceRoom, requestRefusal}
 use Rattle.room.specs.declared.Selection.{Selection}
 use Rattle.room.specs.declared.Making.{Making}
@@ -60,7 +60,7 @@ pub record Clearing (g : Geometry) (c d ch vs : List ℕ) (n : ℕ) : Type 0 whe
   pub table : List ℕ
   pub numbers : List ℕ
   pub own : g ≡ geometryOf c
-  pub fit : fitRefusal c ≡ 0
+  pub fit : fitRefusal 2 2 c ≡ 0
   pub whole : cardRefusal g c ≡ 0
   pub arranged : isArranged table ≡ true
   pub enough : n ≤ length (victims g c table numbers)
@@ -68,15 +68,15 @@ pub record Clearing (g : Geometry) (c d ch vs : List ℕ) (n : ℕ) : Type 0 whe
   pub disk : length d ≡ diskLength g
   pub wide : blockSize g / 8 ≤ length ch
 
--- the stores of these evictions, counted, and the data blocks that they free
+-- the stores of these evictions, counted, and the data blocks that they free, as a plan names what it replaces
 pub record Weighed (g : Geometry) (c vs : List ℕ) (n : ℕ) (fs : List ℕ) (r : ℕ) : Type 0 where
   pub stores : r ≡ length (flat (takenRuns g c vs n))
-  pub freed : (i : ℕ) → i < n → getD fs i 0 ≡ entryAt g c (getD vs i 0) .current
+  pub freed : (i : ℕ) → i < n → previousOf (getD fs i 0) ≡ entryAt g c (getD vs i 0) .current
   pub most : r ≤ 9 * n
 
 -- all refusals, and where there is none all that making it starts from
 pub record Prepared (c d : List ℕ) (m : Map) (t ns : List ℕ) (size room : ℕ) (es ps vs : List ℕ) (r : Making) : Type 0 where
-  pub refusal-is : (bs ch : List ℕ) → length bs ≡ size → choiceRoom ch ≡ room → r .refusal ≡ roomRefusal c d m t ns bs ch
+  pub refusal-is : (bs ch : List ℕ) → length bs ≡ size → choiceRoom ch ≡ room → r .refusal ≡ roomRefusal 2 c d m t ns bs ch
   pub geometry-is : r .refusal ≡ 0 → r .geometry ≡ geometryOf c
   pub head-is : r .refusal ≡ 0 → r .head ≡ headOf c
   pub homes : r .refusal ≡ 0 → Homes (geometryOf c) c ns es ps
@@ -85,7 +85,7 @@ pub record Prepared (c d : List ℕ) (m : Map) (t ns : List ℕ) (size room : �
 
 -- a room-making commit that is not refused, with its victims and where its numbers are cached
 pub record Makeable (c d : List ℕ) (m : Map) (t ns bs ch es ps vs : List ℕ) (r : Making) : Type 0 where
-  pub passes : roomRefusal c d m t ns bs ch ≡ 0
+  pub passes : roomRefusal 2 c d m t ns bs ch ≡ 0
   pub geometry-is : r .geometry ≡ geometryOf c
   pub head-is : r .head ≡ headOf c
   pub homes : Homes (geometryOf c) c ns es ps

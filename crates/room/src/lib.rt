@@ -124,10 +124,10 @@ fn choose(
     table: &[u8],
     numbers: &[u64],
     entries: &mut [u8; 128],
-    previous: &mut [u8; 128],
+    previous: &mut [u16; 128],
     victims: &mut [u8; 128],
 ) -> Selection
-    requires { ⌜ (x .geometry ≡ geometryOf (now card)) × (fitRefusal (now card) ≡ 0) × ((m : Map) × Searchable (x .geometry) (now card) (x .head) (now index) m (x .free)) × (numbersFit (x .geometry) (now numbers) ≡ true) × (isArranged (now table) ≡ true) × (length (now entries) ≡ 128) × (length (now previous) ≡ 128) × (length (now victims) ≡ 128) ⌝ }
+    requires { ⌜ (x .geometry ≡ geometryOf (now card)) × (fitRefusal 2 2 (now card) ≡ 0) × ((m : Map) × Searchable (x .geometry) (now card) (x .head) (now index) m (x .free)) × (numbersFit (x .geometry) (now numbers) ≡ true) × (isArranged (now table) ≡ true) × (length (now entries) ≡ 128) × (length (now previous) ≡ 128) × (length (now victims) ≡ 128) ⌝ }
     ensures { λ r. ⌜ Chosen (x .geometry) (now (card .entry)) (now (table .entry)) (now (numbers .entry)) (now (entries .exit)) (now (previous .exit)) (now (victims .exit)) r ⌝ }
 {
     let n = numbers.len();
@@ -155,7 +155,7 @@ fn choose(
 }
 
 // The count of the evictions' stores, and the data blocks that they free.
-fn weigh(g: Geometry, card: &[u8], victims: &[u8; 128], count: usize, freed: &mut [u8; 128]) -> u64
+fn weigh(g: Geometry, card: &[u8], victims: &[u8; 128], count: usize, freed: &mut [u16; 128]) -> u64
     requires { ⌜ Fitted g (now card) × ((d ch : List ℕ) × Clearing g (now card) d ch (now victims) count) × (length (now freed) ≡ 128) ⌝ }
     ensures { λ r. ⌜ Weighed g (now (card .entry)) (now (victims .entry)) count (now (freed .exit)) r ⌝ }
 {
@@ -163,7 +163,7 @@ fn weigh(g: Geometry, card: &[u8], victims: &[u8; 128], count: usize, freed: &mu
     let mut k: usize = 0;
     while k < count {
         let e = checks::entry_of(g, card, wide(victims[k]));
-        freed[k] = e.current as u8;
+        freed[k] = e.current as u16;
         stores += transfer::evict_count(g, e);
         k += 1;
     }
@@ -215,7 +215,7 @@ fn prepare(
     size: usize,
     room: usize,
     entries: &mut [u8; 128],
-    previous: &mut [u8; 128],
+    previous: &mut [u16; 128],
     victims: &mut [u8; 128],
 ) -> Making
     requires { ⌜ (length (now entries) ≡ 128) × (length (now previous) ≡ 128) × (length (now victims) ≡ 128) ⌝ }
@@ -286,17 +286,17 @@ fn make(
     numbers: &[u64],
     data: &[u8],
     entries: &mut [u8; 128],
-    previous: &[u8; 128],
+    previous: &[u16; 128],
     victims: &[u8; 128],
     choice: &[u8],
     allowance: u64,
 ) -> Stored
     requires { ⌜ Makeable (now card) (now disk) map (now table) (now numbers) (now «data») (now choice) (now entries) (now previous) (now victims) p ⌝ }
-    ensures media { λ r. ⌜ Finished (roomWork (now (card .entry)) (now (disk .entry)) map (now (table .entry)) (now (numbers .entry)) (now («data» .entry)) (now (choice .entry))) allowance map (now (card .entry)) (now (card .exit)) (now (disk .entry)) (now (disk .exit)) r ⌝ }
+    ensures media { λ r. ⌜ Finished (roomWork 2 (now (card .entry)) (now (disk .entry)) map (now (table .entry)) (now (numbers .entry)) (now («data» .entry)) (now (choice .entry))) allowance map (now (card .entry)) (now (card .exit)) (now (disk .entry)) (now (disk .exit)) r ⌝ }
     ensures table { λ r. ⌜ now (table .exit) ≡ tableAfterSave allowance (now (card .entry)) (now (disk .entry)) map (now (table .entry)) (now (numbers .entry)) (now («data» .entry)) (now (choice .entry)) ⌝ }
 {
     let g = p.geometry;
-    let mut freed = [0u8; 128];
+    let mut freed = [0u16; 128];
     let count = weigh(g, card, victims, p.count, &mut freed);
     let credit = stores::credit(count, allowance);
     clear(g, card, disk, victims, p.count, choice, credit);
@@ -332,11 +332,11 @@ pub fn commit(
     choice: &[u8],
     allowance: u64,
 ) -> Stored
-    ensures media { λ r. ⌜ Finished (roomWork (now (card .entry)) (now (disk .entry)) map (now (table .entry)) (now (numbers .entry)) (now («data» .entry)) (now (choice .entry))) allowance map (now (card .entry)) (now (card .exit)) (now (disk .entry)) (now (disk .exit)) r ⌝ }
+    ensures media { λ r. ⌜ Finished (roomWork 2 (now (card .entry)) (now (disk .entry)) map (now (table .entry)) (now (numbers .entry)) (now («data» .entry)) (now (choice .entry))) allowance map (now (card .entry)) (now (card .exit)) (now (disk .entry)) (now (disk .exit)) r ⌝ }
     ensures table { λ r. ⌜ now (table .exit) ≡ tableAfterSave allowance (now (card .entry)) (now (disk .entry)) map (now (table .entry)) (now (numbers .entry)) (now («data» .entry)) (now (choice .entry)) ⌝ }
 {
     let mut entries = [0u8; 128];
-    let mut previous = [0u8; 128];
+    let mut previous = [0u16; 128];
     let mut victims = [0u8; 128];
     let p = prepare(
         card,

@@ -42,7 +42,12 @@ fn placed(fd: i32, before: &[u8], i: u64, after: &[u8]) {
 
 fn entries(fd: i32, f: Fault) {
     match f {
-        Fault::Flags(i) => placed(fd, b"the flag byte of entry ", i, b" is not 80, 82 or 83"),
+        Fault::Flags(i) => placed(
+            fd,
+            b"the flag byte of entry ",
+            i,
+            b" is not 80, 82 or 83, nor with version 2 86 or 87",
+        ),
         Fault::NotZero(i) => placed(fd, b"entry ", i, b" has flag byte 00 and is not all zero"),
         Fault::Number(i) => placed(fd, b"the number of entry ", i, b" is not below D"),
         Fault::Current(i) => placed(fd, b"the current block of entry ", i, b" is not below N"),
@@ -80,11 +85,25 @@ fn ring(fd: i32, f: Fault) {
     }
 }
 
-fn header(fd: i32, f: Fault) {
+// What a call that takes versions from low to high wants.
+fn version(fd: i32, low: u64, high: u64) {
+    if low != high {
+        say(fd, b"the version is neither 1 nor 2");
+    } else if high == 1 {
+        say(fd, b"the version is not 1");
+    } else {
+        say(
+            fd,
+            b"the version is not 2, and a card of version 1 must be upgraded first",
+        );
+    }
+}
+
+fn header(fd: i32, f: Fault, low: u64, high: u64) {
     match f {
         Fault::Short => say(fd, b"the card has under 128 bytes"),
         Fault::HeaderLength => say(fd, b"the header's length is not 64"),
-        Fault::Version => say(fd, b"the version is not 1"),
+        Fault::Version => version(fd, low, high),
         Fault::K => say(fd, b"k is not from 9 to 12"),
         Fault::Slots => say(fd, b"S is not a multiple of 8 from 8 to 256"),
         Fault::Blocks => say(fd, b"N is not a multiple of 4 from 4 to 128"),
@@ -94,10 +113,10 @@ fn header(fd: i32, f: Fault) {
     }
 }
 
-// A refusal with its number and the fault behind it, in one line.
-pub fn fault(fd: i32, number: u8, f: Fault) {
+// A refusal by a call that takes versions from low to high, with its number and the fault behind it, in one line.
+pub fn fault(fd: i32, number: u8, f: Fault, low: u64, high: u64) {
     lead(fd, number);
-    header(fd, f);
+    header(fd, f, low, high);
     cause(fd, number);
 }
 

@@ -19,7 +19,7 @@ ghost use Prim.Native.Nat.{_≤_, _<_};
 
 // Says so where the file is not as long as its header asks.
 fn match_header(path: &[u8], card: &[u8]) {
-    match faults::fault_of(card) {
+    match faults::fault_of(card, 1, 2) {
         Fault::Length(long) => {
             err(path);
             err(b": ");
@@ -84,9 +84,9 @@ fn from_disk(path: &[u8], fd: i32, b: u64, at: usize, size: usize)
 // A refusal of a card over a disk: 3 is the disk's.
 fn refuse_pair(name: &[u8], path: &[u8], card: &[u8], r: u8) {
     if r == 3 {
-        refuse(path, card, r);
+        refuse(path, card, 2, 2, r);
     } else {
-        refuse(name, card, r);
+        refuse(name, card, 2, 2, r);
     }
 }
 
@@ -94,7 +94,7 @@ fn refuse_pair(name: &[u8], path: &[u8], card: &[u8], r: u8) {
 fn find(name: &[u8], card: &[u8], path: &[u8], fd: i32, long: u64, b: u64) {
     match lookup::find_in(card, long, b) {
         Found::Refused(r) => refuse_pair(name, path, card, r),
-        Found::Outside(_) => refuse(name, card, 10),
+        Found::Outside(_) => refuse(name, card, 2, 2, 10),
         Found::Card(at, size, _) => {
             held(b, b"card", at);
             listing::block(&card[at..at + size]);
@@ -138,7 +138,7 @@ pub fn block(path: &[u8], disk: &[u8], b: u64) {
     }
 }
 
-// What became of a recovery's stores.
+// What became of a recovery's stores, or an upgrade's.
 fn told(path: &[u8], r: Repair) {
     if r.failed {
         err(path);
@@ -171,7 +171,7 @@ fn read_back(path: &[u8], fd: i32, card: &mut [u8]) {
 fn repair(path: &[u8], fd: i32, card: &mut [u8], allowance: u64) {
     let s = recovery::examine(card);
     if s.refusal != 0 {
-        refuse(path, card, s.refusal);
+        refuse(path, card, 1, 2, s.refusal);
         return;
     }
     say(STDOUT_FILENO, b"recovery stores\n");
@@ -181,7 +181,31 @@ fn repair(path: &[u8], fd: i32, card: &mut [u8], allowance: u64) {
     read_back(path, fd, card);
 }
 
-pub fn recover(path: &[u8], allowance: u64) {
+// Shows upgrade's store, makes it, and tells the condition of the card as the file now has it.
+fn renew(path: &[u8], fd: i32, card: &mut [u8], allowance: u64) {
+    let s = upgrade::examine(card);
+    if s.refusal != 0 {
+        refuse(path, card, 1, 1, s.refusal);
+        return;
+    }
+    say(STDOUT_FILENO, b"upgrade stores\n");
+    listing::version(s.geometry);
+    let r = image::upgrade(fd, card, allowance);
+    told(path, r);
+    read_back(path, fd, card);
+}
+
+// One of the two, on the card that was read from the file.
+fn change(path: &[u8], fd: i32, card: &mut [u8], anew: bool, allowance: u64) {
+    if anew {
+        renew(path, fd, card, allowance);
+    } else {
+        repair(path, fd, card, allowance);
+    }
+}
+
+// Opens the card's file for writing and upgrades or recovers it.
+pub fn update(path: &[u8], anew: bool, allowance: u64) {
     if is_special(path) {
         return;
     }
@@ -195,7 +219,7 @@ pub fn recover(path: &[u8], allowance: u64) {
     let n = got.count;
     if !got.failed {
         if is_long_enough(path, n) {
-            repair(path, fd, &mut buf[..n], allowance);
+            change(path, fd, &mut buf[..n], anew, allowance);
         }
     }
     libc::close(fd);
@@ -212,14 +236,14 @@ fn make(path: &[u8], g: Geometry, card: &mut [u8]) {
                 say(STDOUT_FILENO, b" bytes\n");
             }
         }
-        Outcome::Refused(r) => refuse(path, card, r),
+        Outcome::Refused(r) => refuse(path, card, 1, 2, r),
     }
 }
 
 fn misfit(path: &[u8], g: Geometry) {
     err(path);
     err(b": ");
-    sentence::fault(STDERR_FILENO, 1, faults::geometry_fault(g));
+    sentence::fault(STDERR_FILENO, 1, faults::geometry_fault(g), 1, 2);
 }
 
 pub fn format(path: &[u8], g: Geometry) {

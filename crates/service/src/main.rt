@@ -1,4 +1,4 @@
-// Shows a card image, reads a block of it, foresees a save to it, recovers it, makes a new one. Files, arguments and their errors are here; what
+// Shows a card image, reads a block of it, foresees a save to it, recovers it, upgrades it, makes a new one. Files, arguments and their errors are here; what
 // is told and stored comes from functions with contracts.
 mod files;
 mod words;
@@ -11,6 +11,7 @@ fn usage() {
     listing::say(STDERR_FILENO, b"       service block CARD DISK NUMBER\n");
     listing::say(STDERR_FILENO, b"       service preview CARD NUMBER...\n");
     listing::say(STDERR_FILENO, b"       service recover CARD [ALLOWANCE]\n");
+    listing::say(STDERR_FILENO, b"       service upgrade CARD [ALLOWANCE]\n");
     listing::say(STDERR_FILENO, b"       service format CARD K S N D\n");
     listing::say(
         STDERR_FILENO,
@@ -24,7 +25,8 @@ fn run(word: Word, count: usize) -> bool {
         Word::Show => (count == 3) && words::show(),
         Word::Block => (count == 5) && words::block(),
         Word::Preview => (3 <= count) && words::preview(count),
-        Word::Recover => (count == 3 || count == 4) && words::recover(count),
+        Word::Recover => (count == 3 || count == 4) && words::update(count, false),
+        Word::Upgrade => (count == 3 || count == 4) && words::update(count, true),
         Word::Format => (count == 7) && words::format(),
         Word::Other => false,
     }

@@ -11,6 +11,7 @@ pub enum Word {
     Block,
     Preview,
     Recover,
+    Upgrade,
     Format,
     Other,
 }
@@ -27,6 +28,9 @@ fn spoken(s: &[u8]) -> Word {
     }
     if text::same(s, b"recover") {
         return Word::Recover;
+    }
+    if text::same(s, b"upgrade") {
+        return Word::Upgrade;
     }
     if text::same(s, b"format") {
         return Word::Format;
@@ -81,7 +85,7 @@ pub fn preview(count: usize) -> bool {
     true
 }
 
-// Without an allowance recovery is made in full.
+// Without an allowance a recovery or an upgrade is made in full.
 fn allowance(count: usize) -> Parsed {
     if count == 3 {
         return Parsed::Number(0xFFFF_FFFF_FFFF_FFFF);
@@ -89,14 +93,15 @@ fn allowance(count: usize) -> Parsed {
     number(3)
 }
 
-pub fn recover(count: usize) -> bool {
+// A recovery, or an upgrade.
+pub fn update(count: usize, anew: bool) -> bool {
     let Parsed::Number(a) = allowance(count) else {
         return false;
     };
     let mut path = io::buffer();
     let n = os::arg(2, &mut path);
     if is_whole(b"CARD") {
-        files::recover(&path[..n], a);
+        files::update(&path[..n], anew, a);
     }
     true
 }

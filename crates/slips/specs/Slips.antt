@@ -5,7 +5,7 @@ use Prim.Native.Nat.{ℕ, _+_}
 use mathlib.Core.List.{List, [], _∷_, _++_}
 use mathlib.Core.Bool.{Bool, true, cond, _&&_}
 use mathlib.Core.Path.{_≡_}
-use lib.ListN.{replicate}
+use lib.ListN.{length, replicate}
 use lib.Dec.{eqb}
 use Rattle.protocol.specs.declared.Entry.{Entry}
 use Rattle.protocol.specs.declared.Geometry.{Geometry}
@@ -14,7 +14,7 @@ use Rattle.protocol.specs.Entry.{FRESH, entryOf, unused, entryAt}
 use Rattle.protocol.specs.Ring.{headOf, inWindow, usedAt, undoableAt, findEntry}
 use Rattle.protocol.specs.Store.{card, disk, Run, madeOn, flat, made, words, entryStore, tailStore, single}
 use Rattle.protocol.specs.Commit.{newBlock, entryFound, oldBlock, blockRuns, commitRuns}
-use Rattle.protocol.specs.Load.{loadRuns, writeBack}
+use Rattle.protocol.specs.Load.{loadRuns, writeBack, evictRuns}
 use Rattle.protocol.specs.Recover.{ifChanging, recoverRuns}
 use Rattle.protocol.specs.History.{Media, run}
 use Rattle.protocol.specs.Example.{tiny, start, saved, ample, firstByte}
@@ -54,14 +54,15 @@ recoveryBy picked undo m =
 unfoldable pub inWindowOnly : Geometry → List ℕ → ℕ → Bool
 inWindowOnly g c i = usedAt g c i && inWindow g c (entryAt g c i .number)
 
-unfoldable pub undoneRight : Entry → Entry
-undoneRight e = cond (eqb (e .previous) FRESH) unused (entryOf 0x82 (e .number) (e .previous) (e .previous))
+-- document 01's undo, which is version 1's
+unfoldable pub undoneModified : Entry → Entry
+undoneModified e = cond (eqb (e .previous) FRESH) unused (entryOf 0x82 (e .number) (e .previous) (e .previous))
 
 -- "Setting previous to FRESH .. when undoing"
 unfoldable pub undoneFresh : Entry → Entry
 undoneFresh e = cond (eqb (e .previous) FRESH) unused (entryOf 0x82 (e .number) FRESH (e .previous))
 
--- "Undoing to a clean flag"
+-- "Undoing to a clean flag": 87 to 80
 unfoldable pub undoneClean : Entry → Entry
 undoneClean e = cond (eqb (e .previous) FRESH) unused (entryOf 0x80 (e .number) (e .previous) (e .previous))
 
@@ -101,10 +102,21 @@ fencedLoad m = loadRuns tiny (m .onCard) (m .onDisk) 0
 unfoldable pub lastAlone : (Media → List Run) → Media → Media
 lastAlone f m = stepped 0 (replicate 64 0 ++ (1 ∷ [])) (f m) m
 
+-- block 0 loaded, so that it is clean, and a save of 8 over it
+unfoldable pub loaded : Media
+loaded = then ample fencedLoad start
+
+unfoldable pub savingClean : Media → List Run
+savingClean m = commitRuns tiny (m .onCard) (0 ∷ []) (replicate 512 8)
+
+-- the stores of its eviction after the save is cut behind its entry and recovered
+unfoldable pub evictedAfter : (Media → List Run) → ℕ
+evictedAfter f = length (flat (evictRuns tiny (then ample f (then 65 savingClean loaded) .onCard) 0))
+
 -- what is read of a block afterwards is not the 7 that was saved
 pub record Lost : Type 0 where
   -- cut after the second block's entry: the window has only the first number, and 8 is read of block 3
-  pub windowOnly : firstByte (then ample (recoveryBy inWindowOnly undoneRight) (then 133 saving before)) 3 ≡ 8
+  pub windowOnly : firstByte (then ample (recoveryBy inWindowOnly undoneModified) (then 133 saving before)) 3 ≡ 8
   -- cut before Tail's store: the old version is forgotten, and the disk's 1 is read
   pub switchFresh : firstByte (then ample recovering (then ample switchingFresh before)) 2 ≡ 1
   -- recovery cut after its first store, and recovered again
@@ -112,6 +124,8 @@ pub record Lost : Type 0 where
       firstByte (then ample (recoveryBy undoableAt undoneFresh) (then 1 (recoveryBy undoableAt undoneFresh) (then 136 saving before))) 2 ≡ 1
   -- the older version was modified, and an evict does not write it
   pub undoClean : firstByte (then ample evicting (then ample (recoveryBy undoableAt undoneClean) (then 136 saving before))) 2 ≡ 1
+  -- version 1's undo on a version 2 card, 83 to 82: the clean block's sector goes to the disk for nothing; by the card's own rule only its entry is zeroed
+  pub undoDirty : evictedAfter (recoveryBy undoableAt undoneModified) ∷ evictedAfter recovering ∷ [] ≡ 2 ∷ 1 ∷ []
   -- cut in the second block's words: block 2 is undone to a block that was written over
   pub reused : firstByte (then ample recovering (thenAll 100 reusing before)) 2 ≡ 8
   -- cut after the entry is zeroed

@@ -12,7 +12,7 @@ use Rattle.numbers.specs.Post.{Number}
 use Rattle.protocol.specs.declared.Geometry.{Geometry}
 use Rattle.protocol.specs.declared.Entry.{Entry}
 use Rattle.protocol.specs.Below.{anyBelow, around}
-use Rattle.protocol.specs.Layout.{geometryOf, entryPlace}
+use Rattle.protocol.specs.Layout.{geometryOf, versionOf, entryPlace}
 use Rattle.protocol.specs.Entry.{entryIn, entryAt, isUnused, goodEntry}
 use Rattle.protocol.specs.Ring.{headOf, tailOf, windowOf, windowNumber, usedAt, undoableAt, settledBlock}
 use Rattle.protocol.specs.Check.{headerFits, goodEntryAt, fitRefusal}
@@ -64,35 +64,35 @@ module _ (c : List ℕ) (at w : ℕ) where
 
 -- ---- the window
 
-pub known-unfit : (c : List ℕ) (f : ℕ) → f ≡ fitRefusal c → (f ≡ 0 → ⊥) → false ≡ ringKnown c
+pub known-unfit : (c : List ℕ) (f : ℕ) → f ≡ fitRefusal 1 2 c → (f ≡ 0 → ⊥) → false ≡ ringKnown c
 unfolding ringKnown
-known-unfit c f e h = rw (ne-eqb (fitRefusal c) 0 (λ z. h (e ∙ z)))
+known-unfit c f e h = rw (ne-eqb (fitRefusal 1 2 c) 0 (λ z. h (e ∙ z)))
 
-pub known-told : (c : List ℕ) (f : ℕ) (g : Geometry) (h t : ℕ) → f ≡ fitRefusal c → f ≡ 0 → g ≡ geometryOf c → h ≡ headOf c → t ≡ tailOf c
+pub known-told : (c : List ℕ) (f : ℕ) (g : Geometry) (h t : ℕ) → f ≡ fitRefusal 1 2 c → f ≡ 0 → g ≡ geometryOf c → h ≡ headOf c → t ≡ tailOf c
     → ltb h (g .slots) && ltb t (g .slots) ≡ ringKnown c
 unfolding ringKnown
 known-told c f g h t e z eg eh et =
-    rw (eq-eqb (fitRefusal c) 0 (sym e ∙ z)) (λ k. ltb (eh k) (eg k .slots) && ltb (et k) (eg k .slots))
+    rw (eq-eqb (fitRefusal 1 2 c) 0 (sym e ∙ z)) (λ k. ltb (eh k) (eg k .slots) && ltb (et k) (eg k .slots))
 
 module _ (c : List ℕ) (r : Bool) (e : r ≡ ringKnown c) (h : not r ≡ false) where
   known-yes : ringKnown c ≡ true
   known-yes = sym e ∙ not-false r h
 
-  known-fit : 0 ≡ fitRefusal c
+  known-fit : 0 ≡ fitRefusal 1 2 c
   unfolding ringKnown
-  known-fit = sym (eqb-true (fitRefusal c) 0 (and-left (eqb (fitRefusal c) 0) _ known-yes))
+  known-fit = sym (eqb-true (fitRefusal 1 2 c) 0 (and-left (eqb (fitRefusal 1 2 c) 0) _ known-yes))
 
   pub known-long : 128 ≤ length c
-  known-long = fit-long c 0 known-fit refl
+  known-long = fit-long 1 2 c 0 known-fit refl
 
   pub known-fitted : (g : Geometry) → g ≡ geometryOf c → Fitted g c
-  known-fitted g q = fit-fitted c g 0 known-fit refl q
+  known-fitted g q = fit-fitted 1 2 c g 0 known-fit refl q
 
   pub known-placed : (g : Geometry) → g ≡ geometryOf c → Placed g c
   unfolding ringKnown
   known-placed g q =
       let s : ℕ = geometryOf c .slots in
-      let both = and-right (eqb (fitRefusal c) 0) (ltb (headOf c) s && ltb (tailOf c) s) known-yes in
+      let both = and-right (eqb (fitRefusal 1 2 c) 0) (ltb (headOf c) s && ltb (tailOf c) s) known-yes in
       record {
         head = rw q (ltb-true _ _ (and-left (ltb (headOf c) s) (ltb (tailOf c) s) both));
         tail = rw q (ltb-true _ _ (and-right (ltb (headOf c) s) (ltb (tailOf c) s) both));
@@ -124,7 +124,7 @@ module _ (c : List ℕ) (g : Geometry) (w : Window) (j : ℕ) (q : g ≡ geometr
 
 -- the line of the entry e
 lineFor : Geometry → List ℕ → Entry → Bool → ℕ → Line
-lineFor g c e v s = cond (isUnused e) Unused (cond (ringKnown c && goodEntry (g .blocks) (g .disk) e) (Full e v s) (Raw e))
+lineFor g c e v s = cond (isUnused e) Unused (cond (ringKnown c && goodEntry (versionOf c) (g .blocks) (g .disk) e) (Full e v s) (Raw e))
 
 module _ (g : Geometry) (c : List ℕ) (i : ℕ) (e : Entry) (u : Bool) (is : e ≡ entryAt g c i) (none : u ≡ isUnused e) where
   line-is : lineFor g c e (undoableEntry g c e) (cond (undoableEntry g c e) (e .previous) (e .current)) ≡ lineIn g c i
@@ -135,33 +135,38 @@ module _ (g : Geometry) (c : List ℕ) (i : ℕ) (e : Entry) (u : Bool) (is : e 
   unfolding lineFor
   line-unused t = pick-true (isUnused e) _ _ (sym none ∙ t) ∙ line-is
 
-  line-raw : u ≡ false → ringKnown c && goodEntry (g .blocks) (g .disk) e ≡ false → Raw e ≡ lineIn g c i
+  line-raw : u ≡ false → ringKnown c && goodEntry (versionOf c) (g .blocks) (g .disk) e ≡ false → Raw e ≡ lineIn g c i
   unfolding lineFor
-  line-raw t h = pick-false (ringKnown c && goodEntry (g .blocks) (g .disk) e) _ _ h ∙ pick-false (isUnused e) _ _ (sym none ∙ t) ∙ line-is
+  line-raw t h = pick-false (ringKnown c && goodEntry (versionOf c) (g .blocks) (g .disk) e) _ _ h ∙ pick-false (isUnused e) _ _ (sym none ∙ t) ∙ line-is
 
-  pub line-bad : (ok : Bool) → u ≡ false → ok ≡ goodEntry (g .blocks) (g .disk) e → not ok ≡ true → Raw e ≡ lineIn g c i
-  line-bad ok t p h = line-raw t (and-fails (ringKnown c) _ (sym p ∙ not-true ok h))
+  module _ (n : ℕ) (version : n ≡ versionOf c) (ok : Bool) (good : ok ≡ goodEntry n (g .blocks) (g .disk) e) where
+    allowed-is : ok ≡ goodEntry (versionOf c) (g .blocks) (g .disk) e
+    allowed-is = good ∙ ap (λ (x : ℕ). goodEntry x (g .blocks) (g .disk) e) version
+
+    pub line-bad : u ≡ false → not ok ≡ true → Raw e ≡ lineIn g c i
+    line-bad t h = line-raw t (and-fails (ringKnown c) _ (sym allowed-is ∙ not-true ok h))
+
+    pub line-full : (k v : Bool) (s : ℕ) → u ≡ false → not ok ≡ false → k ≡ ringKnown c → not k ≡ false → v ≡ undoableEntry g c e
+        → s ≡ cond v (e .previous) (e .current) → Full e v s ≡ lineIn g c i
+    unfolding lineFor
+    line-full k v s t h q l ev es =
+        (λ x. Full e (ev x) ((es ∙ ap (λ (b : Bool). cond b (e .previous) (e .current)) ev) x))
+        ∙ pick-true (ringKnown c && goodEntry (versionOf c) (g .blocks) (g .disk) e) _ _
+        (and-both (known-yes c k q l) (sym allowed-is ∙ not-false ok h))
+        ∙ pick-false (isUnused e) _ _ (sym none ∙ t)
+        ∙ line-is
 
   pub line-unknown : (k : Bool) → u ≡ false → k ≡ ringKnown c → not k ≡ true → Raw e ≡ lineIn g c i
   line-unknown k t p h = let off : ringKnown c ≡ false = sym p ∙ not-true k h in line-raw t (rw off)
 
-  pub line-full : (ok k v : Bool) (s : ℕ) → u ≡ false → ok ≡ goodEntry (g .blocks) (g .disk) e → not ok ≡ false → k ≡ ringKnown c
-      → not k ≡ false → v ≡ undoableEntry g c e → s ≡ cond v (e .previous) (e .current) → Full e v s ≡ lineIn g c i
-  unfolding lineFor
-  line-full ok k v s t p h q l ev es =
-      (λ x. Full e (ev x) ((es ∙ ap (λ (b : Bool). cond b (e .previous) (e .current)) ev) x))
-      ∙ pick-true (ringKnown c && goodEntry (g .blocks) (g .disk) e) _ _ (and-both (known-yes c k q l) (sym p ∙ not-false ok h))
-      ∙ pick-false (isUnused e) _ _ (sym none ∙ t)
-      ∙ line-is
-
-pub line-headless : (c : List ℕ) (i : ℕ) (r : Bool) → r ≡ headerFits c → not r ≡ true → NoLine ≡ lineOf c i
+pub line-headless : (c : List ℕ) (i : ℕ) (r : Bool) → r ≡ headerFits 1 2 c → not r ≡ true → NoLine ≡ lineOf c i
 unfolding lineOf reaches
-line-headless c i r e h = let off : headerFits c ≡ false = sym e ∙ not-true r h in rw off
+line-headless c i r e h = let off : headerFits 1 2 c ≡ false = sym e ∙ not-true r h in rw off
 
 module _ (c : List ℕ) (g : Geometry) (i : ℕ) (q : g ≡ geometryOf c) where
   pub line-none : g .blocks ≤ i → NoLine ≡ lineOf c i
   unfolding lineOf reaches
-  line-none l = pick-false (reaches c i) _ _ (and-fails (headerFits c) _ (rw (le-ltb i (geometryOf c .blocks) (rw q at l))))
+  line-none l = pick-false (reaches c i) _ _ (and-fails (headerFits 1 2 c) _ (rw (le-ltb i (geometryOf c .blocks) (rw q at l))))
 
   module _ (at : ℕ) (place : at ≡ entryPlace g i) where
     line-end : at + 16 ≡ entryPlace (geometryOf c) i + 16
@@ -171,14 +176,14 @@ module _ (c : List ℕ) (g : Geometry) (i : ℕ) (q : g ≡ geometryOf c) where
     unfolding lineOf reaches
     line-short l =
         pick-false (reaches c i) _ _
-        (and-fails (headerFits c) _
+        (and-fails (headerFits 1 2 c) _
         (and-fails (ltb i (geometryOf c .blocks)) _ (lt-leb (entryPlace (geometryOf c) i + 16) (length c) (rw line-end at l))))
 
     pub line-entry : (e : Entry) → e ≡ entryIn c at → e ≡ entryAt g c i
     unfolding entryAt
     line-entry e p = p ∙ ap (entryIn c) place
 
-    pub line-there : (r : Bool) (l : Line) → r ≡ headerFits c → not r ≡ false → i < g .blocks → at + 16 ≤ length c → l ≡ lineIn g c i
+    pub line-there : (r : Bool) (l : Line) → r ≡ headerFits 1 2 c → not r ≡ false → i < g .blocks → at + 16 ≤ length c → l ≡ lineIn g c i
         → l ≡ lineOf c i
     unfolding lineOf reaches
     line-there r l e h b m p =
@@ -188,12 +193,12 @@ module _ (c : List ℕ) (g : Geometry) (i : ℕ) (q : g ≡ geometryOf c) where
         (and-both (sym e ∙ not-false r h)
         (and-both (lt-ltb i _ (rw q at b)) (le-leb (entryPlace (geometryOf c) i + 16) (length c) (rw line-end at m))))
 
-module _ (c : List ℕ) (r : Bool) (g : Geometry) (e : r ≡ headerFits c) (h : not r ≡ false) (q : g ≡ geometryOf c) where
+module _ (c : List ℕ) (r : Bool) (g : Geometry) (e : r ≡ headerFits 1 2 c) (h : not r ≡ false) (q : g ≡ geometryOf c) where
   pub header-slots : g .slots ≤ 256
-  header-slots = let k : Limits g = limits g (header-geometry c r g e h q) in omega arith
+  header-slots = let k : Limits g = limits g (header-geometry 1 2 c r g e h q) in omega arith
 
   pub header-index : (i : ℕ) → i < g .blocks → i < 128
-  header-index i l = let k : Limits g = limits g (header-geometry c r g e h q) in omega arith
+  header-index i l = let k : Limits g = limits g (header-geometry 1 2 c r g e h q) in omega arith
 
 -- ---- a data block
 
@@ -219,20 +224,20 @@ module _ (g : Geometry) (c : List ℕ) (p i : ℕ) (r : Bool) (told : r ≡ not 
   unfolding blockIn
   block-taken t = pick-false (isFree g c p) _ _ (sym free-told ∙ t)
 
-pub block-unfit : (c : List ℕ) (p f : ℕ) → f ≡ fitRefusal c → (f ≡ 0 → ⊥) → NoBlock ≡ blockOf c p
+pub block-unfit : (c : List ℕ) (p f : ℕ) → f ≡ fitRefusal 1 2 c → (f ≡ 0 → ⊥) → NoBlock ≡ blockOf c p
 unfolding blockOf
-block-unfit c p f e h = rw (ne-eqb (fitRefusal c) 0 (λ z. h (e ∙ z)))
+block-unfit c p f e h = rw (ne-eqb (fitRefusal 1 2 c) 0 (λ z. h (e ∙ z)))
 
 module _ (c : List ℕ) (p : ℕ) (g : Geometry) (q : g ≡ geometryOf c) where
   pub block-past : g .blocks ≤ p → NoBlock ≡ blockOf c p
   unfolding blockOf
   block-past l =
-      pick-false (eqb (fitRefusal c) 0 && ltb p (geometryOf c .blocks)) _ _ (and-fails (eqb (fitRefusal c) 0) _ (le-ltb p _ (rw q at l)))
+      pick-false (eqb (fitRefusal 1 2 c) 0 && ltb p (geometryOf c .blocks)) _ _ (and-fails (eqb (fitRefusal 1 2 c) 0) _ (le-ltb p _ (rw q at l)))
 
-  pub block-there : (f : ℕ) (r : Block) → f ≡ fitRefusal c → f ≡ 0 → p < g .blocks → r ≡ blockIn g c p → r ≡ blockOf c p
+  pub block-there : (f : ℕ) (r : Block) → f ≡ fitRefusal 1 2 c → f ≡ 0 → p < g .blocks → r ≡ blockIn g c p → r ≡ blockOf c p
   unfolding blockOf
   block-there f r e z l h =
       h
       ∙ ap (λ (y : Geometry). blockIn y c p) q
-      ∙ pick-true (eqb (fitRefusal c) 0 && ltb p (geometryOf c .blocks)) _ _
-      (and-both (eq-eqb (fitRefusal c) 0 (sym e ∙ z)) (lt-ltb p _ (rw q at l)))
+      ∙ pick-true (eqb (fitRefusal 1 2 c) 0 && ltb p (geometryOf c .blocks)) _ _
+      (and-both (eq-eqb (fitRefusal 1 2 c) 0 (sym e ∙ z)) (lt-ltb p _ (rw q at l)))

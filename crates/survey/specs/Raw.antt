@@ -1,4 +1,4 @@
--- What stands on a card image, field by field, slot by slot and entry by entry, as far as it can be read.
+-- What stands on a card image of version 1 or 2, field by field, slot by slot and entry by entry, as far as it can be read.
 use Prim.Native.Nat.{ℕ, _+_}
 use mathlib.Core.List.{List}
 use mathlib.Core.Bool.{Bool, cond, _&&_}
@@ -28,7 +28,7 @@ fieldIn c at w = cond (leb w 8 && leb (at + w) (length c)) (Is (numberAt c at w)
 -- the card passes checks 1 and 2, and its Head and Tail are slot positions: its window is defined
 unfoldable pub ringKnown : List ℕ → Bool
 ringKnown c =
-    eqb (fitRefusal c) 0 && (ltb (headOf c) (geometryOf c .slots) && ltb (tailOf c) (geometryOf c .slots))
+    eqb (fitRefusal 1 2 c) 0 && (ltb (headOf c) (geometryOf c .slots) && ltb (tailOf c) (geometryOf c .slots))
 
 -- slot j of the window, counted from Tail: its position and the number in it
 unfoldable pub slotIn : Geometry → List ℕ → ℕ → Slot
@@ -40,7 +40,7 @@ slotOf c j = cond (ringKnown c && ltb j (windowOf (geometryOf c) c)) (slotIn (ge
 
 -- the header can be trusted, it counts an entry i, and the card reaches to the end of that entry
 unfoldable pub reaches : List ℕ → ℕ → Bool
-reaches c i = headerFits c && (ltb i (geometryOf c .blocks) && leb (entryPlace (geometryOf c) i + 16) (length c))
+reaches c i = headerFits 1 2 c && (ltb i (geometryOf c .blocks) && leb (entryPlace (geometryOf c) i + 16) (length c))
 
 -- entry i: unused, or as it stands, with undoable and settled block where they are defined
 unfoldable pub lineIn : Geometry → List ℕ → ℕ → Line
@@ -60,4 +60,4 @@ blockIn g c p = cond (isFree g c p) Free Taken
 
 -- the same where the card passes checks 1 and 2 and has a data block p
 unfoldable pub blockOf : List ℕ → ℕ → Block
-blockOf c p = cond (eqb (fitRefusal c) 0 && ltb p (geometryOf c .blocks)) (blockIn (geometryOf c) c p) NoBlock
+blockOf c p = cond (eqb (fitRefusal 1 2 c) 0 && ltb p (geometryOf c .blocks)) (blockIn (geometryOf c) c p) NoBlock

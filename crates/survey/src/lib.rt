@@ -1,10 +1,10 @@
-// What stands on a card image, at every row of bytes, however damaged.
+// What stands on a card image of either version, at every row of bytes, however damaged.
 use protocol::Entry;
 use protocol::Geometry;
 ghost use mathlib.Core.Path.{_≡_};
 ghost use mathlib.Core.Bool.{cond};
 ghost use Prim.Native.Nat.{_≤_, _<_};
-ghost use Rattle.protocol.specs.Layout.{geometryOf, entryPlace};
+ghost use Rattle.protocol.specs.Layout.{geometryOf, versionOf, entryPlace};
 ghost use Rattle.protocol.specs.Entry.{entryAt, isUnused};
 ghost use Rattle.protocol.specs.Search.{takenBy};
 ghost use Rattle.ring.specs.Fitted.{Fitted};
@@ -63,7 +63,7 @@ pub fn field_in(card: &[u8], at: usize, width: usize) -> Field
 pub fn ring_known(card: &[u8]) -> bool
     ensures { λ r. ⌜ r ≡ ringKnown (now (card .entry)) ⌝ }
 {
-    if ring::fit_refusal(card) != 0 {
+    if ring::fit_refusal(card, 1, 2) != 0 {
         return false;
     }
     let g = ring::geometry_of(card);
@@ -101,14 +101,14 @@ pub fn settled(undoable: bool, e: Entry) -> u32
 }
 
 // The entry e, which is entry i, with undoable and settled block where they are defined.
-fn line_in(g: Geometry, card: &[u8], i: u64, e: Entry) -> Line
-    requires { ⌜ (g ≡ geometryOf (now card)) × (e ≡ entryAt g (now card) i) ⌝ }
+fn line_in(g: Geometry, version: u64, card: &[u8], i: u64, e: Entry) -> Line
+    requires { ⌜ (g ≡ geometryOf (now card)) × (version ≡ versionOf (now card)) × (e ≡ entryAt g (now card) i) ⌝ }
     ensures { λ r. ⌜ r ≡ lineIn g (now (card .entry)) i ⌝ }
 {
     if is_unused(e) {
         return Line::Unused;
     }
-    if !codec::good_entry(g.blocks, g.disk, e) {
+    if !codec::good_entry(version, g.blocks, g.disk, e) {
         return Line::Raw(e);
     }
     if !ring_known(card) {
@@ -129,7 +129,7 @@ fn entry_place(g: Geometry, i: u64) -> usize
 pub fn line_of(card: &[u8], i: u64) -> Line
     ensures { λ r. ⌜ r ≡ lineOf (now (card .entry)) i ⌝ }
 {
-    if !ring::header_fits(card) {
+    if !ring::header_fits(card, 1, 2) {
         return Line::Missing;
     }
     let g = ring::geometry_of(card);
@@ -140,7 +140,8 @@ pub fn line_of(card: &[u8], i: u64) -> Line
     if card.len() < at + 16 {
         return Line::Missing;
     }
-    line_in(g, card, i, codec::entry_at(card, at))
+    let version = ring::version_of(card);
+    line_in(g, version, card, i, codec::entry_at(card, at))
 }
 
 // Whether data block p is the current block of the in-use entry i.
@@ -171,7 +172,7 @@ fn block_in(g: Geometry, card: &[u8], p: u64) -> Block
 pub fn block_of(card: &[u8], p: u64) -> Block
     ensures { λ r. ⌜ r ≡ blockOf (now (card .entry)) p ⌝ }
 {
-    if ring::fit_refusal(card) != 0 {
+    if ring::fit_refusal(card, 1, 2) != 0 {
         return Block::Missing;
     }
     let g = ring::geometry_of(card);

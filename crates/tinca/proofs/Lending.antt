@@ -40,12 +40,12 @@ module _ (c ws : List ℕ) where
   lent-other h = rw (ne-eqb (length ws) 2 h)
 
   -- a card that gives a map refuses one that is not of two words
-  pub other-refused : (length ws ≡ 2 → ⊥) → makeRefusal c ≡ 0 → mapRefusal c (lentMap c ws) ≡ 15
+  pub other-refused : (length ws ≡ 2 → ⊥) → makeRefusal 2 c ≡ 0 → mapRefusal c (lentMap c ws) ≡ 15
   unfolding madeMap mapRefusal sameMap refuse mapOf mapBy
   other-refused h z =
       let p = isMarked (geometryOf c) c in
       let b = word-below p 64 in
-      let made : madeMap c ≡ Is (mapOf c) = rw (eq-eqb (makeRefusal c) 0 z) in
+      let made : madeMap c ≡ Is (mapOf c) = rw (eq-eqb (makeRefusal 2 c) 0 z) in
       ap (mapRefusal c) (sym (lent-other h) ∙ ap otherMap made) ∙ rw (ne-eqb (0xFFFFFFFFFFFFFFFF - word p 64) (word p 64) (λ e. omega arith))
 
 -- ---- the storing calls

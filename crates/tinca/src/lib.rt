@@ -19,6 +19,7 @@ ghost use Rattle.protocol.specs.Preview.{previewAnswer, blocksAfter};
 ghost use Rattle.protocol.specs.Load.{loadWork, tableAfterLoad, evictWork};
 ghost use Rattle.protocol.specs.Room.{roomWork, tableAfterSave};
 ghost use Rattle.protocol.specs.Recover.{recoverWork};
+ghost use Rattle.protocol.specs.Upgrade.{upgradeWork};
 ghost use Rattle.protocol.specs.Read.{recentOutput, recentTable, stateOf};
 ghost use Rattle.lookup.specs.Place.{foundAt, recentAt};
 ghost use Rattle.lookup.specs.Cached.{cachedAt};
@@ -305,7 +306,7 @@ pub extern "C" fn tinca_format(
     card: &mut [u8],
 ) -> TincaAnswer
     ensures answer { λ r. ⌜ r ≡ plainOutcome (outcomeOf (formatRefusal (geometry k slots blocks disk) (now (card .entry)))) ⌝ }
-    ensures card { λ r. ⌜ now (card .exit) ≡ afterFormat (geometry k slots blocks disk) (now (card .entry)) ⌝ }
+    ensures card { λ r. ⌜ now (card .exit) ≡ afterFormat 2 (geometry k slots blocks disk) (now (card .entry)) ⌝ }
 {
     outcome(format::format(k, slots, blocks, disk, card))
 }
@@ -336,9 +337,9 @@ pub extern "C" fn tinca_commit(
     choice: &[u8],
     allowance: u64,
 ) -> TincaAnswer
-    ensures answer { λ r. ⌜ r ≡ plainAnswer (answerOf allowance (commitWork (now (card .entry)) (lentMap (now (card .entry)) (now (map .entry))) (now (numbers .entry)) (now (bytes .entry)) (now (choice .entry)))) ⌝ }
-    ensures card { λ r. ⌜ now (card .exit) ≡ afterOn onCard allowance (commitWork (now (card .entry)) (lentMap (now (card .entry)) (now (map .entry))) (now (numbers .entry)) (now (bytes .entry)) (now (choice .entry))) (now (card .entry)) ⌝ }
-    ensures map { λ r. ⌜ now (map .exit) ≡ wordsAfter (answerOf allowance (commitWork (now (card .entry)) (lentMap (now (card .entry)) (now (map .entry))) (now (numbers .entry)) (now (bytes .entry)) (now (choice .entry)))) (mapAfter allowance (commitWork (now (card .entry)) (lentMap (now (card .entry)) (now (map .entry))) (now (numbers .entry)) (now (bytes .entry)) (now (choice .entry))) (now (card .entry)) (lentMap (now (card .entry)) (now (map .entry)))) (now (map .entry)) ⌝ }
+    ensures answer { λ r. ⌜ r ≡ plainAnswer (answerOf allowance (commitWork 2 (now (card .entry)) (lentMap (now (card .entry)) (now (map .entry))) (now (numbers .entry)) (now (bytes .entry)) (now (choice .entry)))) ⌝ }
+    ensures card { λ r. ⌜ now (card .exit) ≡ afterOn onCard allowance (commitWork 2 (now (card .entry)) (lentMap (now (card .entry)) (now (map .entry))) (now (numbers .entry)) (now (bytes .entry)) (now (choice .entry))) (now (card .entry)) ⌝ }
+    ensures map { λ r. ⌜ now (map .exit) ≡ wordsAfter (answerOf allowance (commitWork 2 (now (card .entry)) (lentMap (now (card .entry)) (now (map .entry))) (now (numbers .entry)) (now (bytes .entry)) (now (choice .entry)))) (mapAfter allowance (commitWork 2 (now (card .entry)) (lentMap (now (card .entry)) (now (map .entry))) (now (numbers .entry)) (now (bytes .entry)) (now (choice .entry))) (now (card .entry)) (lentMap (now (card .entry)) (now (map .entry)))) (now (map .entry)) ⌝ }
 {
     let m = lent(card, map);
     handed(
@@ -373,10 +374,10 @@ pub extern "C" fn tinca_commit_making_room(
     choice: &[u8],
     allowance: u64,
 ) -> TincaAnswer
-    ensures answer { λ r. ⌜ r ≡ plainAnswer (answerOf allowance (roomWork (now (card .entry)) (now (disk .entry)) (lentMap (now (card .entry)) (now (map .entry))) (now (table .entry)) (now (numbers .entry)) (now (bytes .entry)) (now (choice .entry)))) ⌝ }
-    ensures card { λ r. ⌜ now (card .exit) ≡ afterOn onCard allowance (roomWork (now (card .entry)) (now (disk .entry)) (lentMap (now (card .entry)) (now (map .entry))) (now (table .entry)) (now (numbers .entry)) (now (bytes .entry)) (now (choice .entry))) (now (card .entry)) ⌝ }
-    ensures disk { λ r. ⌜ now (disk .exit) ≡ afterOn onDisk allowance (roomWork (now (card .entry)) (now (disk .entry)) (lentMap (now (card .entry)) (now (map .entry))) (now (table .entry)) (now (numbers .entry)) (now (bytes .entry)) (now (choice .entry))) (now (disk .entry)) ⌝ }
-    ensures map { λ r. ⌜ now (map .exit) ≡ wordsAfter (answerOf allowance (roomWork (now (card .entry)) (now (disk .entry)) (lentMap (now (card .entry)) (now (map .entry))) (now (table .entry)) (now (numbers .entry)) (now (bytes .entry)) (now (choice .entry)))) (mapAfter allowance (roomWork (now (card .entry)) (now (disk .entry)) (lentMap (now (card .entry)) (now (map .entry))) (now (table .entry)) (now (numbers .entry)) (now (bytes .entry)) (now (choice .entry))) (now (card .entry)) (lentMap (now (card .entry)) (now (map .entry)))) (now (map .entry)) ⌝ }
+    ensures answer { λ r. ⌜ r ≡ plainAnswer (answerOf allowance (roomWork 2 (now (card .entry)) (now (disk .entry)) (lentMap (now (card .entry)) (now (map .entry))) (now (table .entry)) (now (numbers .entry)) (now (bytes .entry)) (now (choice .entry)))) ⌝ }
+    ensures card { λ r. ⌜ now (card .exit) ≡ afterOn onCard allowance (roomWork 2 (now (card .entry)) (now (disk .entry)) (lentMap (now (card .entry)) (now (map .entry))) (now (table .entry)) (now (numbers .entry)) (now (bytes .entry)) (now (choice .entry))) (now (card .entry)) ⌝ }
+    ensures disk { λ r. ⌜ now (disk .exit) ≡ afterOn onDisk allowance (roomWork 2 (now (card .entry)) (now (disk .entry)) (lentMap (now (card .entry)) (now (map .entry))) (now (table .entry)) (now (numbers .entry)) (now (bytes .entry)) (now (choice .entry))) (now (disk .entry)) ⌝ }
+    ensures map { λ r. ⌜ now (map .exit) ≡ wordsAfter (answerOf allowance (roomWork 2 (now (card .entry)) (now (disk .entry)) (lentMap (now (card .entry)) (now (map .entry))) (now (table .entry)) (now (numbers .entry)) (now (bytes .entry)) (now (choice .entry)))) (mapAfter allowance (roomWork 2 (now (card .entry)) (now (disk .entry)) (lentMap (now (card .entry)) (now (map .entry))) (now (table .entry)) (now (numbers .entry)) (now (bytes .entry)) (now (choice .entry))) (now (card .entry)) (lentMap (now (card .entry)) (now (map .entry)))) (now (map .entry)) ⌝ }
     ensures table { λ r. ⌜ now (table .exit) ≡ tableAfterSave allowance (now (card .entry)) (now (disk .entry)) (lentMap (now (card .entry)) (now (map .entry))) (now (table .entry)) (now (numbers .entry)) (now (bytes .entry)) (now (choice .entry)) ⌝ }
 {
     let m = lent(card, map);
@@ -396,9 +397,9 @@ pub extern "C" fn tinca_load(
     choice: &[u8],
     allowance: u64,
 ) -> TincaAnswer
-    ensures answer { λ r. ⌜ r ≡ plainAnswer (answerOf allowance (loadWork (now (card .entry)) (now (disk .entry)) (lentMap (now (card .entry)) (now (map .entry))) (now (table .entry)) block (now (choice .entry)))) ⌝ }
-    ensures card { λ r. ⌜ now (card .exit) ≡ afterOn onCard allowance (loadWork (now (card .entry)) (now (disk .entry)) (lentMap (now (card .entry)) (now (map .entry))) (now (table .entry)) block (now (choice .entry))) (now (card .entry)) ⌝ }
-    ensures map { λ r. ⌜ now (map .exit) ≡ wordsAfter (answerOf allowance (loadWork (now (card .entry)) (now (disk .entry)) (lentMap (now (card .entry)) (now (map .entry))) (now (table .entry)) block (now (choice .entry)))) (mapAfter allowance (loadWork (now (card .entry)) (now (disk .entry)) (lentMap (now (card .entry)) (now (map .entry))) (now (table .entry)) block (now (choice .entry))) (now (card .entry)) (lentMap (now (card .entry)) (now (map .entry)))) (now (map .entry)) ⌝ }
+    ensures answer { λ r. ⌜ r ≡ plainAnswer (answerOf allowance (loadWork 2 (now (card .entry)) (now (disk .entry)) (lentMap (now (card .entry)) (now (map .entry))) (now (table .entry)) block (now (choice .entry)))) ⌝ }
+    ensures card { λ r. ⌜ now (card .exit) ≡ afterOn onCard allowance (loadWork 2 (now (card .entry)) (now (disk .entry)) (lentMap (now (card .entry)) (now (map .entry))) (now (table .entry)) block (now (choice .entry))) (now (card .entry)) ⌝ }
+    ensures map { λ r. ⌜ now (map .exit) ≡ wordsAfter (answerOf allowance (loadWork 2 (now (card .entry)) (now (disk .entry)) (lentMap (now (card .entry)) (now (map .entry))) (now (table .entry)) block (now (choice .entry)))) (mapAfter allowance (loadWork 2 (now (card .entry)) (now (disk .entry)) (lentMap (now (card .entry)) (now (map .entry))) (now (table .entry)) block (now (choice .entry))) (now (card .entry)) (lentMap (now (card .entry)) (now (map .entry)))) (now (map .entry)) ⌝ }
     ensures table { λ r. ⌜ now (table .exit) ≡ tableAfterLoad allowance (now (card .entry)) (now (disk .entry)) (lentMap (now (card .entry)) (now (map .entry))) (now (table .entry)) block (now (choice .entry)) ⌝ }
 {
     let m = lent(card, map);
@@ -417,10 +418,10 @@ pub extern "C" fn tinca_evict(
     choice: &[u8],
     allowance: u64,
 ) -> TincaAnswer
-    ensures answer { λ r. ⌜ r ≡ plainAnswer (answerOf allowance (evictWork (now (card .entry)) (now (disk .entry)) (lentMap (now (card .entry)) (now (map .entry))) block (now (choice .entry)))) ⌝ }
-    ensures card { λ r. ⌜ now (card .exit) ≡ afterOn onCard allowance (evictWork (now (card .entry)) (now (disk .entry)) (lentMap (now (card .entry)) (now (map .entry))) block (now (choice .entry))) (now (card .entry)) ⌝ }
-    ensures disk { λ r. ⌜ now (disk .exit) ≡ afterOn onDisk allowance (evictWork (now (card .entry)) (now (disk .entry)) (lentMap (now (card .entry)) (now (map .entry))) block (now (choice .entry))) (now (disk .entry)) ⌝ }
-    ensures map { λ r. ⌜ now (map .exit) ≡ wordsAfter (answerOf allowance (evictWork (now (card .entry)) (now (disk .entry)) (lentMap (now (card .entry)) (now (map .entry))) block (now (choice .entry)))) (mapAfter allowance (evictWork (now (card .entry)) (now (disk .entry)) (lentMap (now (card .entry)) (now (map .entry))) block (now (choice .entry))) (now (card .entry)) (lentMap (now (card .entry)) (now (map .entry)))) (now (map .entry)) ⌝ }
+    ensures answer { λ r. ⌜ r ≡ plainAnswer (answerOf allowance (evictWork 2 (now (card .entry)) (now (disk .entry)) (lentMap (now (card .entry)) (now (map .entry))) block (now (choice .entry)))) ⌝ }
+    ensures card { λ r. ⌜ now (card .exit) ≡ afterOn onCard allowance (evictWork 2 (now (card .entry)) (now (disk .entry)) (lentMap (now (card .entry)) (now (map .entry))) block (now (choice .entry))) (now (card .entry)) ⌝ }
+    ensures disk { λ r. ⌜ now (disk .exit) ≡ afterOn onDisk allowance (evictWork 2 (now (card .entry)) (now (disk .entry)) (lentMap (now (card .entry)) (now (map .entry))) block (now (choice .entry))) (now (disk .entry)) ⌝ }
+    ensures map { λ r. ⌜ now (map .exit) ≡ wordsAfter (answerOf allowance (evictWork 2 (now (card .entry)) (now (disk .entry)) (lentMap (now (card .entry)) (now (map .entry))) block (now (choice .entry)))) (mapAfter allowance (evictWork 2 (now (card .entry)) (now (disk .entry)) (lentMap (now (card .entry)) (now (map .entry))) block (now (choice .entry))) (now (card .entry)) (lentMap (now (card .entry)) (now (map .entry)))) (now (map .entry)) ⌝ }
 {
     let m = lent(card, map);
     handed(
@@ -431,12 +432,20 @@ pub extern "C" fn tinca_evict(
 
 #[no_mangle]
 pub extern "C" fn tinca_recover(card: &mut [u8], map: &mut [u64], allowance: u64) -> TincaAnswer
-    ensures answer { λ r. ⌜ r ≡ plainAnswer (answerOf allowance (recoverWork (now (card .entry)) (lentMap (now (card .entry)) (now (map .entry))))) ⌝ }
-    ensures card { λ r. ⌜ now (card .exit) ≡ afterOn onCard allowance (recoverWork (now (card .entry)) (lentMap (now (card .entry)) (now (map .entry)))) (now (card .entry)) ⌝ }
-    ensures map { λ r. ⌜ now (map .exit) ≡ wordsAfter (answerOf allowance (recoverWork (now (card .entry)) (lentMap (now (card .entry)) (now (map .entry))))) (mapAfter allowance (recoverWork (now (card .entry)) (lentMap (now (card .entry)) (now (map .entry)))) (now (card .entry)) (lentMap (now (card .entry)) (now (map .entry)))) (now (map .entry)) ⌝ }
+    ensures answer { λ r. ⌜ r ≡ plainAnswer (answerOf allowance (recoverWork 2 (now (card .entry)) (lentMap (now (card .entry)) (now (map .entry))))) ⌝ }
+    ensures card { λ r. ⌜ now (card .exit) ≡ afterOn onCard allowance (recoverWork 2 (now (card .entry)) (lentMap (now (card .entry)) (now (map .entry)))) (now (card .entry)) ⌝ }
+    ensures map { λ r. ⌜ now (map .exit) ≡ wordsAfter (answerOf allowance (recoverWork 2 (now (card .entry)) (lentMap (now (card .entry)) (now (map .entry))))) (mapAfter allowance (recoverWork 2 (now (card .entry)) (lentMap (now (card .entry)) (now (map .entry)))) (now (card .entry)) (lentMap (now (card .entry)) (now (map .entry)))) (now (map .entry)) ⌝ }
 {
     let m = lent(card, map);
     handed(map, recovery::recover(card, m, allowance))
+}
+
+#[no_mangle]
+pub extern "C" fn tinca_upgrade(card: &mut [u8], allowance: u64) -> TincaAnswer
+    ensures answer { λ r. ⌜ r ≡ plainAnswer (answerOf allowance (upgradeWork (now (card .entry)))) ⌝ }
+    ensures card { λ r. ⌜ now (card .exit) ≡ afterOn onCard allowance (upgradeWork (now (card .entry))) (now (card .entry)) ⌝ }
+{
+    answer(upgrade::upgrade(card, allowance))
 }
 
 #[no_mangle]

@@ -12,7 +12,7 @@ use Rattle.protocol.specs.declared.Entry.{Entry}
 use Rattle.protocol.specs.declared.Geometry.{Geometry}
 use Rattle.protocol.specs.declared.Map.{Map}
 use Rattle.protocol.specs.Below.{anyBelow, countBelow, around}
-use Rattle.protocol.specs.Layout.{goodGeometry, geometryOf, blockSize, diskLength}
+use Rattle.protocol.specs.Layout.{goodGeometry, geometryOf, versionOf, blockSize, diskLength}
 use Rattle.protocol.specs.Ring.{findEntry, cached, currentOf}
 use Rattle.protocol.specs.Check.{refuse, _orElse_, goodEntryAt, entriesFit, choiceRefusal}
 use Rattle.protocol.specs.Entry.{entryAt}
@@ -139,19 +139,19 @@ module _ (g : Geometry) (c : List ℕ) (h : ℕ) (xs : List ℕ) (m : Map) (free
 module _ (c d : List ℕ) (m : Map) (b : ℕ) (ch : List ℕ) where
   -- the shared refusals and its own are load's, where the table is arranged or not as the search was told
   as-load : (ok : Bool) (t : List ℕ) → ok ≡ isArranged t
-      → loadRefusal c d m t b ch
+      → loadRefusal 2 c d m t b ch
       ≡ sharedRefusal c d m ok b ch orElse (refuse 12 (not (cached (geometryOf c) c b)) orElse refuse 14 (roomFor (geometryOf c) c 1))
   unfolding loadRefusal tableRefusal
   as-load ok t e =
       let g = geometryOf c in
       let own = refuse 12 (not (cached g c b)) orElse refuse 14 (roomFor g c 1) in
       ap
-      (λ (z : Bool). pairRefusal c d orElse mapRefusal c m orElse refuse 16 z orElse choiceRefusal g ch orElse blockRefusal g b orElse own)
+      (λ (z : Bool). pairRefusal 2 c d orElse mapRefusal c m orElse refuse 16 z orElse choiceRefusal g ch orElse blockRefusal g b orElse own)
       (sym e)
       ∙ own-after c d m ok b ch own
 
   -- and evict's, which asks no table
-  as-evict : evictRefusal c d m b ch ≡ sharedRefusal c d m true b ch orElse refuse 13 (cached (geometryOf c) c b)
+  as-evict : evictRefusal 2 c d m b ch ≡ sharedRefusal c d m true b ch orElse refuse 13 (cached (geometryOf c) c b)
   unfolding evictRefusal refuse _orElse_
   as-evict = own-after c d m true b ch _
 
@@ -195,7 +195,7 @@ module _ (c d : List ℕ) (m : Map) (b : ℕ) (ch : List ℕ) (xs : List ℕ) (s
     finds : at ≡ findEntry (geometryOf c) c b
     finds = e ∙ ap (λ (h : Geometry). findEntry h c b) (x .geometry-is z)
 
-    past-shared : (t : ℕ) (k : Bool) → ltb at (s .geometry .blocks) ≡ k → t ≡ refuse 13 k → t ≡ evictRefusal c d m b ch
+    past-shared : (t : ℕ) (k : Bool) → ltb at (s .geometry .blocks) ≡ k → t ≡ refuse 13 k → t ≡ evictRefusal 2 c d m b ch
     unfolding cached
     past-shared t k h p =
         let same : k ≡ cached (geometryOf c) c b = sym h ∙ (λ j. ltb (finds j) (x .geometry-is z j .blocks)) in
@@ -230,7 +230,7 @@ as-entry : (g : Geometry) (c : List ℕ) (b : ℕ) → cached g c b ≡ false �
 unfolding entryFound uncachedAt numberOf countBelow
 as-entry g c b h = rw h
 
-pub load-ready : (c d : List ℕ) (m : Map) (t : List ℕ) (b : ℕ) (ch : List ℕ) → loadRefusal c d m t b ch ≡ 0 → Ready (geometryOf c) c d m b ch
+pub load-ready : (c d : List ℕ) (m : Map) (t : List ℕ) (b : ℕ) (ch : List ℕ) → loadRefusal 2 c d m t b ch ≡ 0 → Ready (geometryOf c) c d m b ch
 load-ready c d m t b ch z =
     let g : Geometry = geometryOf c in
     let (first, own) = orElse-none (sharedRefusal c d m (isArranged t) b ch) _ (sym (as-load c d m b ch (isArranged t) t refl) ∙ z) in
@@ -250,7 +250,7 @@ pub record Held (g : Geometry) (c d : List ℕ) (m : Map) (b : ℕ) (ch : List �
   pub at : findEntry g c b < g .blocks
   pub current : currentOf g c b < g .blocks
 
-pub evict-held : (c d : List ℕ) (m : Map) (b : ℕ) (ch : List ℕ) → evictRefusal c d m b ch ≡ 0 → Held (geometryOf c) c d m b ch
+pub evict-held : (c d : List ℕ) (m : Map) (b : ℕ) (ch : List ℕ) → evictRefusal 2 c d m b ch ≡ 0 → Held (geometryOf c) c d m b ch
 unfolding cached currentOf entriesFit goodEntryAt
 evict-held c d m b ch z =
     let g : Geometry = geometryOf c in
@@ -262,7 +262,7 @@ evict-held c d m b ch z =
     record {
       passed = s;
       at = here;
-      current = bounded (g .blocks) (g .disk) (entryAt g c (findEntry g c b)) (omega arith) (omega arith) good .current;
+      current = bounded (versionOf c) (g .blocks) (g .disk) (entryAt g c (findEntry g c b)) (omega arith) (omega arith) good .current;
     }
 
 -- ---- what the calls go on with
@@ -276,7 +276,7 @@ module _ (c d : List ℕ) (m : Map) (t : List ℕ) (b : ℕ) (ch : List ℕ) (r 
   unfolding loadRefusal tableRefusal
   load-touches =
       let y = sym (x .refusal-is) ∙ z in
-      let sixteen = orElse-none (tableRefusal t) _ (orElse-none (mapRefusal c m) _ (orElse-none (pairRefusal c d) _ y .1) .1) .0 in (
+      let sixteen = orElse-none (tableRefusal t) _ (orElse-none (mapRefusal c m) _ (orElse-none (pairRefusal 2 c d) _ y .1) .1) .0 in (
         refuse-none 16 (isArranged t) (omega arith) sixteen,
         omega (arith, x .free z .entry, ready .entry, fitted-blocks (geometryOf c) c (ready .passed .fitted)),
       )

@@ -257,45 +257,45 @@ module _ (w : Work) (a : ℕ) (m : Map) (c d : List ℕ) (s : ℕ) (e : s ≡ w 
 module _ (c d : List ℕ) (m : Map) (b : ℕ) (ch : List ℕ) (a : ℕ) where
   module _ (t : List ℕ) (r : Room) (x : Roomed c d m t b ch r) where
     -- the table is turned in step with the answer
-    table-is : (y : Answer) → y ≡ answerOf a (loadWork c d m t b ch) → r .entry ≡ getD (unusedEntries (geometryOf c) c) 0 0
+    table-is : (y : Answer) → y ≡ answerOf a (loadWork 2 c d m t b ch) → r .entry ≡ getD (unusedEntries (geometryOf c) c) 0 0
         → turned y t (toFront (r .entry) t) ≡ tableAfterLoad a c d m t b ch
     unfolding tableAfterLoad
     table-is y e q = λ i. turned (e i) t (toFront (q i) t)
 
     pub load-refused : (r .refusal ≡ 0 → ⊥)
-        → Finished (loadWork c d m t b ch) a m c c d d (record { answer = Refused (r .refusal); map = m }) × (t ≡ tableAfterLoad a c d m t b ch)
+        → Finished (loadWork 2 c d m t b ch) a m c c d d (record { answer = Refused (r .refusal); map = m }) × (t ≡ tableAfterLoad a c d m t b ch)
     unfolding loadWork tableAfterLoad turned
     load-refused h =
-        let f = refused (loadWork c d m t b ch) a m c d (r .refusal) (x .refusal-is) h in
+        let f = refused (loadWork 2 c d m t b ch) a m c d (r .refusal) (x .refusal-is) h in
         (f, ap (λ (y : Answer). turned y t (toFront (getD (unusedEntries (geometryOf c) c) 0 0) t)) (f .answer))
 
     pub load-finished : r .refusal ≡ 0 → (c′ : List ℕ) (y : Answer) (u : Stored)
         → Moved (loadedRuns (r .geometry) d b (r .block) (r .entry)) ch a c c′ d d y
         → (u .answer ≡ y) × (u .map ≡ handedOn y m (r .map)) → (t′ : List ℕ) → t′ ≡ turned y t (toFront (r .entry) t)
-        → Finished (loadWork c d m t b ch) a m c c′ d d u × (t′ ≡ tableAfterLoad a c d m t b ch)
+        → Finished (loadWork 2 c d m t b ch) a m c c′ d d u × (t′ ≡ tableAfterLoad a c d m t b ch)
     unfolding loadWork loadRuns cleanEntry
     load-finished z c′ y u k h t′ g =
         let f = x .free z in
         let done =
-        finished (loadWork c d m t b ch) a m c d (r .refusal) (x .refusal-is) z c′ d y (r .map) u
+        finished (loadWork 2 c d m t b ch) a m c d (r .refusal) (x .refusal-is) z c′ d y (r .map) u
         (subst (λ (rs : List Fenced). Moved rs ch a c c′ d d y) (λ t. loadedRuns (f .geometry-is t) d b (f .block t) (f .entry t)) k)
         (f .map-is ∙ sym (load-map c d m t b ch (sym (x .refusal-is) ∙ z)))
         h in
         (done, g ∙ table-is y (sym (h .0) ∙ done .answer) (f .entry))
 
   module _ (r : Place) (x : Located c d m b ch r) where
-    pub evict-refused : (r .refusal ≡ 0 → ⊥) → Finished (evictWork c d m b ch) a m c c d d (record { answer = Refused (r .refusal); map = m })
+    pub evict-refused : (r .refusal ≡ 0 → ⊥) → Finished (evictWork 2 c d m b ch) a m c c d d (record { answer = Refused (r .refusal); map = m })
     unfolding evictWork
-    evict-refused h = refused (evictWork c d m b ch) a m c d (r .refusal) (x .refusal-is) h
+    evict-refused h = refused (evictWork 2 c d m b ch) a m c d (r .refusal) (x .refusal-is) h
 
     pub evict-finished : r .refusal ≡ 0 → (e : Fields) → e ≡ entryAt (r .geometry) c (r .at) → (new : Map)
         → new ≡ withoutBit m (e .current) → (c′ d′ : List ℕ) (y : Answer) (u : Stored)
         → Moved (evictRuns (r .geometry) c b) ch a c c′ d d′ y
         → (u .answer ≡ y) × (u .map ≡ handedOn y m new)
-        → Finished (evictWork c d m b ch) a m c c′ d d′ u
+        → Finished (evictWork 2 c d m b ch) a m c c′ d d′ u
     unfolding evictWork
     evict-finished z e i new w c′ d′ y u k h =
-        finished (evictWork c d m b ch) a m c d (r .refusal) (x .refusal-is) z c′ d′ y new u
+        finished (evictWork 2 c d m b ch) a m c d (r .refusal) (x .refusal-is) z c′ d′ y new u
         (subst (λ (j : Geometry). Moved (evictRuns j c b) ch a c c′ d d′ y) (x .geometry-is z) k)
         (w ∙ evict-freed c d m b ch r x z e i)
         h

@@ -118,13 +118,13 @@ unfolding sharedRefusal metRefusal pairRefusal mapRefusal mapOf choiceRefusal ch
 shared c d m ok b ch z =
     let g : Geometry = geometryOf c in
     let (met, rest) = orElse-none (metRefusal c d m ok) _ z in
-    let (pair, last) = orElse-none (pairRefusal c d) _ met in
+    let (pair, last) = orElse-none (pairRefusal 2 c d) _ met in
     let fifteen = orElse-none (mapRefusal c m) _ last .0 in
     let (seventeen, ten) = orElse-none (choiceRefusal g ch) _ rest in
-    let (fit, more) = orElse-none (fitRefusal c) _ pair in
+    let (fit, more) = orElse-none (fitRefusal 2 2 c) _ pair in
     let (three, card) = orElse-none (diskRefusal g d) _ more in
     record {
-      fitted = fit-fitted c g 0 (sym fit) refl refl;
+      fitted = fit-fitted 2 2 c g 0 (sym fit) refl refl;
       whole = whole-of g c card;
       map-is = map-eq m (mapOf c) (refuse-none 15 (sameMap m (mapOf c)) (omega arith) fifteen);
       disk = eqb-true _ _ (refuse-none 3 (diskFits g d) (omega arith) three);
@@ -134,16 +134,16 @@ shared c d m ok b ch z =
 
 -- the shared refusals stand before a call's own
 pub own-after : (c d : List ℕ) (m : Map) (ok : Bool) (b : ℕ) (ch : List ℕ) (own : ℕ)
-    → pairRefusal c d orElse mapRefusal c m orElse refuse 16 ok orElse choiceRefusal (geometryOf c) ch orElse blockRefusal (geometryOf c) b orElse own
+    → pairRefusal 2 c d orElse mapRefusal c m orElse refuse 16 ok orElse choiceRefusal (geometryOf c) ch orElse blockRefusal (geometryOf c) b orElse own
     ≡ sharedRefusal c d m ok b ch orElse own
 unfolding sharedRefusal metRefusal
 own-after c d m ok b ch own =
     sym
     (ap (λ (r : ℕ). r orElse own)
-    (orElse-assoc (pairRefusal c d) (mapRefusal c m orElse refuse 16 ok) _
-    ∙ ap (λ (r : ℕ). pairRefusal c d orElse r) (orElse-assoc (mapRefusal c m) (refuse 16 ok) _))
-    ∙ orElse-assoc (pairRefusal c d) _ own
-    ∙ ap (λ (r : ℕ). pairRefusal c d orElse r)
+    (orElse-assoc (pairRefusal 2 c d) (mapRefusal c m orElse refuse 16 ok) _
+    ∙ ap (λ (r : ℕ). pairRefusal 2 c d orElse r) (orElse-assoc (mapRefusal c m) (refuse 16 ok) _))
+    ∙ orElse-assoc (pairRefusal 2 c d) _ own
+    ∙ ap (λ (r : ℕ). pairRefusal 2 c d orElse r)
     (orElse-assoc (mapRefusal c m) _ own
     ∙ ap (λ (r : ℕ). mapRefusal c m orElse r)
     (orElse-assoc (refuse 16 ok) _ own

@@ -43,11 +43,11 @@ pub record Chosen (g : Geometry) (c : List ℕ) (b : ℕ) (r : Room) : Type 0 wh
 
 -- all of load's refusals, and where none is given its room
 pub record Roomed (c d : List ℕ) (m : Map) (t : List ℕ) (b : ℕ) (ch : List ℕ) (r : Room) : Type 0 where
-  pub refusal-is : r .refusal ≡ loadRefusal c d m t b ch
+  pub refusal-is : r .refusal ≡ loadRefusal 2 c d m t b ch
   pub free : r .refusal ≡ 0 → Free (geometryOf c) c r
 
 -- all of evict's refusals, and where none is given the place of the entry for b
 pub record Located (c d : List ℕ) (m : Map) (b : ℕ) (ch : List ℕ) (r : Place) : Type 0 where
-  pub refusal-is : r .refusal ≡ evictRefusal c d m b ch
+  pub refusal-is : r .refusal ≡ evictRefusal 2 c d m b ch
   pub geometry-is : r .refusal ≡ 0 → r .geometry ≡ geometryOf c
   pub at : r .refusal ≡ 0 → r .at ≡ findEntry (geometryOf c) c b

@@ -173,7 +173,7 @@ pub fn load(
     choice: &[u8],
     allowance: u64,
 ) -> Stored
-    ensures media { λ r. ⌜ Finished (loadWork (now (card .entry)) (now (disk .entry)) map (now (table .entry)) b (now (choice .entry))) allowance map (now (card .entry)) (now (card .exit)) (now (disk .entry)) (now (disk .exit)) r ⌝ }
+    ensures media { λ r. ⌜ Finished (loadWork 2 (now (card .entry)) (now (disk .entry)) map (now (table .entry)) b (now (choice .entry))) allowance map (now (card .entry)) (now (card .exit)) (now (disk .entry)) (now (disk .exit)) r ⌝ }
     ensures table { λ r. ⌜ now (table .exit) ≡ tableAfterLoad allowance (now (card .entry)) (now (disk .entry)) map (now (table .entry)) b (now (choice .entry)) ⌝ }
 {
     let arranged = recency::is_arranged(table);
@@ -311,7 +311,7 @@ pub fn evict(
     choice: &[u8],
     allowance: u64,
 ) -> Stored
-    ensures { λ r. ⌜ Finished (evictWork (now (card .entry)) (now (disk .entry)) map b (now (choice .entry))) allowance map (now (card .entry)) (now (card .exit)) (now (disk .entry)) (now (disk .exit)) r ⌝ }
+    ensures { λ r. ⌜ Finished (evictWork 2 (now (card .entry)) (now (disk .entry)) map b (now (choice .entry))) allowance map (now (card .entry)) (now (card .exit)) (now (disk .entry)) (now (disk .exit)) r ⌝ }
 {
     let place = find_cached(card, disk, map, b, choice);
     if place.refusal != 0 {

@@ -11,18 +11,30 @@ use std::process::{Command, Stdio};
 use std::time::Instant;
 use tinca_tests::drive::{damage, drawn, Snapshot};
 use tinca_tests::histories::history;
-use tinca_tests::model::{Card, Model, Slip, Store};
+use tinca_tests::model::{Call, Card, Model, Slip, Store, NOW, OLD, VERSION_AT};
 use tinca_tests::random::Random;
 use tinca_tests::scratch::{option, Folder};
-use tinca_tests::shown::*;
+use tinca_tests::shown::{self, *};
 use tinca_tests::stores_log::{in_full, same_log, stopped, Stop, CARD};
 use tinca_tests::{Calls, Geometry, Place};
 
 const DISK: &str = "disk.img";
 /// Lists up to this length are stopped at each of their stores.
 const SHORT_LIST: usize = 4;
-/// What the program can refuse with.
+/// What the program can refuse with, and an upgrade.
 const REFUSALS: [usize; 11] = [1, 2, 3, 4, 5, 6, 7, 8, 10, 11, 14];
+const OF_UPGRADE: [usize; 6] = [1, 2, 4, 5, 6, 7];
+
+/// A command that makes stores: its name, the title of its list, and the list by the model.
+#[derive(Clone, Copy)]
+struct Storing {
+    name: &'static str,
+    title: &'static str,
+    list: fn(&Model, &[u8]) -> Result<Vec<Store>, u32>,
+}
+
+const RECOVER: Storing = Storing { name: "recover", title: RECOVERY, list: Model::recover_list };
+const UPGRADE: Storing = Storing { name: "upgrade", title: shown::UPGRADE, list: Model::upgrade_list };
 
 /// What a run of the program came to.
 #[derive(Default)]
@@ -43,6 +55,10 @@ struct Tally {
     runs: u64,
     stores: u64,
     longest: usize,
+    /// Cards of version 1, and those of them that were upgraded.
+    old: u64,
+    upgrades: u64,
+    not_upgraded: [u64; 15],
     stops: [u64; Stop::KINDS.len()],
     refused: [u64; 15],
     /// Files shorter and longer than any card, and such as their header does not ask for.
@@ -61,13 +77,15 @@ impl Tally {
     fn line(&self) -> String {
         let refused = REFUSALS.map(|number| format!("{number}:{}", self.refused[number]));
         format!(
-            "{} cards, {} runs: {} stores made in their order, the longest list {}; {} recoveries stopped or \
-             held up and run again; {} cards shown; blocks {} on card, {} on disk; {} saves foreseen, of {} blocks \
+            "{} cards, {} of them of version 1, {} runs: {} stores made in their order, the longest list {}; {} upgrades; {} recoveries \
+             and upgrades stopped or held up and run again; {} cards shown; blocks {} on card, {} on disk; {} saves foreseen, of {} blocks \
              on card and {} new; {} geometries formatted; {} too short, {} too long, {} not as long as asked; refused {}",
             self.cards,
+            self.old,
             self.runs,
             self.stores,
             self.longest,
+            self.upgrades,
             self.stops.iter().sum::<u64>(),
             self.shown,
             self.on_card,
@@ -85,9 +103,10 @@ impl Tally {
 
     /// Nothing that the desk is there to see may be missing.
     fn complete(&self) -> Result<(), String> {
-        let refusals = REFUSALS.iter().all(|number| self.refused[*number] > 0);
+        let refusals = REFUSALS.iter().all(|number| self.refused[*number] > 0)
+            && OF_UPGRADE.iter().all(|number| self.not_upgraded[*number] > 0);
         let rest = [self.stores, self.shown, self.on_card, self.on_disk, self.previews, self.replaced, self.added];
-        let rest = rest.iter().chain([&self.formats]).all(|count| *count > 0);
+        let rest = rest.iter().chain([&self.formats, &self.old, &self.upgrades]).all(|count| *count > 0);
         let kinds = self.stops.iter().chain(&self.lengths).all(|count| *count > 0);
         if refusals && rest && kinds && self.longest > 20 {
             Ok(())
@@ -205,56 +224,63 @@ impl Desk {
         }
     }
 
-    /// A recovery of the card that now is in the file: exactly the first stores, as many as the allowance; in full
-    /// without one.
-    fn recovers(&mut self, card: &[u8], list: &[Store], allowance: Option<usize>) -> Result<(), String> {
+    /// A recovery or an upgrade of the card that now is in the file: exactly the first stores, as many as the allowance;
+    /// in full without one.
+    fn stores(&mut self, by: Storing, card: &[u8], list: &[Store], allowance: Option<usize>) -> Result<(), String> {
         let words = [CARD.to_string(), allowance.map_or(String::new(), |allowance| allowance.to_string())];
         let words: Vec<&str> = words.iter().map(|word| &word[..]).filter(|word| !word.is_empty()).collect();
-        let ran = self.run(&[&["recover"], &words[..]].concat(), &[])?;
+        let ran = self.run(&[&[by.name], &words[..]].concat(), &[])?;
         let made = allowance.unwrap_or(usize::MAX).min(list.len());
         same_log(&ran.log, &in_full(&list[..made]))?;
         let left = after(card, &list[..made]);
         same_file(&ran.file, &left)?;
         let end = if made < list.len() { "cut" } else { "done" };
-        equal("recover", parse_told(&ran.out)?, self.told(card, list, made, end, &left))?;
+        equal(by.name, parse_told(by.title, &ran.out)?, self.told(card, list, made, end, &left))?;
         self.tally.stores += made as u64;
+        self.tally.upgrades += u64::from(by.name == UPGRADE.name && made > 0);
         equal("standard error", &ran.err[..], "")
+    }
+
+    /// The same in full, or the refusal.
+    fn stores_or_refuses(&mut self, by: Storing, card: &[u8]) -> Result<(), String> {
+        match (by.list)(&self.model, card) {
+            Ok(list) => self.stores(by, card, &list, None),
+            Err(number) => self.refuses(&[by.name, CARD], card, number),
+        }
     }
 
     /// What the program says where it was stopped: nothing after the list where it ended, that it failed where a call
     /// failed, and as ever where it went on.
-    fn said(&self, card: &[u8], list: &[Store], stop: Stop, ran: &Ran) -> Result<(), String> {
+    fn said(&self, by: Storing, card: &[u8], list: &[Store], stop: Stop, ran: &Ran) -> Result<(), String> {
         if stop.ends() {
             let lines: Vec<&str> = ran.out.lines().collect();
-            equal("list", parse_list(&lines)?, list_rows(card, list))?;
+            equal("list", parse_list(by.title, &lines)?, list_rows(card, list))?;
             return equal("standard error", &ran.err[..], "");
         }
         let (end, err) = if stop.goes_on() { ("done", "") } else { ("failed", NOT_WRITTEN) };
         let file = left_by(card, list, stop);
-        equal("recover", parse_told(&ran.out)?, self.told(card, list, stop.durable(list.len()), end, &file))?;
+        equal(by.name, parse_told(by.title, &ran.out)?, self.told(card, list, stop.durable(list.len()), end, &file))?;
         equal("standard error", &ran.err[..], err)
     }
 
     /// A recovery that is stopped, and a second one that finishes: together they make each store once. After one that
-    /// went on, the second has nothing to do.
-    fn stops(&mut self, card: &[u8], list: &[Store], stop: Stop) -> Result<(), String> {
+    /// went on, the second has nothing to do. An upgrade that was stopped is made again, or is refused where its store
+    /// was made.
+    fn stops(&mut self, by: Storing, card: &[u8], list: &[Store], stop: Stop) -> Result<(), String> {
         self.put(CARD, card)?;
-        let ran = self.run(&["recover", CARD], &stop.variables())?;
+        let ran = self.run(&[by.name, CARD], &stop.variables())?;
         same_log(&ran.log, &stopped(list, stop))?;
         let left = left_by(card, list, stop);
         same_file(&ran.file, &left)?;
-        self.said(card, list, stop, &ran)?;
+        self.said(by, card, list, stop, &ran)?;
         let kind =
             Stop::KINDS.iter().position(|kind| std::mem::discriminant(&kind(1)) == std::mem::discriminant(&stop));
         self.tally.stops[kind.unwrap()] += 1;
-        if stop.half_in_file().is_none() {
-            return self.recovers(&left, &list[stop.in_file(list.len())..], None);
+        if stop.half_in_file().is_none() && by.name == RECOVER.name {
+            return self.stores(by, &left, &list[stop.in_file(list.len())..], None);
         }
         // a unit of which half was made is no unit any more: what is left to do is then the model's to say
-        match self.model.recover_list(&left) {
-            Ok(rest) => self.recovers(&left, &rest, None),
-            Err(number) => self.refuses(&["recover", CARD], &left, number),
-        }
+        self.stores_or_refuses(by, &left)
     }
 
     /// A run that was refused: one line on standard error, behind the name of the file that it is about; no store.
@@ -270,7 +296,10 @@ impl Desk {
     fn refuses(&mut self, words: &[&str], card: &[u8], number: u32) -> Result<(), String> {
         let ran = self.run(words, &[])?;
         same_file(&ran.file, card)?;
-        let Some(line) = length_line(card) else { return self.refused(&ran, number) };
+        let Some(line) = length_line(card) else {
+            self.tally.not_upgraded[number as usize] += u64::from(words[0] == UPGRADE.name);
+            return self.refused(&ran, number);
+        };
         same_log(&ran.log, &[])?;
         equal("standard output", &ran.out[..], "")?;
         equal("standard error", &ran.err[..], &line)
@@ -355,32 +384,55 @@ impl Desk {
         Ok(())
     }
 
-    /// A card in its history: shown, recovered in every way, its blocks read before and after, saves to it foreseen.
-    fn card(&mut self, random: &mut Random, at: &Snapshot) -> Result<(), String> {
-        let list = self.model.recover_list(&at.card).map_err(|number| format!("refused with {number}"))?;
+    /// A list of stores, made in full, with every allowance, and stopped at every store in every way.
+    fn made(&mut self, by: Storing, card: &[u8], list: &[Store]) -> Result<(), String> {
         let m = list.len();
-        self.tally.cards += 1;
-        self.tally.longest = self.tally.longest.max(m);
-        self.shows(&at.card)?;
-        self.recovers(&at.card, &list, None)?;
+        self.put(CARD, card)?;
+        self.stores(by, card, list, None)?;
         let places: Vec<usize> =
             if m <= SHORT_LIST { (0..m + 2).collect() } else { vec![0, 1, m / 2, m - 1, m, m + 1] };
         for allowance in &places {
-            self.put(CARD, &at.card)?;
-            self.recovers(&at.card, &list, Some(*allowance))?;
+            self.put(CARD, card)?;
+            self.stores(by, card, list, Some(*allowance))?;
         }
         for j in places.iter().filter(|j| (1..=m).contains(*j)) {
             for kind in Stop::KINDS {
-                self.stops(&at.card, &list, kind(*j)).map_err(|error| format!("{:?}: {error}", kind(*j)))?;
+                self.stops(by, card, list, kind(*j)).map_err(|error| format!("{} {:?}: {error}", by.name, kind(*j)))?;
             }
         }
-        if m > 0 {
-            self.put(DISK, &at.disk)?;
-            self.put(CARD, &at.card)?;
-            self.lists(at, random.below(3))?;
-            self.previews(&at.card, &[random.below(3)])?;
+        Ok(())
+    }
+
+    /// What the other commands say of a card that is not settled, or is old: a refusal.
+    fn before(&mut self, random: &mut Random, at: &Snapshot) -> Result<(), String> {
+        self.put(DISK, &at.disk)?;
+        self.put(CARD, &at.card)?;
+        self.lists(at, random.below(3))?;
+        self.previews(&at.card, &[random.below(3)])
+    }
+
+    /// A card in its history: shown, recovered in every way, its blocks read before and after, saves to it foreseen. An
+    /// old one is upgraded in every way in between; any other, and one not settled, is not.
+    fn card(&mut self, random: &mut Random, at: &Snapshot) -> Result<(), String> {
+        let list = self.model.recover_list(&at.card).map_err(|number| format!("refused with {number}"))?;
+        self.tally.cards += 1;
+        self.tally.longest = self.tally.longest.max(list.len());
+        self.shows(&at.card)?;
+        self.made(RECOVER, &at.card, &list)?;
+        if !list.is_empty() {
+            self.before(random, at)?;
         }
-        let recovered = Snapshot { card: after(&at.card, &list), ..at.clone() };
+        self.put(CARD, &at.card)?;
+        self.stores_or_refuses(UPGRADE, &at.card)?;
+        let mut recovered = Snapshot { card: after(&at.card, &list), ..at.clone() };
+        if at.card[VERSION_AT] == OLD {
+            self.tally.old += 1;
+            self.before(random, &recovered)?;
+            let list = self.model.upgrade_list(&recovered.card).map_err(|number| format!("refused with {number}"))?;
+            self.made(UPGRADE, &recovered.card, &list)?;
+            recovered.card = after(&recovered.card, &list);
+            self.shows(&recovered.card)?;
+        }
         self.saves(random, &recovered.card)?;
         self.blocks(random, &recovered)
     }
@@ -392,10 +444,9 @@ impl Desk {
         self.put(DISK, &at.disk)?;
         self.lists(at, 0)?;
         self.previews(&at.card, &[0])?;
-        match self.model.recover_list(&at.card) {
-            Ok(list) => self.recovers(&at.card, &list, None),
-            Err(number) => self.refuses(&["recover", CARD], &at.card, number),
-        }
+        self.stores_or_refuses(UPGRADE, &at.card)?;
+        self.put(CARD, &at.card)?;
+        self.stores_or_refuses(RECOVER, &at.card)
     }
 
     /// A card with other bytes behind it, as long as the largest card and longer than any.
@@ -502,7 +553,8 @@ fn asked(random: &mut Random, card: &Card) -> Vec<Vec<u64>> {
 
 /// A card that its history made and then something damaged, or one drawn at random.
 fn some_damaged(random: &mut Random, geometry: Geometry) -> Snapshot {
-    let mut at = if random.once_in(4) { drawn(random, geometry) } else { history(random, geometry, 3) };
+    let version = random.pick(&[OLD, NOW, NOW]);
+    let mut at = if random.once_in(4) { drawn(random, geometry) } else { history(random, geometry, 3, version) };
     damage(random, geometry, &mut at);
     at
 }
@@ -514,14 +566,15 @@ fn part(desk: &mut Desk, seed: u64, geometry: Geometry, cards: u64, damaged: u64
     for turn in 0..cards {
         // few blocks mostly, so that every cut of the list can be tried
         let most = if random.once_in(4) { geometry.data_blocks / 2 } else { 3 };
-        let at = history(&mut random, geometry, most);
+        let version = if turn % 3 == 2 { OLD } else { NOW };
+        let at = history(&mut random, geometry, most, version);
         desk.card(&mut random, &at).map_err(|error| format!("{geometry:?}, card {turn}: {error}"))?;
     }
     for turn in 0..damaged {
         let at = some_damaged(&mut random, geometry);
         desk.damaged(&at).map_err(|error| format!("{geometry:?}, damaged card {turn}: {error}"))?;
     }
-    let at = history(&mut random, geometry, 3);
+    let at = history(&mut random, geometry, 3, NOW);
     desk.too_long(&mut random, &at).map_err(|error| format!("{geometry:?}, too long: {error}"))
 }
 
@@ -541,7 +594,7 @@ fn right(desk: &mut Desk, seed: u64) -> Result<(), String> {
 }
 
 /// What a wrong program's run of a command might look like. Where a run has nothing of the kind, it stays as it is.
-const TAMPERS: [Tamper; 46] = [
+const TAMPERS: [Tamper; 60] = [
     ("recover", "a store is not made durable", |ran| ran.log.retain(|line| !line.starts_with("fdatasync"))),
     ("recover", "a store is made twice", |ran| ran.log.extend(ran.log.first().cloned())),
     ("recover", "stores change places", |ran| ran.log.reverse()),
@@ -571,7 +624,29 @@ const TAMPERS: [Tamper; 46] = [
         ran.err = ran.err.replace(NOT_WRITTEN, "card.img: Input/output error\n")
     }),
     ("recover", "a failure is called a cut", |ran| ran.out = ran.out.replace("made: failed", "made: cut")),
-    ("show", "another number is shown", |ran| ran.out = ran.out.replace("version         1", "version         2")),
+    ("recover", "an old card is told to be in order", |ran| {
+        ran.out = ran.out.replace("version 1, settled: to be upgraded", "settled, entries in use 1, modified 1")
+    }),
+    ("upgrade", "the store is not made durable", |ran| ran.log.retain(|line| !line.starts_with("fdatasync"))),
+    ("upgrade", "the store is made twice", |ran| ran.log.extend(ran.log.first().cloned())),
+    ("upgrade", "the store is not made", |ran| ran.log.clear()),
+    ("upgrade", "another byte is changed", |ran| change(&mut ran.file)),
+    ("upgrade", "another store is listed", |ran| ran.out = ran.out.replacen("    0  00000040", "    4  00000040", 1)),
+    ("upgrade", "the word of before is listed", |ran| ran.out = ran.out.replacen("  0000004002", "  0000004001", 1)),
+    ("upgrade", "the list has recovery's title", |ran| ran.out = ran.out.replace("upgrade stores", "recovery stores")),
+    ("upgrade", "a cut is not told", |ran| ran.out = ran.out.replace("made: cut", "made: done")),
+    ("upgrade", "a refused card is written to", |ran| {
+        push_if(ran, "refused with", "pwrite card.img 0 0000004002090008 8")
+    }),
+    ("upgrade", "a card that is not settled is another's fault", |ran| {
+        ran.err = ran.err.replace("refused with 7", "refused with 1")
+    }),
+    ("upgrade", "a failure is not told", |ran| ran.err = ran.err.replace(NOT_WRITTEN, "")),
+    ("show", "another number is shown", |ran| ran.out = ran.out.replace("version         2", "version         1")),
+    ("show", "P is not shown", |ran| ran.out = ran.out.replace("  V P M", "  V - M")),
+    ("show", "an old card need not be recovered", |ran| {
+        ran.out = ran.out.replace("not settled: to be recovered, then upgraded", "settled: to be upgraded")
+    }),
     ("show", "a shown card is changed", |ran| change(&mut ran.file)),
     ("show", "columns of a damaged card touch", |ran| {
         if ran.out.contains("refused with") {
@@ -662,9 +737,18 @@ fn push_if(ran: &mut Ran, said: &str, line: &str) {
     }
 }
 
-/// Slips of a recovery, of a state or of a save: the program differs from such a model.
-const WRONG_MODELS: [Slip; 8] = [
+/// Slips of a recovery, of an upgrade, of a state or of a save: the program differs from such a model.
+const WRONG_MODELS: [Slip; 17] = [
     Slip::CleanUndo,
+    Slip::ModifiedUndo,
+    Slip::UndoDropsP,
+    Slip::OldUndoneAsNew,
+    Slip::OldTaken(Call::Look),
+    Slip::OldTaken(Call::Commit),
+    Slip::FormatsOld,
+    Slip::NewUpgraded,
+    Slip::UpgradeUnsettled,
+    Slip::UpgradeClearsSlots,
     Slip::FreshAtUndo,
     Slip::WindowAlone,
     Slip::UnchangedCounted,
@@ -686,7 +770,7 @@ fn reported(desk: &mut Desk, name: &str, seed: u64) -> Result<(), String> {
 
 fn wrong(desk: &mut Desk, seed: u64) -> Result<(), String> {
     for slip in WRONG_MODELS {
-        desk.model = Model { slip: Some(slip) };
+        desk.model = Model::wrong(slip);
         reported(desk, &format!("{slip:?}"), seed)?;
     }
     desk.model = Model::default();

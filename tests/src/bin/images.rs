@@ -1,11 +1,13 @@
 //! Writes the card images that the service program is tried on, and the disk beside them. The model makes them, so
-//! that they are what document 01 says; each run writes the same bytes.
+//! that they are what documents 01 and 02 say; each run writes the same bytes. The images of version 1 that were stored
+//! before there was another are not written: they stay what they were, and a test asks the model whether they
+//! are its own.
 //!
 //!     images FOLDER
 
 use std::path::Path;
 use tinca_tests::drive::put;
-use tinca_tests::model::{ascending, commit_stores, in_order, map_of, zeros, Model};
+use tinca_tests::model::{ascending, commit_stores, in_order, map_of, zeros, Model, VERSION_AT};
 use tinca_tests::{Answer, Calls, Geometry};
 
 const SMALL: Geometry = Geometry { k: 9, slots: 8, data_blocks: 4, disk_blocks: 16 };
@@ -29,73 +31,109 @@ fn disk() -> Vec<u8> {
     (0..SMALL.disk_blocks).flat_map(|block| pattern("disk", block)).collect()
 }
 
-fn fresh() -> Vec<u8> {
+/// A card and the station, today's or one of before, whose calls it goes through.
+struct Made {
+    model: Model,
+    card: Vec<u8>,
+}
+
+fn fresh_by(model: Model) -> Made {
     let mut card = vec![0; SMALL.card_length()];
     let (k, slots, data_blocks, disk_blocks) = (SMALL.k, SMALL.slots, SMALL.data_blocks, SMALL.disk_blocks);
-    assert_eq!(Model::default().format(k, slots, data_blocks, disk_blocks, &mut card), Answer::Done(0));
-    card
+    assert_eq!(model.format(k, slots, data_blocks, disk_blocks, &mut card), Answer::Done(0));
+    Made { model, card }
 }
 
-/// Saves the blocks, cut after so many stores; the bytes tell the save's name.
-fn save(card: &mut [u8], name: &str, numbers: &[u64], allowance: u64) {
-    let data: Vec<u8> = numbers.iter().flat_map(|number| pattern(name, *number)).collect();
-    let count = commit_stores(numbers.len() as u64, BLOCK as u64);
-    let answer = if allowance < count { Answer::Cut } else { Answer::Done(count) };
-    let mut map = map_of(card);
-    assert_eq!(Model::default().commit(card, &mut map, numbers, &data, &in_order(BLOCK, allowance), allowance), answer);
+fn fresh() -> Made {
+    fresh_by(Model::default())
 }
 
-fn load(card: &mut [u8], number: u64) {
-    let (mut map, mut table) = (map_of(card), ascending());
-    assert_eq!(Model::default().load(card, &disk(), &mut map, &mut table, number, &zeros(BLOCK), u64::MAX), Answer::Done(65));
-}
+impl Made {
+    /// Saves the blocks, cut after so many stores; the bytes tell the save's name.
+    fn save(mut self, name: &str, numbers: &[u64], allowance: u64) -> Made {
+        let data: Vec<u8> = numbers.iter().flat_map(|number| pattern(name, *number)).collect();
+        let count = commit_stores(numbers.len() as u64, BLOCK as u64);
+        let answer = if allowance < count { Answer::Cut } else { Answer::Done(count) };
+        let (mut map, choice) = (map_of(&self.card), in_order(BLOCK, allowance));
+        assert_eq!(self.model.commit(&mut self.card, &mut map, numbers, &data, &choice, allowance), answer);
+        self
+    }
 
-fn recover(card: &[u8], allowance: u64, answer: Answer) -> Vec<u8> {
-    let (mut card, mut map) = (card.to_vec(), map_of(card));
-    assert_eq!(Model::default().recover(&mut card, &mut map, allowance), answer);
-    card
+    fn load(mut self, number: u64) -> Made {
+        let (mut map, mut table) = (map_of(&self.card), ascending());
+        let answer = self.model.load(&mut self.card, &disk(), &mut map, &mut table, number, &zeros(BLOCK), u64::MAX);
+        assert_eq!(answer, Answer::Done(65));
+        self
+    }
+
+    /// Evicts a block that is clean.
+    fn drop_clean(mut self, number: u64) -> Made {
+        let mut map = map_of(&self.card);
+        let answer = self.model.evict(&mut self.card, &mut disk(), &mut map, number, &zeros(BLOCK), u64::MAX);
+        assert_eq!(answer, Answer::Done(1));
+        self
+    }
+
+    fn recover(mut self, allowance: u64, answer: Answer) -> Made {
+        let mut map = map_of(&self.card);
+        assert_eq!(self.model.recover(&mut self.card, &mut map, allowance), answer);
+        self
+    }
+
+    /// By today's station.
+    fn upgrade(mut self) -> Made {
+        assert_eq!(Model::default().upgrade(&mut self.card, u64::MAX), Answer::Done(1));
+        self
+    }
 }
 
 /// Blocks 3 and 7 saved, 3 once more, 12 loaded.
-fn saved() -> Vec<u8> {
-    let mut card = fresh();
-    save(&mut card, "save a", &[3], u64::MAX);
-    save(&mut card, "save b", &[7], u64::MAX);
-    save(&mut card, "save c", &[3], u64::MAX);
-    load(&mut card, 12);
-    card
+fn saved_by(model: Model) -> Made {
+    let made = fresh_by(model).save("save a", &[3], u64::MAX).save("save b", &[7], u64::MAX);
+    made.save("save c", &[3], u64::MAX).load(12)
 }
 
-/// A save of blocks 1 and 7, of which 7 is cached. Two data blocks must be free for it, so 12, which is clean, goes
-/// first. The cut falls behind the entry of 7: it has R, and its number does not stand in the window.
-fn cut() -> Vec<u8> {
-    let mut card = saved();
-    let mut map = map_of(&card);
-    assert_eq!(Model::default().evict(&mut card, &mut disk(), &mut map, 12, &zeros(BLOCK), u64::MAX), Answer::Done(1));
-    save(&mut card, "save d", &[1, 7], 67 + 65);
-    card
+fn saved() -> Vec<u8> {
+    saved_by(Model::default()).card
+}
+
+fn old_saved() -> Vec<u8> {
+    saved_by(Model::old()).card
+}
+
+/// Block 7 saved twice, 12 loaded; then a save of 12, which is clean, and of 7, which is modified: a recovery gives each
+/// back as it was. The cut falls behind the entry of 7: it has R, and its number does not stand in the window.
+fn cut() -> Made {
+    let made = fresh().save("save a", &[7], u64::MAX).save("save b", &[7], u64::MAX);
+    made.load(12).save("save c", &[12, 7], 67 + 65)
+}
+
+/// What was cut before there was version 2: a save of blocks 1 and 7, of which 7 is cached. Two data blocks must be free
+/// for it, so 12, which is clean, goes first.
+fn old_cut() -> Made {
+    saved_by(Model::old()).drop_clean(12).save("save d", &[1, 7], 67 + 65)
 }
 
 /// Seven saves bring Head to slot 7; the eighth, of blocks 4 and 11, goes round. It is cut between its two role
 /// switches, so that one undoable entry has no R any more. Bytes 80 to 127 are not looked at, whatever stands there.
-fn round() -> Vec<u8> {
-    let mut card = fresh();
+fn round_by(model: Model) -> Made {
+    let mut made = fresh_by(model);
     for (name, number) in
         [("save a", 2), ("save b", 4), ("save c", 2), ("save d", 4), ("save e", 2), ("save f", 4), ("save g", 2)]
     {
-        save(&mut card, name, &[number], u64::MAX);
+        made = made.save(name, &[number], u64::MAX);
     }
-    save(&mut card, "save h", &[4, 11], 2 * 67 + 1);
-    card[80..128].fill(0xA5);
-    card
+    made = made.save("save h", &[4, 11], 2 * 67 + 1);
+    made.card[80..128].fill(0xA5);
+    made
+}
+
+fn round() -> Made {
+    round_by(Model::default())
 }
 
 fn full() -> Vec<u8> {
-    let mut card = fresh();
-    save(&mut card, "save a", &[1, 2], u64::MAX);
-    save(&mut card, "save b", &[15], u64::MAX);
-    load(&mut card, 8);
-    card
+    fresh().save("save a", &[1, 2], u64::MAX).save("save b", &[15], u64::MAX).load(8).card
 }
 
 /// The card with these bytes in place of its own. They must change it.
@@ -123,15 +161,16 @@ type Image = (&'static str, Vec<u8>);
 
 fn sound() -> Vec<Image> {
     vec![
-        ("fresh", fresh()),
+        ("fresh", fresh().card),
         ("saved", saved()),
-        ("cut", cut()),
-        ("recovering", recover(&cut(), 1, Answer::Cut)),
-        ("almost", recover(&cut(), 2, Answer::Cut)),
-        ("recovered", recover(&cut(), u64::MAX, Answer::Done(3))),
-        ("round", round()),
-        ("round-recovered", recover(&round(), u64::MAX, Answer::Done(3))),
+        ("cut", cut().card),
+        ("recovering", cut().recover(1, Answer::Cut).card),
+        ("almost", cut().recover(2, Answer::Cut).card),
+        ("recovered", cut().recover(u64::MAX, Answer::Done(3)).card),
+        ("round", round().card),
+        ("round-recovered", round().recover(u64::MAX, Answer::Done(3)).card),
         ("full", full()),
+        ("old-upgraded", old_cut().recover(u64::MAX, Answer::Done(3)).upgrade().card),
     ]
 }
 
@@ -139,7 +178,7 @@ fn sound() -> Vec<Image> {
 fn misfitted() -> Vec<Image> {
     vec![
         ("length", with(saved(), 3, &[65])),
-        ("version", with(saved(), 4, &[2])),
+        ("version", with(saved(), VERSION_AT, &[3])),
         ("k", with(saved(), 5, &[8])),
         ("slots", with(saved(), 7, &[12])),
         ("blocks", with(saved(), 11, &[6])),
@@ -150,24 +189,30 @@ fn misfitted() -> Vec<Image> {
         ("wide", with(saved(), 5, &[10])),
         ("longer", resized(saved(), 2305)),
         ("shorter", resized(saved(), 2303)),
+        ("old-longer", resized(old_saved(), 2305)),
     ]
 }
 
-/// Refused with 4, 5 or 6. Entry 0 of the saved card holds block 3, entry 1 block 7, entry 3 block 12.
+/// Refused with 4, 5 or 6. Entry 0 of the saved card holds block 3, entry 1 block 7, entry 3 block 12; of the one that
+/// went round, entry 0 holds block 2 and entry 1 block 4.
 fn damaged() -> Vec<Image> {
-    let (settled_of_3, current_of_3) = (2u32.to_be_bytes(), 2u32.to_be_bytes());
+    let (settled_of_2, current_of_3) = (2u32.to_be_bytes(), 2u32.to_be_bytes());
     vec![
+        ("old-head", with(old_saved(), 64, &word(8))),
+        ("old-flags", entry(old_saved(), 1, 0, &[0x86])),
+        ("old-samenumber", entry(old_saved(), 3, 7, &[3])),
         ("head", with(saved(), 64, &word(8))),
         ("tail", with(saved(), 72, &word(8))),
-        ("window", with(cut(), SMALL.slot_at(3), &word(16))),
+        ("window", with(cut().card, SMALL.slot_at(2), &word(16))),
         ("flags", entry(saved(), 1, 0, &[0x81])),
+        ("cleanp", entry(saved(), 3, 0, &[0x84])),
         ("notzero", entry(saved(), 1, 0, &[0])),
         ("number", entry(saved(), 3, 7, &[16])),
         ("current", entry(saved(), 3, 15, &[4])),
         ("previous", entry(saved(), 0, 11, &[4])),
         ("samenumber", entry(saved(), 3, 7, &[3])),
         ("samecurrent", entry(saved(), 3, 12, &current_of_3)),
-        ("samesettled", entry(cut(), 1, 8, &settled_of_3)),
+        ("samesettled", entry(round().card, 1, 8, &settled_of_2)),
     ]
 }
 
@@ -197,29 +242,76 @@ mod tests {
         Card::open(card, None).err().unwrap_or(0)
     }
 
+    /// The images of version 1 as they are stored, and as the station of before makes them.
+    fn kept() -> [(&'static [u8], Vec<u8>); 7] {
+        let old = Model::old();
+        [
+            (include_bytes!("../../../crates/service/data/old-fresh.img"), fresh_by(old).card),
+            (include_bytes!("../../../crates/service/data/old-saved.img"), old_saved()),
+            (include_bytes!("../../../crates/service/data/old-cut.img"), old_cut().card),
+            (include_bytes!("../../../crates/service/data/old-recovering.img"), old_cut().recover(1, Answer::Cut).card),
+            (include_bytes!("../../../crates/service/data/old-recovered.img"), old_cut().recover(u64::MAX, Answer::Done(3)).card),
+            (include_bytes!("../../../crates/service/data/old-round.img"), round_by(old).card),
+            (
+                include_bytes!("../../../crates/service/data/old-round-recovered.img"),
+                round_by(old).recover(u64::MAX, Answer::Done(3)).card,
+            ),
+        ]
+    }
+
+    #[test]
+    fn the_images_that_are_kept_are_those_of_before() {
+        for (stored, made) in kept() {
+            assert!(stored == made && stored[VERSION_AT] == 1);
+            assert_eq!(Model::default().make_map(stored), tinca_tests::FreeMap::Made(map_of(&made)));
+        }
+    }
+
     /// Each image is refused with the number that it is there for, and no card is longer than the smallest, but one
     /// by one byte.
     #[test]
     fn the_images_are_what_their_names_say() {
         let refusals = |images: Vec<Image>| -> Vec<u32> { images.iter().map(|(_, card)| refusal(card)).collect() };
-        assert_eq!(refusals(sound()), [0; 9]);
-        assert_eq!(refusals(misfitted()), [1, 1, 1, 1, 1, 1, 1, 1, 1, 2, 2, 2]);
-        assert_eq!(refusals(damaged()), [4, 4, 4, 5, 5, 5, 5, 5, 6, 6, 6]);
-        assert!(sound().iter().all(|(_, card)| card.len() == 2304));
+        assert_eq!(refusals(sound()), [0; 10]);
+        assert_eq!(refusals(misfitted()), [1, 1, 1, 1, 1, 1, 1, 1, 1, 2, 2, 2, 2]);
+        assert_eq!(refusals(damaged()), [4, 5, 6, 4, 4, 4, 5, 5, 5, 5, 5, 5, 6, 6, 6]);
+        let old = |images: Vec<Image>| images.iter().all(|(name, card)| name.starts_with("old-") == (card.get(VERSION_AT) == Some(&1)));
+        assert!(old(misfitted()) && old(damaged()));
+        assert!(sound().iter().all(|(_, card)| card.len() == 2304 && card[VERSION_AT] == 2));
+    }
+
+    /// The flag bytes of the entries for these blocks.
+    fn flags<const N: usize>(card: &[u8], numbers: [u64; N]) -> [u8; N] {
+        let opened = Card::open(card, None).unwrap();
+        numbers.map(|number| card[SMALL.entry_at(opened.entry_for(number).unwrap())])
     }
 
     #[test]
     fn the_cuts_fall_where_they_should() {
         let model = Model::default();
-        assert_eq!(model.state(&cut()), State::Unsettled { geometry: SMALL, undoable: 2, window: 1 });
-        assert_eq!(model.state(&round()), State::Unsettled { geometry: SMALL, undoable: 2, window: 2 });
-        let card = Card::open(&cut(), None).unwrap();
-        let of_7 = card.entries[card.entry_for(7).unwrap()].unwrap();
-        assert!(of_7.log_role && !card.window.contains(&7));
-        let card = Card::open(&round(), None).unwrap();
+        assert_eq!(model.state(&cut().card), State::Unsettled { geometry: SMALL, undoable: 2, window: 1 });
+        assert_eq!(model.state(&round().card), State::Unsettled { geometry: SMALL, undoable: 2, window: 2 });
+        for (card, numbers) in [(cut().card, [12, 7]), (old_cut().card, [1, 7])] {
+            let card = Card::open(&card, None).unwrap();
+            let of_7 = card.entries[card.entry_for(7).unwrap()].unwrap();
+            assert!(of_7.log_role && !card.window.contains(&7));
+            assert_eq!(card.window, numbers[..1]);
+        }
+        let card = Card::open(&round().card, None).unwrap();
         assert_eq!((card.tail, card.head), (7, 1));
         assert!(!card.entries[card.entry_for(4).unwrap()].unwrap().log_role);
         assert!(Card::open(&full(), None).unwrap().free_blocks().is_empty());
+    }
+
+    /// What is saved over, clean and modified, and what a recovery makes of it; both look alike on an old card.
+    #[test]
+    fn the_flags_are_those_of_their_version() {
+        assert_eq!(flags(&cut().card, [12, 7]), [0x83, 0x87]);
+        assert_eq!(flags(&cut().recover(u64::MAX, Answer::Done(3)).card, [12, 7]), [0x80, 0x86]);
+        assert_eq!(flags(&saved(), [3, 7, 12]), [0x86, 0x82, 0x80]);
+        assert_eq!(flags(&old_saved(), [3, 7, 12]), [0x82, 0x82, 0x80]);
+        assert_eq!(flags(&old_cut().card, [1, 7]), [0x83, 0x83]);
+        assert_eq!(flags(&round().card, [4, 11]), [0x86, 0x83]);
     }
 
     /// Two entries are alike in one way only, so that each way is tried by itself. (Equal current blocks of two

@@ -6,7 +6,9 @@
 //!
 //! Then it starts the station again on the same card, so that the cuts of all kills add up.
 //!
-//!     killer [--kills N] [--seed S] [--as-left] [--units]
+//!     killer [--kills N] [--seed S] [--as-left] [--units] [--old]
+//!
+//! With `--old` the first station does not format the card: it finds one of version 1, full and with a save cut, as a station of before left it.
 //!
 //! A kill ends a process between two instructions; the stores made so far stay in the mapping. So this tests the order of the stores
 //! as compiled. It says nothing of a processor's cache or of a memory controller. Document 01's units are whole; where the compiled
@@ -18,7 +20,7 @@ use std::process::{Child, Command, Stdio};
 use std::time::{Duration, Instant};
 use tinca_tests::ffi::Library;
 use tinca_tests::mapped::*;
-use tinca_tests::model::{ascending, stores_of, Model, Store};
+use tinca_tests::model::{ascending, map_of, stores_of, zeros, Model, Store, NOW, OLD, VERSION_AT};
 use tinca_tests::random::Random;
 use tinca_tests::scratch::{option, Folder};
 use tinca_tests::{Answer, Calls, Place, State};
@@ -66,6 +68,7 @@ fn how_far(list: &[Store], before: &[u8], found: &[u8]) -> Result<(usize, bool),
 
 fn kind(store: &Store) -> usize {
     match store {
+        Store::Word(0, _) => 6,
         Store::Entry(..) => 0,
         Store::Word(64, _) => 2,
         Store::Word(72, _) => 3,
@@ -75,7 +78,34 @@ fn kind(store: &Store) -> usize {
     }
 }
 
-const KINDS: [&str; 6] = ["entry", "slot", "Head", "Tail", "word", "sector"];
+const KINDS: [&str; 7] = ["entry", "slot", "Head", "Tail", "word", "sector", "header"];
+
+/// A save of a station of before, which makes room for it.
+fn old_save(card: &mut [u8], disk: &mut [u8], sequence: u64, group: u64, allowance: u64) -> Answer {
+    let (mut map, mut table) = (map_of(card), ascending());
+    let (numbers, data) = (numbers(group), saved(sequence, group));
+    Model::old().commit_making_room(card, disk, &mut map, &mut table, &numbers, &data, &zeros(BLOCK), allowance)
+}
+
+/// What a station of before left: every group saved and noted, and then a save cut before its last store, so that nothing of it may stay.
+fn leave_old(card: &mut [u8], disk: &mut [u8], notes: &mut Mapped) -> Result<(), String> {
+    Model::old().format(K, SLOTS, DATA_BLOCKS, DISK_BLOCKS, card);
+    for group in 0..GROUPS {
+        if !matches!(old_save(card, disk, 1 + group, group, u64::MAX), Answer::Done(_)) {
+            return Err("a save of a station of before is not done".to_string());
+        }
+        notes.set_number(1 + group as usize, 1 + group);
+    }
+    notes.set_number(ACKNOWLEDGED, GROUPS);
+    notes.set_number(BEGUN, 1 + GROUPS);
+    let Answer::Done(m) = old_save(&mut card.to_vec(), &mut disk.to_vec(), 1 + GROUPS, 3, u64::MAX) else {
+        return Err("the last save of a station of before is refused".to_string());
+    };
+    match (old_save(card, disk, 1 + GROUPS, 3, m - 1), card[VERSION_AT]) {
+        (Answer::Cut, OLD) => Ok(()),
+        other => Err(format!("the last save of a station of before is not cut: {other:?}")),
+    }
+}
 
 fn stop(child: &mut Child) {
     let _ = child.kill();
@@ -92,7 +122,11 @@ fn run(kills: u64, seed: u64) -> Result<String, String> {
     let (library, model) = (Library, Model::default());
     let units = std::env::args().any(|word| word == "--units");
     let as_left = std::env::args().any(|word| word == "--as-left");
-    let (mut inside, mut between, mut previewing, mut making_room, mut half) = (0, 0, 0, 0, [0u64; 6]);
+    let old = std::env::args().any(|word| word == "--old");
+    if old {
+        leave_old(card.bytes_mut(), disk.bytes_mut(), &mut notes)?;
+    }
+    let (mut inside, mut between, mut previewing, mut making_room, mut half) = (0, 0, 0, 0, [0u64; KINDS.len()]);
     let start = Instant::now();
     let (mut unsettled, mut undone_stores, mut newer, mut acknowledged_last, mut undoable_most) = (0, 0, 0, 0, 0);
     let mut left_to_station = 0;
@@ -100,7 +134,7 @@ fn run(kills: u64, seed: u64) -> Result<String, String> {
         let first = notes.number(ACKNOWLEDGED);
         let mut command = Command::new(&station);
         command.arg(&folder.0).arg(random.next().to_string()).stdin(Stdio::null());
-        if kill == 0 {
+        if kill == 0 && !old {
             command.arg("format");
         }
         if units {
@@ -140,6 +174,7 @@ fn run(kills: u64, seed: u64) -> Result<String, String> {
             }
             LOAD => model.load_list(was, disk_was, argument),
             EVICT => model.evict_list(was, DISK, argument),
+            UPGRADE => model.upgrade_list(was),
             _ => Err(0),
         };
         if let Ok(list) = list {
@@ -171,6 +206,9 @@ fn run(kills: u64, seed: u64) -> Result<String, String> {
             }
         }
         notes.set_number(CALL, 0);
+        if card.bytes()[VERSION_AT] != NOW {
+            return Err(format!("kill {kill}: saves on a card of version {}", card.bytes()[VERSION_AT]));
+        }
         let state = library.state(card.bytes());
         match state {
             State::Settled { .. } => {}
@@ -207,11 +245,12 @@ fn run(kills: u64, seed: u64) -> Result<String, String> {
     }
     let torn: Vec<String> = KINDS.iter().zip(half).map(|(kind, count)| format!("{kind} {count}")).collect();
     Ok(format!(
-        "{kills} kills in {:.1} s: {acknowledged_last} saves acknowledged; {inside} kills in a storing call, {making_room} of them in one that \
+        "{kills} kills in {:.1} s{}: {acknowledged_last} saves acknowledged; {inside} kills in a storing call, {making_room} of them in one that \
          makes room, {between} between its first store and its last, each after exactly the first stores of its list; {previewing} in a \
          preview, without a store; units half made: {}; {unsettled} cards unsettled (at most {undoable_most} entries to undo, \
          {left_to_station} left to the station), {undone_stores} stores of recoveries, {newer} whole saves not yet noted; no save torn or lost",
         start.elapsed().as_secs_f64(),
+        if old { ", on a card that was upgraded" } else { "" },
         torn.join(", ")
     ))
 }

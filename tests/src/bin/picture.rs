@@ -170,7 +170,8 @@ fn draw_entries(page: &mut Page, y: i32, stage: &Stage) {
         };
         let flags = stage.bytes[SMALL.entry_at(index)];
         let letter = |bit: u8, letter| if flags & bit == 0 { "-" } else { letter };
-        let flags = format!("{flags:02X} {} {} {}", letter(0x80, "V"), letter(0x02, "M"), letter(0x01, "R"));
+        let letters = [letter(0x80, "V"), letter(0x04, "P"), letter(0x02, "M"), letter(0x01, "R")];
+        let flags = format!("{flags:02X} {}", letters.join(" "));
         let previous = entry.previous.map_or("FRESH".to_string(), |block| block.to_string());
         let (previous_ink, current_ink) = if undoable { (STRONG, FAINT) } else { (FAINT, STRONG) };
         let texts = [flags, entry.number.to_string(), previous, entry.current.to_string()];
@@ -314,7 +315,8 @@ fn draw_foot(page: &mut Page, y: i32, count: u64) {
         "Data blocks: settled, what is read after a recovery; current, named so by an undoable entry; free, neither.".to_string(),
         "A recovery does not look at the slots outside the window, whatever they hold.".to_string(),
         format!(
-            "Flags: V in use, M modified, R log role. The card: k {k} (B {BLOCK}), S {slots}, N {data_blocks}, D {disk_blocks}."
+            "Flags: V in use, P previous version modified (set back, an entry has M if it has P), M modified, R log role. The card: \
+             k {k} (B {BLOCK}), S {slots}, N {data_blocks}, D {disk_blocks}."
         ),
     ];
     for (line, text) in (0..).zip(foot) {

@@ -1,6 +1,7 @@
 //! A station on mapped files: saves without end, with evicts, loads and reads between, and notes each save that was answered with done. Some
-//! saves make room themselves; for the others a preview tells when to make it. Before each storing call and preview it copies card, disk and
-//! table aside and notes the call, so that `killer`, which starts and kills it, can tell how far the call came.
+//! saves make room themselves; for the others a preview tells when to make it. A card of version 1 it recovers and upgrades first. Before each
+//! storing call and preview it copies card, disk and table aside and notes the call, so that `killer`, which starts and kills it, can tell how
+//! far the call came.
 //!
 //!     station FOLDER SEED [format] [units]
 //!
@@ -178,6 +179,12 @@ impl Station {
         }
     }
 
+    /// A card of a station of before, once it is recovered.
+    fn upgrade(&mut self) {
+        let answer = self.noted(UPGRADE, 0, &|lent| Library.upgrade(lent.card, lent.allowance));
+        assert_eq!(answer, Answer::Done(1));
+    }
+
     fn read(&mut self, block: u64) {
         let place = Library.read(self.card.bytes(), self.disk.bytes(), &mut self.table, block, &mut [0; BLOCK]);
         assert!(matches!(place, Place::Card(..) | Place::Disk(..)), "read {place:?}");
@@ -208,6 +215,9 @@ fn main() {
     // a card that was left unsettled is recovered here
     station.map = Library.fresh_map(station.card.bytes());
     assert!(matches!(Library.recover(station.card.bytes_mut(), &mut station.map, u64::MAX), Answer::Done(_)));
+    if Library.state(station.card.bytes()) == State::Refused(1) {
+        station.upgrade();
+    }
     assert!(matches!(Library.state(station.card.bytes()), State::Settled { .. }));
     let first = station.notes.number(ACKNOWLEDGED).max(station.notes.number(BEGUN)) + 1;
     (first..).for_each(|sequence| station.turn(&mut random, sequence));

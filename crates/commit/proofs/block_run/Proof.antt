@@ -19,6 +19,9 @@ mul-log-entry c = search needs
 shared-slice-read-log-entry : tie.Need-shared-slice-read-log-entry
 shared-slice-read-log-entry c = search needs
 
+mul-log-entry-2 : tie.Need-mul-log-entry-2
+mul-log-entry-2 c = search needs
+
 element-copy-out-log-entry : tie.Need-element-copy-out-log-entry
 element-copy-out-log-entry c = search needs
 
@@ -67,7 +70,7 @@ block-run-spec =
     returns
     mul-log-entry
     shared-slice-read-log-entry
-    element-copy-out-log-entry
+    mul-log-entry-2 element-copy-out-log-entry
     element-copy-out-log-entry-2
     log-entry-requires
     element-copy-out-entry-run

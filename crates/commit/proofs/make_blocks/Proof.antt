@@ -29,6 +29,9 @@ mul-log-entry c = search needs
 shared-slice-read-log-entry : tie.Need-shared-slice-read-log-entry Inv-loop μ-loop
 shared-slice-read-log-entry c = search needs
 
+mul-log-entry-2 : tie.Need-mul-log-entry-2 Inv-loop μ-loop
+mul-log-entry-2 c = search needs
+
 element-copy-out-log-entry : tie.Need-element-copy-out-log-entry Inv-loop μ-loop
 element-copy-out-log-entry c = search needs
 
@@ -55,7 +58,7 @@ make-block-requires c κs =
     let r = s .pre .1 in (
       record { good = search needs; long = search needs },
       entry-on _ _ _ _ (r .named) (n .loop-test .taken) _ (placed .wide .ensures),
-      block-on _ _ _ _ (r .named) (n .loop-test .taken) _ _ _ (logged .log-entry .ensures),
+      block-on _ _ _ _ (r .named) (n .loop-test .taken) _ _ _ _ (logged .log-entry .ensures),
       data-on _ _ _ _ _ _ r (n .loop-test .taken),
       r .head,
       search (r .count, needs),
@@ -89,5 +92,5 @@ returns c = search (each-all, needs)
 
 pub make-blocks-spec : {M : Type 1} → statement M
 make-blocks-spec =
-    tie.close (tie.spec Inv-loop μ-loop loop-holds mul-log-entry shared-slice-read-log-entry element-copy-out-log-entry element-copy-out-log-entry-2
+    tie.close (tie.spec Inv-loop μ-loop loop-holds mul-log-entry shared-slice-read-log-entry mul-log-entry-2 element-copy-out-log-entry element-copy-out-log-entry-2
     log-entry-requires element-copy-out-wide wide-requires make-block-requires add-i loop-less loop-again same-length returns)

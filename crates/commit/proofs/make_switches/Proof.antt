@@ -31,6 +31,9 @@ mul-log-entry c = search needs
 shared-slice-read-log-entry : tie.Need-shared-slice-read-log-entry Inv-loop μ-loop
 shared-slice-read-log-entry c = search needs
 
+mul-log-entry-2 : tie.Need-mul-log-entry-2 Inv-loop μ-loop
+mul-log-entry-2 c = search needs
+
 element-copy-out-log-entry : tie.Need-element-copy-out-log-entry Inv-loop μ-loop
 element-copy-out-log-entry c = search needs
 
@@ -96,5 +99,5 @@ returns c ch = each-all _ _ _ _ _ _ _ ch (search needs) (search needs) (c .befor
 
 pub make-switches-spec : {M : Type 1} → statement M
 make-switches-spec =
-    tie.close (tie.spec Inv-loop μ-loop loop-holds mul-log-entry shared-slice-read-log-entry element-copy-out-log-entry element-copy-out-log-entry-2
+    tie.close (tie.spec Inv-loop μ-loop loop-holds mul-log-entry shared-slice-read-log-entry mul-log-entry-2 element-copy-out-log-entry element-copy-out-log-entry-2
     log-entry-requires switch-role-requires element-copy-out-wide wide-requires entry-place-requires make-entry-requires add-i loop-less loop-again same-length returns)

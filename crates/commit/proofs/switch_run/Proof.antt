@@ -10,6 +10,9 @@ mul-log-entry c = search needs
 shared-slice-read-log-entry : tie.Need-shared-slice-read-log-entry
 shared-slice-read-log-entry c = search needs
 
+mul-log-entry-2 : tie.Need-mul-log-entry-2
+mul-log-entry-2 c = search needs
+
 element-copy-out-log-entry : tie.Need-element-copy-out-log-entry
 element-copy-out-log-entry c = search needs
 
@@ -37,7 +40,7 @@ switch-run-spec =
     (tie.spec
     mul-log-entry
     shared-slice-read-log-entry
-    element-copy-out-log-entry
+    mul-log-entry-2 element-copy-out-log-entry
     element-copy-out-log-entry-2
     log-entry-requires
     switch-role-requires

@@ -11,10 +11,10 @@ use Rattle.faults.proofs.entry_fault.Statement.{statement}
 use Rattle.faults.proofs.entry_fault.Tie as tie
 
 abbrev Inv-loop : tie.InvT-loop
-Inv-loop g card n i₀ i = (i ≤ n) × (anyBelow (fails (goodEntryAt g card)) i ≡ false)
+Inv-loop g version card n i₀ i = (i ≤ n) × (anyBelow (fails (goodEntryAt g card)) i ≡ false)
 
 abbrev μ-loop : tie.MeasureT-loop
-μ-loop g card n i₀ i = n - i
+μ-loop g version card n i₀ i = n - i
 
 loop-holds : tie.Need-loop-holds Inv-loop μ-loop
 unfolding anyBelow

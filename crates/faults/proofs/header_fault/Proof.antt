@@ -13,8 +13,8 @@ get-requires c κs = search needs
 returns-2 : tie.Need-returns-2
 returns-2 c = search (header-length, needs)
 
-shared-slice-read-if3 : tie.Need-shared-slice-read-if3
-shared-slice-read-if3 c = search needs
+version-of-requires : tie.Need-version-of-requires
+version-of-requires c κs = search needs
 
 returns-3 : tie.Need-returns-3
 returns-3 c = search (header-version, needs)
@@ -47,7 +47,7 @@ header-fault-spec =
     returns
     get-requires
     returns-2
-    shared-slice-read-if3
+    version-of-requires
     returns-3
     geometry-of-requires
     good-geometry-requires

@@ -30,6 +30,9 @@ home-of-requires c κs =
 element-write-entries : tie.Need-element-write-entries Inv-loop μ-loop
 element-write-entries c = let l = c .before .before .before in search (l .loop .inv .1 .long .0, l .before .before .before .pre .2, needs)
 
+mul-previous : tie.Need-mul-previous Inv-loop μ-loop
+mul-previous c = let l = c .before .before .before in search (l .loop .inv .1 .long .1, l .before .before .before .pre .2, needs)
+
 element-write-previous : tie.Need-element-write-previous Inv-loop μ-loop
 element-write-previous c = let l = c .before .before .before in search (l .loop .inv .1 .long .1, l .before .before .before .pre .2, needs)
 
@@ -51,4 +54,4 @@ returns c = search (found-end, needs)
 pub find-homes-spec : {M : Type 1} → statement M
 find-homes-spec =
     tie.close (tie.spec Inv-loop μ-loop loop-holds mul-home-of shared-slice-read-home-of home-of-requires element-write-entries
-    element-write-previous add-i loop-less loop-again returns)
+    mul-previous element-write-previous add-i loop-less loop-again returns)

@@ -1,5 +1,4 @@
 -- `home_of` answers the entry that is found by the index, or none.
-use Prim.Native.Nat.{_<_}
 use Rattle.plan.proofs.Housing.{found-few, housed-found, housed-missed}
 use borrow.Author.Needs.{needs}
 use Rattle.plan.proofs.home_of.Statement.{statement}
@@ -18,15 +17,12 @@ cast-found c =
     let s = f .before .before in
     search (found-few _ _ _ _ _ (s .pre .0) (f .find .ensures) (t .if1 .taken) .0, needs)
 
-cast-current : tie.Need-cast-current
-cast-current c =
-    let e = c .before in
-    let t = e .before in
+replaced-requires : tie.Need-replaced-requires
+replaced-requires c κs =
+    let t = c .before in
     let f = t .before in
     let s = f .before .before in
-    let few = found-few _ _ _ _ _ (s .pre .0) (f .find .ensures) (t .if1 .taken) .1 in
-    let byte : e .entry-of .result .current < 128 = rw (e .entry-of .ensures) few in
-    search (byte, needs)
+    rw (c .entry-of .ensures) (found-few _ _ _ _ _ (s .pre .0) (f .find .ensures) (t .if1 .taken) .1)
 
 returns : tie.Need-returns
 returns c =
@@ -34,7 +30,7 @@ returns c =
     let t = e .before in
     let f = t .before in
     let s = f .before .before in
-    housed-found _ _ _ _ _ (s .pre .0) (f .find .ensures) _ (t .if1 .taken) (e .entry-of .ensures)
+    housed-found _ _ _ _ _ (s .pre .0) (f .find .ensures) _ (t .if1 .taken) (e .entry-of .ensures) _ (c .replaced .ensures)
 
 returns-2 : tie.Need-returns-2
 returns-2 c =
@@ -43,4 +39,4 @@ returns-2 c =
     housed-missed _ _ _ _ _ (s .pre .0) (f .find .ensures) (c .if1 .left)
 
 pub home-of-spec : {M : Type 1} → statement M
-home-of-spec = tie.close (tie.spec find-requires entry-of-requires cast-found cast-current returns returns-2)
+home-of-spec = tie.close (tie.spec find-requires entry-of-requires cast-found replaced-requires returns returns-2)

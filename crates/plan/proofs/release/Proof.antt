@@ -14,6 +14,9 @@ abbrev μ-loop : tie.MeasureT-loop
 loop-holds : tie.Need-loop-holds Inv-loop μ-loop
 loop-holds c = (search needs, left-start _ _)
 
+mul-wide : tie.Need-mul-wide Inv-loop μ-loop
+mul-wide c = search needs
+
 element-copy-out-wide : tie.Need-element-copy-out-wide Inv-loop μ-loop
 element-copy-out-wide c = search needs
 
@@ -43,5 +46,5 @@ returns c = search (left-end, needs)
 
 pub release-spec : {M : Type 1} → statement M
 release-spec =
-    tie.close (tie.spec Inv-loop μ-loop loop-holds element-copy-out-wide wide-requires add-i without-requires loop-less loop-again loop-less-2
+    tie.close (tie.spec Inv-loop μ-loop loop-holds mul-wide element-copy-out-wide wide-requires add-i without-requires loop-less loop-again loop-less-2
     loop-again-2 returns)

@@ -4,6 +4,7 @@ use borrow.Author.Needs.{needs}
 use denote.Ref.{now}
 use native.Mathlib.Omega.{arith}
 use Rattle.numbers.specs.Bytes.{Bytes}
+use Rattle.ring.proofs.Laws.{fitted-long}
 use Rattle.recovery.proofs.Turns.{step-passed, step-left-out, step-undone}
 use Rattle.recovery.proofs.undo_step.Statement.{statement}
 use Rattle.recovery.proofs.undo_step.Tie as tie
@@ -20,6 +21,9 @@ undoable-requires c κs = search needs
 returns : tie.Need-returns
 returns c = search (step-passed, needs)
 
+version-of-requires : tie.Need-version-of-requires
+version-of-requires c κs = search (fitted-long, needs)
+
 undone-of-requires : tie.Need-undone-of-requires
 undone-of-requires c κs = search needs
 
@@ -27,12 +31,12 @@ same-requires : tie.Need-same-requires
 same-requires c κs = search needs
 
 returns-2 : tie.Need-returns-2
-returns-2 c = let b = known (c .before .before .before .before .before .before) in search (step-left-out, needs)
+returns-2 c = let b = known (c .before .before .before .before .before .before .before) in search (step-left-out, needs)
 
 returns-3 : tie.Need-returns-3
-returns-3 c = let b = known (c .before .before .before .before .before .before) in search (step-undone, needs)
+returns-3 c = let b = known (c .before .before .before .before .before .before .before) in search (step-undone, needs)
 
 pub undo-step-spec : {M : Type 1} → statement M
 undo-step-spec =
     tie.close
-    (tie.spec entry-of-requires undoable-requires returns undone-of-requires same-requires returns-2 returns-3)
+    (tie.spec entry-of-requires undoable-requires returns version-of-requires undone-of-requires same-requires returns-2 returns-3)

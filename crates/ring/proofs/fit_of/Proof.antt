@@ -16,6 +16,9 @@ returns c = search (opened-none, needs)
 geometry-of-requires : tie.Need-geometry-of-requires
 geometry-of-requires c κs = search (header-long, needs)
 
+version-of-requires : tie.Need-version-of-requires
+version-of-requires c κs = search (header-long, needs)
+
 head-of-requires : tie.Need-head-of-requires
 head-of-requires c κs = search (header-long, needs)
 
@@ -30,4 +33,14 @@ returns-2 c = search (opened-past, needs)
 
 pub fit-of-spec : {M : Type 1} → statement M
 fit-of-spec =
-    tie.close (tie.spec header-fits-requires unfit-requires returns geometry-of-requires head-of-requires tail-of-requires length-refusal-requires returns-2)
+    tie.close
+    (tie.spec
+    header-fits-requires
+    unfit-requires
+    returns
+    geometry-of-requires
+    version-of-requires
+    head-of-requires
+    tail-of-requires
+    length-refusal-requires
+    returns-2)

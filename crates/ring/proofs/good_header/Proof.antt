@@ -1,5 +1,5 @@
 -- `good_header` answers its definition, from what its tests answer.
-use Rattle.protocol.specs.Layout.{goodHeader}
+use Rattle.protocol.specs.Layout.{between, goodHeader}
 use borrow.Author.Needs.{needs}
 use Rattle.ring.proofs.good_header.Statement.{statement}
 use Rattle.ring.proofs.good_header.Tie as tie
@@ -7,8 +7,8 @@ use Rattle.ring.proofs.good_header.Tie as tie
 get-requires : tie.Need-get-requires
 get-requires c κs = search needs
 
-shared-slice-read-version : tie.Need-shared-slice-read-version
-shared-slice-read-version c = search needs
+version-of-requires : tie.Need-version-of-requires
+version-of-requires c κs = search needs
 
 geometry-of-requires : tie.Need-geometry-of-requires
 geometry-of-requires c κs = search needs
@@ -20,9 +20,9 @@ zeros-requires : tie.Need-zeros-requires
 zeros-requires c κs = search needs
 
 returns : tie.Need-returns
-unfolding goodHeader
+unfolding goodHeader between
 returns c = cc
 
 pub good-header-spec : {M : Type 1} → statement M
 good-header-spec =
-    tie.close (tie.spec get-requires shared-slice-read-version geometry-of-requires good-geometry-requires zeros-requires returns)
+    tie.close (tie.spec get-requires version-of-requires geometry-of-requires good-geometry-requires zeros-requires returns)

@@ -36,6 +36,9 @@ cast-freed c =
       needs,
     )
 
+mul-freed : tie.Need-mul-freed Inv-loop μ-loop
+mul-freed c = let (d, ch, v) = c .before .before .before .before .before .before .before .pre .1 in search (clear-few _ _ d ch _ _ v, c .before .before .before .before .before .loop .inv .1 .long, needs)
+
 element-write-freed : tie.Need-element-write-freed Inv-loop μ-loop
 element-write-freed c = let (d, ch, v) = c .before .before .before .before .before .before .before .pre .1 in search (clear-few _ _ d ch _ _ v, c .before .before .before .before .before .loop .inv .1 .long, needs)
 
@@ -71,5 +74,5 @@ returns c = let l = c .before .loop .inv in counting-end _ _ _ _ _ _ _ (l .0) (c
 
 pub weigh-spec : {M : Type 1} → statement M
 weigh-spec =
-    tie.close (tie.spec Inv-loop μ-loop loop-holds element-copy-out-wide wide-requires entry-of-requires cast-freed element-write-freed
+    tie.close (tie.spec Inv-loop μ-loop loop-holds element-copy-out-wide wide-requires entry-of-requires cast-freed mul-freed element-write-freed
     evict-count-requires add-stores add-k loop-less loop-again returns)

@@ -26,11 +26,14 @@ add-if3 c = search needs
 returns-3 : tie.Need-returns-3
 returns-3 c = search (line-short, needs)
 
+version-of-requires : tie.Need-version-of-requires
+version-of-requires c κs = search (header-long, needs)
+
 entry-at-requires : tie.Need-entry-at-requires
 entry-at-requires c κs = search needs
 
 line-in-requires : tie.Need-line-in-requires
-line-in-requires c κs = (search needs, search (line-entry, needs))
+line-in-requires c κs = (search needs, search needs, search (line-entry, needs))
 
 returns-4 : tie.Need-returns-4
 returns-4 c = search (line-there, needs)
@@ -46,6 +49,7 @@ line-of-spec =
     entry-place-requires
     add-if3
     returns-3
+    version-of-requires
     entry-at-requires
     line-in-requires
     returns-4)

@@ -28,7 +28,7 @@ returns c =
     let l = k .before .before .before in
     let x = l .before .before .before .before .before .before .before .before .args in
     let e = k .commit .ensures in
-    lent-call (λ (m : Map). commitWork (x .card .now) m (x .numbers .now) (x .bytes .now) (x .choice .now)) _ _ _ _ _ _ _ (l .lent .ensures) (e .answers) (e .hands)
+    lent-call (λ (m : Map). commitWork 2 (x .card .now) m (x .numbers .now) (x .bytes .now) (x .choice .now)) _ _ _ _ _ _ _ (l .lent .ensures) (e .answers) (e .hands)
     (h .handed .ensures) _ (e .leaves)
 
 pub tinca-commit-spec : {M : Type 1} → statement M

@@ -34,7 +34,7 @@ returns c =
     let x = c .before .before .before .before .before .before .before .before .before .before .before .before .before .before .before .before .before .before .before .before .before .before .before .before .args in
     let (e, table) = c .before .before .before .before .before .before .before .before .before .commit .ensures in
     let told =
-    lent-both (λ (m : Map). roomWork (x .card .now) (x .disk .now) m (x .table .now) (x .numbers .now) (x .bytes .now) (x .choice .now)) _ _ _ _ _ _ _
+    lent-both (λ (m : Map). roomWork 2 (x .card .now) (x .disk .now) m (x .table .now) (x .numbers .now) (x .bytes .now) (x .choice .now)) _ _ _ _ _ _ _
     (l .lent .ensures) (e .answer) (e .map) (c .before .before .handed .ensures) _ _ _ (e .card) (e .disk) in (
       told .0,
       (

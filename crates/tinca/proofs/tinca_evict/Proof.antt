@@ -31,7 +31,7 @@ returns c =
     let l = k .before .before .before .before in
     let x = l .before .before .before .before .before .before .before .args in
     let e = k .evict .ensures in
-    lent-both (λ (m : Map). evictWork (x .card .now) (x .disk .now) m (x .block) (x .choice .now)) _ _ _ _ _ _ _ (l .lent .ensures) (e .answer) (e .map)
+    lent-both (λ (m : Map). evictWork 2 (x .card .now) (x .disk .now) m (x .block) (x .choice .now)) _ _ _ _ _ _ _ (l .lent .ensures) (e .answer) (e .map)
     (h .handed .ensures) _ _ _ (e .card) (e .disk)
 
 pub tinca-evict-spec : {M : Type 1} → statement M

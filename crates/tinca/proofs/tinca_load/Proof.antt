@@ -31,7 +31,7 @@ returns c =
     let x = c .before .before .before .before .before .before .before .before .before .before .before .before .before .before .before .before .before .before .before .args in
     let (e, table) = c .before .before .before .before .before .before .before .load .ensures in
     let told =
-    lent-call (λ (m : Map). loadWork (x .card .now) (x .disk .now) m (x .table .now) (x .block) (x .choice .now)) _ _ _ _ _ _ _ (l .lent .ensures)
+    lent-call (λ (m : Map). loadWork 2 (x .card .now) (x .disk .now) m (x .table .now) (x .block) (x .choice .now)) _ _ _ _ _ _ _ (l .lent .ensures)
     (e .answer) (e .map) (c .before .before .handed .ensures) _ (e .card) in (
       told .0,
       (

@@ -28,7 +28,7 @@ returns c =
     let l = k .before .before .before in
     let x = l .before .before .before .before .before .args in
     let e = k .recover .ensures in
-    lent-call (λ (m : Map). recoverWork (x .card .now) m) _ _ _ _ _ _ _ (l .lent .ensures) (e .answer-is) (e .map-is) (h .handed .ensures) _ (e .after-is)
+    lent-call (λ (m : Map). recoverWork 2 (x .card .now) m) _ _ _ _ _ _ _ (l .lent .ensures) (e .answer-is) (e .map-is) (h .handed .ensures) _ (e .after-is)
 
 pub tinca-recover-spec : {M : Type 1} → statement M
 tinca-recover-spec =
