@@ -130,6 +130,17 @@ unfolding anyBelow
 any-none p zero f = refl
 any-none p (suc n) f = rw (any-none p n (λ i l. f i (omega arith)), f n (omega arith))
 
+pub any-or : (p q : ℕ → Bool) (n : ℕ) → anyBelow (λ i. p i || q i) n ≡ anyBelow p n || anyBelow q n
+unfolding anyBelow
+any-or p q zero = refl
+any-or p q (suc n) = go (anyBelow p n) (anyBelow q n) (p n) (q n) (any-or p q n)
+  where
+    go : (a b x y : Bool) → anyBelow (λ i. p i || q i) n ≡ a || b → anyBelow (λ i. p i || q i) n || (x || y) ≡ (a || x) || (b || y)
+    go true b x y e = rw e refl
+    go false true true y e = rw e refl
+    go false true false y e = rw e refl
+    go false false x y e = rw e refl
+
 pub any-at : (p : ℕ → Bool) (n i : ℕ) → anyBelow p n ≡ false → i < n → p i ≡ false
 any-at p n i h l = ⊎-elim (λ e. absurd-bool (any-found p n i l e) h) (λ e. e) (either (p i))
 

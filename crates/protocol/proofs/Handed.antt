@@ -27,7 +27,7 @@ use Rattle.protocol.specs.History.{Call, commit, makeRoom, load, evict, 
 use Rattle.protocol.specs.CutRule.{Kept, MapKept}
 use Rattle.protocol.proofs.CutRule.{Answered, refused, cut, done, answered}
 use Rattle.protocol.proofs.Below.{either, absurd-bool}
-use Rattle.protocol.proofs.Checks.{orElse-none}
+use Rattle.protocol.proofs.Checks.{orElse-none, refuse-none}
 use Rattle.protocol.proofs.Maps.{own-map}
 use Rattle.protocol.proofs.Upgraded.{map-upgraded}
 
@@ -142,8 +142,10 @@ only-upgrade recover e = absurd-bool refl e
 only-upgrade upgrade e = refl
 
 upgrade-map : (m : Media) (s : Map) → workOf 2 upgrade s m .refusal ≡ 0 → mapOf (madeOn card (flat (workOf 2 upgrade s m .runs)) (m .onCard)) ≡ mapOf (m .onCard)
-unfolding workOf upgradeWork upgradeRefusal upgradeRuns single flat madeOn
-upgrade-map m s z = map-upgraded (m .onCard) (orElse-none (fitRefusal 1 1 (m .onCard)) _ z .0)
+unfolding workOf upgradeWork upgradeRefusal cardRefusal upgradeRuns single flat madeOn
+upgrade-map m s z =
+    let (fit, more) = orElse-none (fitRefusal 1 1 (m .onCard)) _ z in
+    map-upgraded (m .onCard) fit (refuse-none 7 _ (omega arith) (orElse-none (damageRefusal (geometryOf (m .onCard)) (m .onCard)) _ more .1))
 
 -- ---- the station's calls
 

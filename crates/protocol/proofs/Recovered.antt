@@ -89,7 +89,7 @@ module _ {v n d : ℕ} (e : Entry) where
       ∙ used-good v n d (entryOf (undoneFlags v e) (e .number) (e .previous) (e .previous))
       (record { flag = back-flag v e (e .number) (e .previous) (e .previous); numberBelow = u .numberBelow; currentBelow = l; previousBelow = inl l })
 
-  undone-role : Undone v n d e → hasLogRole (undone v e) ≡ false
+  pub undone-role : Undone v n d e → hasLogRole (undone v e) ≡ false
   undone-role (emptied p q) = ap hasLogRole q ∙ unused-role
   undone-role (restored l f q) = ap hasLogRole q ∙ back-role v e (e .number) (e .previous) (e .previous)
 
@@ -225,7 +225,7 @@ stands-there g c i x f e =
     ∙ ap (λ (z : List ℕ). entryIn z 0) e
     ∙ entry-bytes x f
 
-tail-stands : (c : List ℕ) (v : ℕ) → v < 65536 + 65536
+pub tail-stands : (c : List ℕ) (v : ℕ) → v < 65536 + 65536
     → part c (tailStore v .place) (length (tailStore v .bytes)) ≡ tailStore v .bytes → tailOf c ≡ v
 unfolding tailStore wordStore tailOf numberAt
 tail-stands c v l e =

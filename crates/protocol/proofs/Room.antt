@@ -21,14 +21,14 @@ use Rattle.protocol.specs.Entry.{unused, entryOf, switched, entryAt, inU
 use Rattle.protocol.specs.Ring.{headOf, tailOf, usedAt, isSettled, entryFor, findEntry, cached, currentOf}
 use Rattle.protocol.specs.Check.{_orElse_, cardRefusal}
 use Rattle.protocol.specs.Store.{card, Run, storedOn, madeOn, flat, single, sectors, entryStore}
-use Rattle.protocol.specs.Search.{takenBy, isFree, searchStart, freeBlocks}
+use Rattle.protocol.specs.Search.{currentIs, takenBy, isFree, searchStart, freeBlocks}
 use Rattle.protocol.specs.Map.{mapBy, isMarked, mapOf, mapRefusal}
 use Rattle.protocol.specs.Commit.{numberOf, entryFound, logEntry, roomFor, commitRuns, saveRefusal, commitRefusal}
 use Rattle.protocol.specs.Recency.{isArranged}
 use Rattle.protocol.specs.Load.{writeBack, evictRuns}
 use Rattle.protocol.specs.Room.{isAmong, isVictim, fromLast, victims, missing, victimNumber, evictions, roomRuns, roomLeft, enoughVictims, roomRefusal}
 use Rattle.protocol.proofs.Allowed.{unused-good, unused-used}
-use Rattle.protocol.proofs.Below.{absurd-bool, either, last-or-before, and-left, and-right, and-both, and-true, and-fails, any-found, first-cong, count-le}
+use Rattle.protocol.proofs.Below.{absurd-bool, either, last-or-before, and-left, and-right, and-both, and-true, and-fails, or-left, any-found, first-cong, count-le}
 use Rattle.protocol.proofs.Checks.{limits}
 use Rattle.protocol.proofs.Committed.{among, e-below, Entries, commit-entries}
 use Rattle.protocol.proofs.Codec.{version-same}
@@ -256,7 +256,7 @@ free-marked g c d l = ap not (sym (marked-below g c d l))
 pub free-count : (g : Geometry) (c : List ℕ) → 0 < g .blocks → length (freeBlocks g c) ≡ countBelow (isFree g c) (g .blocks)
 unfolding freeBlocks searchStart
 free-count g c l =
-    length-walk (isFree g c) (g .blocks) (headOf c % g .blocks) (g .blocks) ∙ count-round (isFree g c) (g .blocks) (headOf c % g .blocks) (mod-lt (headOf c) l)
+    length-walk (isFree g c) (g .blocks) (tailOf c % g .blocks) (g .blocks) ∙ count-round (isFree g c) (g .blocks) (tailOf c % g .blocks) (mod-lt (tailOf c) l)
 
 -- one bit cleared after others
 clear-both : (m x y : Bool) → (m && not x) && not y ≡ m && not (x || y)
@@ -310,15 +310,15 @@ module _ {g : Geometry} {c : List ℕ} (t ns : List ℕ) (w : Intact g c) (s : i
     next-marked : (d : ℕ) → d < 128 → isMarked g (roomAfter g c t ns (suc k)) d ≡ isMarked g (roomAfter g c t ns k) d && not (eqb (block k) d)
     next-marked d h =
         ap (λ (z : List ℕ). isMarked g z d) after-next
-        ∙ clear-marked (so-far t ns w s a k l .intact) (victim g c t ns k) (victim-below g c t ns k l) at-used d h
+        ∙ clear-marked (so-far t ns w s a k l .intact) (so-far t ns w s a k l .settled) (victim g c t ns k) (victim-below g c t ns k l) at-used d h
         ∙ ap (λ (e : Entry). isMarked g (roomAfter g c t ns k) d && not (eqb (e .current) d)) (victim-stays t ns w s a k l)
 
     taken : isMarked g (roomAfter g c t ns k) (block k) ≡ true
-    unfolding takenBy
+    unfolding takenBy currentIs
     taken =
         marked-below g _ (block k) (current-below w (victim g c t ns k) (victim-below g c t ns k l))
         ∙ any-found _ (g .blocks) (victim g c t ns k) (victim-below g c t ns k l)
-        (and-both at-used (eq-eqb _ _ (ap (λ (e : Entry). e .current) (victim-stays t ns w s a k l))))
+        (or-left _ _ (and-both at-used (eq-eqb _ _ (ap (λ (e : Entry). e .current) (victim-stays t ns w s a k l)))))
 
     -- its block was taken, and is free now; the others are as before
     next-free : countBelow (isFree g (roomAfter g c t ns (suc k))) (g .blocks) ≡ countBelow (isFree g (roomAfter g c t ns k)) (g .blocks) + 1

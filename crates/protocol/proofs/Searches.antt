@@ -247,6 +247,13 @@ inj-count p q f (suc m) n to inj =
         (at .0, and-both (at .1) (ap not (ne-eqb (f i) (f m) (λ x. let same = inj i m (omega arith) (omega arith) h e x in omega arith))))) in
         omega (arith, more, few)
 
+-- a walk finds no more of what has more to it
+pub walk-fewer : (p q : ℕ → Bool) (n start : ℕ) → ((x : ℕ) → p x ≡ true → q x ≡ true) → length (walked p n start n) ≤ length (walked q n start n)
+walk-fewer p q n start f =
+    let few =
+    inj-count (λ i. p (around n start i)) (λ i. q (around n start i)) (λ i. i) n n (λ i l h. (l, f (around n start i) h)) (λ i j l m h k e. e) in
+    omega (arith, length-walk p n start n, length-walk q n start n, few)
+
 -- as many unused entries as free blocks, or more; in the order of a walk too
 pub unused-enough : (used : ℕ → Bool) (at : ℕ → ℕ) (n s : ℕ)
     → ((i j : ℕ) → i < n → j < n → used i ≡ true → used j ≡ true → at i ≡ at j → i ≡ j)

@@ -13,6 +13,7 @@ pub mod Preview
 pub mod Recency
 pub mod Load
 pub mod Room
+pub mod Pending
 pub mod Recover
 pub mod Upgrade
 pub mod Fence
