@@ -33,7 +33,8 @@ use Rattle.protocol.proofs.Allowed.{unused-good, unused-used, unused-ro
 use Rattle.protocol.proofs.Below.{either, absurd-bool, any-at}
 use Rattle.protocol.proofs.Checks.{Limits, limits}
 use Rattle.protocol.proofs.Codec.{entry-of-part, good-header, geometry-of-header, header-formatted, length-formatted, zero-formatted}
-use Rattle.protocol.proofs.Committed.{row-kept, front, commit-front, commit-cut, commit-done}
+use Rattle.protocol.proofs.Blocks.{row-kept}
+use Rattle.protocol.proofs.Committed.{front, commit-front, put, commit-cut, commit-done}
 use Rattle.protocol.proofs.Holds.{version-known, upgrade-refuses, geometry-is, recover-refuses, map-made, contents-hold, read-holds, look-holds, read-refuses, look-refuses, recent-holds, recent-refuses, idle-kind}
 use Rattle.protocol.proofs.Invariant.{Kind, idle, kindNumber, kindCurrent, kindPrevious}
 use Rattle.protocol.proofs.Lawful.{inv-intact, number-below}
@@ -43,7 +44,7 @@ use Rattle.protocol.proofs.Recovered.{recovery, settled-by}
 use Rattle.protocol.proofs.Room.{victim-below, victim-outside, room-enough, room-commits, room-along, victim-gone}
 use Rattle.protocol.proofs.Shape.{kindAt, Shape, Inv, window-empty}
 use Rattle.protocol.proofs.Upgraded.{upgrading}
-use Rattle.protocol.proofs.Stores.{made-runs, last-cut, runs-covered, Along, both, along-next, along-none}
+use Rattle.protocol.proofs.Stores.{along-map, made-runs, last-cut, runs-covered, Along, both, along-next, along-none}
 
 -- ---- what a call leaves, by its answer
 
@@ -80,13 +81,14 @@ module _ {g : Geometry} {row : Row} {c d : List ℕ} (rs : List Run) (ns bs : Li
   saving-cut : (a : ℕ) (ch : List ℕ) → a < length (flat saving) → Inv g row (madeOn card (made a ch saving) c) (madeOn disk (made a ch saving) d)
   saving-cut a ch l =
       let first = rs ++ front ns bs (x .end) p in
-      let last = tailStore (headAfter g (madeOn card (flat rs) c) (length ns)) in
+      let last = tailStore (headOf (put ns bs (x .end) p)) in
       let split : saving ≡ first ++ single last =
       ap (λ (qs : List Run). rs ++ qs) (commit-front ns bs (x .end) p) ∙ sym (append-assoc rs (front ns bs (x .end) p) (single last)) in
       let short : a < length (flat (first ++ single last)) = subst (λ (qs : List Run). a < length (flat qs)) split l in
       subst (λ (ss : List Store). Inv g row (madeOn card ss c) (madeOn disk ss d))
       (sym (ap (made a ch) split ∙ last-cut a ch first last short))
-      (along-next rs (front ns bs (x .end) p) c d x (commit-cut ns bs (x .end) p) .during a ch)
+      (along-next rs (front ns bs (x .end) p) c d x
+      (along-map (λ c′ d′ q. q .inv) (λ c′ d′ q. q .inv) (commit-cut ns bs (x .end) p)) .during a ch)
 
   saving-done : Rest g (replaced g ns bs row) (madeOn card (flat saving) c) (madeOn disk (flat saving) d)
   saving-done =

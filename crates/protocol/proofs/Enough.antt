@@ -22,7 +22,7 @@ use Rattle.protocol.specs.Room.{isAmong, isVictim, fromLast, victims, mi
 use Rattle.protocol.specs.CutRule.{cachedAmong, RoomEnough}
 use Rattle.protocol.proofs.Below.{either, absurd-bool, and-left, and-right, and-both, any-found, any-witness, below-or-above, first-found, first-missed}
 use Rattle.protocol.proofs.Checks.{Limits, limits}
-use Rattle.protocol.proofs.Committed.{apart-numbers}
+use Rattle.protocol.proofs.Blocks.{apart-numbers}
 use Rattle.protocol.proofs.Lawful.{Intact, current-below, numbers-apart, currents-apart, entry-cached}
 use Rattle.protocol.proofs.Left.{pair-sound}
 use Rattle.protocol.proofs.Loaded.{cached-entry}

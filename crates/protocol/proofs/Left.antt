@@ -30,7 +30,8 @@ use Rattle.protocol.proofs.Allowed.{UsedEntry, clean, used-good, used-e
 use Rattle.protocol.proofs.Below.{either, absurd-bool, last-or-before, and-left, and-right, and-both, and-true, or-left, or-right, or-none, or-false, all-at, any-found, any-witness}
 use Rattle.protocol.proofs.Checks.{Limits, limits, orElse-none, refuse-none}
 use Rattle.protocol.proofs.Codec.{EntryFits, geometry-same, entry-of-part, entry-of-bytes, length-entry}
-use Rattle.protocol.proofs.Committed.{Entered, fresh, again, entered, e-below, q-free, Entries, kept-used-of, commit-entries, commit-done}
+use Rattle.protocol.proofs.Blocks.{Entered, fresh, again, entered, e-below, q-free}
+use Rattle.protocol.proofs.Committed.{Entries, kept-used-of, commit-entries, commit-done, puts}
 use Rattle.protocol.proofs.Holds.{used-current, geometry-is}
 use Rattle.protocol.proofs.Invariant.{kindCurrent}
 use Rattle.protocol.proofs.Lawful.{Intact, intact, lawful}
@@ -219,16 +220,16 @@ module _ {g : Geometry} {row : ℕ → List ℕ} {c d : List ℕ} (ns bs : List 
 
   -- the old block of a number whose entry was in use was that entry's current one
   old-current : (j : ℕ) → j < length ns → usedAt g c (entryFound g c ns j) ≡ true → oldBlock g c ns j ≡ entryAt g c (entryFound g c ns j) .current
-  old-current j l u = go (entered ns bs v p j l)
+  old-current j l u = go (entered ns bs v (puts ns bs v p) j l)
     where
-      go : Entered ns bs v p j → oldBlock g c ns j ≡ entryAt g c (entryFound g c ns j) .current
+      go : Entered ns bs v (puts ns bs v p) j → oldBlock g c ns j ≡ entryAt g c (entryFound g c ns j) .current
       go (fresh h n e o) = absurd-bool u n
       go (again h e k q) = let r = ap kindCurrent q in let t = used-current g c (entryFound g c ns j) u in cc
 
   old-used : (j x : ℕ) → j < length ns → x < 128 → oldBlock g c ns j ≡ x → usedAt g c (entryFound g c ns j) ≡ true
-  old-used j x l b e = go (entered ns bs v p j l)
+  old-used j x l b e = go (entered ns bs v (puts ns bs v p) j l)
     where
-      go : Entered ns bs v p j → usedAt g c (entryFound g c ns j) ≡ true
+      go : Entered ns bs v (puts ns bs v p) j → usedAt g c (entryFound g c ns j) ≡ true
       go (fresh h n q o) = absurd (omega arith)
       go (again h q k r) = k .used
 
@@ -256,14 +257,14 @@ module _ {g : Geometry} {row : ℕ → List ℕ} {c d : List ℕ} (ns bs : List 
         given = λ x b e.
             let (j, h, q) = among-is (oldBlock g c ns) (length ns) x e in
             let u = old-used j x h b q in
-            (entryFound g c ns j, e-below ns bs v p j h, is-among (entryFound g c ns) (length ns) j _ h refl, (u, sym (old-current j h u) ∙ q));
+            (entryFound g c ns j, e-below ns bs v (puts ns bs v p) j h, is-among (entryFound g c ns) (length ns) j _ h refl, (u, sym (old-current j h u) ∙ q));
         took = λ i l e u.
             let (j, h, q) = among-is (entryFound g c ns) (length ns) i e in
             is-among (newBlock g c) (length ns) j _ h (sym (new-used j h .1) ∙ ap (λ (z : ℕ). entryAt g after z .current) q);
         taken = λ x b e.
             let (j, h, q) = among-is (newBlock g c) (length ns) x e in
             let (u, k) = new-used j h in
-            (entryFound g c ns j, e-below ns bs v p j h, is-among (entryFound g c ns) (length ns) j _ h refl, (u, k ∙ q));
+            (entryFound g c ns j, e-below ns bs v (puts ns bs v p) j h, is-among (entryFound g c ns) (length ns) j _ h refl, (u, k ∙ q));
       }
 
   -- no new block is an old one: that was an entry's, and this was free
@@ -275,7 +276,7 @@ module _ {g : Geometry} {row : ℕ → List ℕ} {c d : List ℕ} (ns bs : List 
       let (k, l, r) = among-is (oldBlock g c ns) (length ns) x o in
       let u = old-used k x l b r in
       absurd
-      (q-free ns bs v p j h (entryFound g c ns k) (e-below ns bs v p k l)
+      (q-free ns bs v (puts ns bs v p) j h (entryFound g c ns k) (e-below ns bs v (puts ns bs v p) k l)
       (used-current g c (entryFound g c ns k) u ∙ ap some (sym (old-current k l u) ∙ r ∙ sym q))))
       (λ o. o)
       (either (among (oldBlock g c ns) (length ns) x))

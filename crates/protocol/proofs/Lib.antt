@@ -3,12 +3,14 @@ pub mod Allowed
 pub mod Below
 pub mod Checks
 pub mod Codec
+pub mod Blocks
 pub mod Committed
 pub mod Computing
 pub mod CutRule
 pub mod Enough
 pub mod Example
 pub mod Fence
+pub mod Finished
 pub mod Handed
 pub mod Holds
 pub mod Invariant
@@ -30,6 +32,7 @@ pub mod Steps
 pub mod Stores
 pub mod Table
 pub mod Tables
+pub mod Told
 pub mod Undone
 pub mod Upgraded
 pub mod Words

@@ -30,7 +30,8 @@ use Rattle.protocol.specs.Room.{isAmong, isVictim, fromLast, victims, mi
 use Rattle.protocol.proofs.Allowed.{unused-good, unused-used}
 use Rattle.protocol.proofs.Below.{absurd-bool, either, last-or-before, and-left, and-right, and-both, and-true, and-fails, or-left, any-found, first-cong, count-le}
 use Rattle.protocol.proofs.Checks.{limits}
-use Rattle.protocol.proofs.Committed.{among, e-below, Entries, commit-entries}
+use Rattle.protocol.proofs.Blocks.{among, e-below}
+use Rattle.protocol.proofs.Committed.{Entries, commit-entries, puts}
 use Rattle.protocol.proofs.Codec.{version-same}
 use Rattle.protocol.proofs.Holds.{pass, none-first, header-version, fit-header, fit-passes, card-refuses}
 use Rattle.protocol.proofs.Lawful.{Intact, intact, inv-intact, current-below, number-below, entry-found, entry-cached, held, home, lawful}
@@ -408,7 +409,7 @@ module _ {v : ℕ} {g : Geometry} {c : List ℕ} (t ns bs ch : List ℕ) (w : In
   room-lawful = lawful (room-left .intact) (room-left .settled)
 
   pub room-place : (i : ℕ) → i < length ns → entryFound g (roomLeft g c t ns) ns i < g .blocks
-  room-place i l = e-below ns bs room-lawful room-commits i l
+  room-place i l = e-below ns bs room-lawful (puts ns bs room-lawful room-commits) i l
 
   -- the card that the commit leaves
   abbrev pub roomDone : List ℕ
