@@ -35,7 +35,8 @@ use Rattle.protocol.proofs.Passed.{CommitPassed}
 use Rattle.protocol.proofs.Region.{tail}
 use Rattle.protocol.proofs.Shape.{Changed, version-kept, entry-kept, block-kept, kindAt, Inv, Back}
 use Rattle.protocol.proofs.Stores.{made-append, made-runs, flat-last, Along, both, along-map, along-next}
-use Rattle.protocol.proofs.Told.{Told, told-none, told-more}
+use Rattle.protocol.proofs.Told.{Told, told-none}
+use Rattle.protocol.proofs.Growing.{told-more}
 
 module _ {g : Geometry} {row : ℕ → List ℕ} {c d : List ℕ} (ns bs : List ℕ) (v : Inv g row c d) (p : CommitPassed g c ns bs) where
   pub count-low : 0 < length ns

@@ -11,6 +11,7 @@ pub mod Enough
 pub mod Example
 pub mod Fence
 pub mod Finished
+pub mod Growing
 pub mod Handed
 pub mod Holds
 pub mod Invariant
@@ -23,6 +24,7 @@ pub mod Passed
 pub mod Planned
 pub mod Previewed
 pub mod Recency
+pub mod Reckoned
 pub mod Recovered
 pub mod Region
 pub mod Room

@@ -36,7 +36,7 @@ use Rattle.protocol.proofs.Codec.{version-same}
 use Rattle.protocol.proofs.Holds.{pass, none-first, header-version, fit-header, fit-passes, card-refuses}
 use Rattle.protocol.proofs.Lawful.{Intact, intact, inv-intact, current-below, number-below, entry-found, entry-cached, held, home, lawful}
 use Rattle.protocol.proofs.Left.{made-evict, clear-marked}
-use Rattle.protocol.proofs.Loaded.{cached-entry, eviction}
+use Rattle.protocol.proofs.Loaded.{Rest, cached-entry, eviction}
 use Rattle.protocol.proofs.Made.{entry-changed, entry-stored}
 use Rattle.protocol.proofs.Maps.{own-map, marked-below}
 use Rattle.protocol.proofs.Passed.{EvictPassed, CommitPassed, SavePassed, RoomPassed, save-passes, save-commit, room-passed}
@@ -201,13 +201,13 @@ module _ {g : Geometry} {row : ℕ → List ℕ} {c d : List ℕ} (t ns : List �
       }
 
   turn : (k : ℕ) (c′ d′ : List ℕ) → k < length (victims g c t ns) → Evicting k c′ d′
-      → Along (Inv g row) (Evicting (suc k)) (evictRuns g c (victimNumber g c t ns k)) c′ d′
+      → Along (Rest g row) (Evicting (suc k)) (evictRuns g c (victimNumber g c t ns k)) c′ d′
   turn k c′ d′ l q =
       let w = inv-intact v in
       let x = q .1 in
       let e = eviction (q .0) (victimNumber g c t ns k) (passes t ns w a k l x) in
       let is = next-is t ns w a k l x in
-      subst (λ (rs : List Run). Along (Inv g row) (Evicting (suc k)) rs c′ d′) (in-turn t ns w a k l x)
+      subst (λ (rs : List Run). Along (Rest g row) (Evicting (suc k)) rs c′ d′) (in-turn t ns w a k l x)
       (record {
         during = e .during;
         end = (
@@ -217,10 +217,10 @@ module _ {g : Geometry} {row : ℕ → List ℕ} {c d : List ℕ} (t ns : List �
         );
       })
 
-  pub evicting : (k : ℕ) → k ≤ length (victims g c t ns) → Along (Inv g row) (Evicting k) (evictions g c t ns k) c d
+  pub evicting : (k : ℕ) → k ≤ length (victims g c t ns) → Along (Rest g row) (Evicting k) (evictions g c t ns k) c d
   unfolding evictions
   evicting k l =
-      along-each Evicting (λ i. evictRuns g c (victimNumber g c t ns i)) k c d v (v, start)
+      along-each Evicting (λ i. evictRuns g c (victimNumber g c t ns i)) k c d (v, s) (v, start)
       (λ i c′ d′ h q. turn i c′ d′ (omega arith) q)
 
 -- of every card that passes its checks
@@ -456,11 +456,11 @@ module _ {v : ℕ} {g : Geometry} {c : List ℕ} (t ns bs ch : List ℕ) (w : In
 
 -- making room, cut anywhere, keeps the invariant and the row, and leaves the card that the commit's searches see
 pub room-along : {n : ℕ} {g : Geometry} {row : ℕ → List ℕ} {c d : List ℕ} (t ns bs ch : List ℕ) → Inv g row c d → RoomPassed n g c t ns bs ch
-    → Along (Inv g row) (λ c′ d′. Inv g row c′ d′ × (c′ ≡ roomLeft g c t ns)) (roomRuns g c t ns) c d
+    → Along (Rest g row) (λ c′ d′. Rest g row c′ d′ × (c′ ≡ roomLeft g c t ns)) (roomRuns g c t ns) c d
 unfolding roomLeft roomRuns
 room-along {n} {g} {row} {c} {d} t ns bs ch v p =
     let x = evicting t ns v (p .settled) (p .arranged) (missing g c ns) (room-enough t ns bs ch (inv-intact v) p) in
-    record { during = x .during; end = (x .end .0, refl) }
+    record { during = x .during; end = ((x .end .0, x .end .1 .settled), refl) }
 
 -- of every room-making commit that is not refused
 module _ (c d : List ℕ) (m : Map) (t ns bs ch : List ℕ) (z : roomRefusal 2 c d m t ns bs ch ≡ 0) where

@@ -64,7 +64,7 @@ calm-block g i =
 
 module _ {g : Geometry} {c c′ d : List ℕ} (s : Shape g c d) where
   -- a change outside the ring leaves the window
-  number-calm : {r : Region} → Changed g r c c′ → Calm g r → (j : ℕ) → j < windowOf g c → windowNumber g c′ j ≡ windowNumber g c j
+  pub number-calm : {r : Region} → Changed g r c c′ → Calm g r → (j : ℕ) → j < windowOf g c → windowNumber g c′ j ≡ windowNumber g c j
   unfolding windowOf
   number-calm {r} x k j l =
       let short : windowLength (g .slots) (tailOf c) (headOf c) < g .slots = window-short (g .slots) (tailOf c) (headOf c) (s .tailBelow) (s .headBelow) in

@@ -220,11 +220,11 @@ module _ {g : Geometry} {row : ℕ → List ℕ} {c d : List ℕ} (v : Inv g row
       }
 
 pub upgrading : {g : Geometry} {row : ℕ → List ℕ} {c d : List ℕ} → Inv g row c d → isSettled g c ≡ true
-    → Along (Inv g row) (Rest g row) (upgradeRuns g) c d
+    → Along (Rest g row) (Rest g row) (upgradeRuns g) c d
 unfolding upgradeRuns
 upgrading {g} {row} {c} {d} v s =
     let after = subst (Inv g row (storedOn card (versionStore g) c)) (sym (version-elsewhere g d)) (upgraded v s) in
-    along-one (versionStore g) c d v after (after, upgraded-settled v s)
+    along-one (versionStore g) c d (v, s) (after, upgraded-settled v s) (after, upgraded-settled v s)
 
 -- and the map stays, whatever the card's history
 pub map-upgraded : (c : List ℕ) → fitRefusal 1 1 c ≡ 0 → isSettled (geometryOf c) c ≡ true → mapOf (storedOn card (versionStore (geometryOf c)) c) ≡ mapOf c
