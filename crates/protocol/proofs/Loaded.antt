@@ -145,10 +145,12 @@ module _ {g : Geometry} {row : ℕ → List ℕ} {c d : List ℕ} (v : Inv g row
 
           cut : (ts : List Store) → Some ts (sectors g b bs .stores) → Rest g row (madeOn card ts c) (madeOn disk ts d)
           cut ts w =
-              subst (λ (z : List ℕ). Rest g row z (madeOn disk ts d)) (sym (sectors-elsewhere g fit b bs ts w c))
-              (run-in-home b i (e .current) v (length-made disk ts d)
-              (λ x l k. sectors-others g fit b bs ts w d x k)
-              (at .below) (live-at ∙ ap (λ (m : Bool). live m b (e .current)) h), p .settled)
+              subst (λ (z : List ℕ). Rest g row z (madeOn disk ts d)) (sym (sectors-elsewhere g fit b bs ts w c)) (
+                run-in-home b i (e .current) v (length-made disk ts d)
+                    (λ x l k. sectors-others g fit b bs ts w d x k)
+                    (at .below) (live-at ∙ ap (λ (m : Bool). live m b (e .current)) h),
+                p .settled,
+              )
 
           end : Rest g row (madeOn card (sectors g b bs .stores) c) (madeOn disk (sectors g b bs .stores) d)
               → Written (madeOn card (sectors g b bs .stores) c) (madeOn disk (sectors g b bs .stores) d)

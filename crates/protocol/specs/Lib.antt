@@ -20,6 +20,7 @@ pub mod Fence
 pub mod Read
 pub mod Table
 pub mod History
+pub mod InRow
 pub mod CutRule
 pub mod Undone
 pub mod Example
