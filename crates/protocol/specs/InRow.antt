@@ -36,8 +36,8 @@ pub record Screen : Type 0 where
 
 -- a put of block i of the save, with its own choice and allowance
 unfoldable pub putting : Geometry → List ℕ → List ℕ → (ℕ → List ℕ) → (ℕ → ℕ) → Screen → ℕ → Request
-putting g ns bs chs as s i =
-    record { version = 2; call = put (s .held) (numberOf ns i) (dataOf g bs i) (chs i); map = s .map; allowance = as i }
+putting g ns bs chs ls s i =
+    record { version = 2; call = put (s .held) (numberOf ns i) (dataOf g bs i) (chs i); map = s .map; allowance = ls i }
 
 -- and what it leaves: "each put takes the record and returns the next one"
 unfoldable pub putOne : Request → Screen → Screen
@@ -45,9 +45,9 @@ putOne q s = record { media = after q (s .media); map = mapTo q (s .media); held
 
 -- after n puts
 unfoldable pub putAll : Geometry → List ℕ → List ℕ → (ℕ → List ℕ) → (ℕ → ℕ) → Screen → ℕ → Screen
-putAll g ns bs chs as s zero = s
-putAll g ns bs chs as s (suc n) =
-    putOne (putting g ns bs chs as (putAll g ns bs chs as s n) n) (putAll g ns bs chs as s n)
+putAll g ns bs chs ls s zero = s
+putAll g ns bs chs ls s (suc n) =
+    putOne (putting g ns bs chs ls (putAll g ns bs chs ls s n) n) (putAll g ns bs chs ls s n)
 
 -- the finish of it
 unfoldable pub finishing : Screen → ℕ → Request
@@ -70,13 +70,13 @@ pub record SameAsOne (m m′ : Media) (s′ : Map) (q : Request) (k : ℕ) : Typ
   pub map : mapTo q m ≡ s′
 
 abbrev pub BlockByBlock : Type 0
-BlockByBlock = (m : Media) (s : Map) (r : Pending) (ns bs ch : List ℕ) (chs : ℕ → List ℕ) (as ks : ℕ → ℕ) (a a′ k : ℕ) (x : Screen)
-    → x ≡ putAll (geometryOf (m .onCard)) ns bs chs as (record { media = m; map = s; held = r }) (length ns)
+BlockByBlock = (m : Media) (s : Map) (r : Pending) (ns bs ch : List ℕ) (chs : ℕ → List ℕ) (ls ks : ℕ → ℕ) (a a′ k : ℕ) (x : Screen)
+    → x ≡ putAll (geometryOf (m .onCard)) ns bs chs ls (record { media = m; map = s; held = r }) (length ns)
     → opened (m .onCard) ≡ Is r
     → length bs ≡ length ns * blockSize (geometryOf (m .onCard))
     → ((i : ℕ) → i < length ns
-    → answerTo (putting (geometryOf (m .onCard)) ns bs chs as (putAll (geometryOf (m .onCard)) ns bs chs as (record { media = m; map = s; held = r }) i) i)
-    (putAll (geometryOf (m .onCard)) ns bs chs as (record { media = m; map = s; held = r }) i .media)
+    → answerTo (putting (geometryOf (m .onCard)) ns bs chs ls (putAll (geometryOf (m .onCard)) ns bs chs ls (record { media = m; map = s; held = r }) i) i)
+    (putAll (geometryOf (m .onCard)) ns bs chs ls (record { media = m; map = s; held = r }) i .media)
     ≡ Done (ks i))
     → answerTo (finishing x a′) (x .media) ≡ Done k
     → choiceFits (geometryOf (m .onCard)) ch ≡ true
