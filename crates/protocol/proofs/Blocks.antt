@@ -798,14 +798,14 @@ module _ {g : Geometry} {row : ℕ → List ℕ} {c d : List ℕ} (ns bs : List 
             versionIs = version-kept ch (λ a b. omega arith) ∙ m .versionIs;
             headIs = head-stored g c′ h (m .inv .shape .cardSized) small ∙ ap (headAfter g c) (add-one i);
             tailIs = tail-kept ch (λ a b. omega arith) ∙ m .tailIs;
-            windowIs = window-longer (m .inv) ch moved room fits roles ∙ omega (arith, m .windowIs);
-            numbersWere = λ j k. number-stays (m .inv) ch moved room fits roles j (omega (arith, m .windowIs)) ∙ m .numbersWere j k;
+            windowIs = window-longer (m .inv .shape .tailBelow) (m .inv .shape .headBelow) ch moved room ∙ omega (arith, m .windowIs);
+            numbersWere = λ j k. number-stays (m .inv .shape .tailBelow) (m .inv .shape .headBelow) ch moved room j (omega (arith, m .windowIs)) ∙ m .numbersWere j k;
             numbersAre = λ j k.
-                number-stays (m .inv) ch moved room fits roles (windowOf g c + j) (omega (arith, m .windowIs))
+                number-stays (m .inv .shape .tailBelow) (m .inv .shape .headBelow) ch moved room (windowOf g c + j) (omega (arith, m .windowIs))
                 ∙ ⊎-elim
                 (λ q.
                 ap (windowNumber g c′) (ap (λ (z : ℕ). windowOf g c + z) q ∙ sym (m .windowIs))
-                ∙ number-last (m .inv) ch moved room fits roles ∙ f .slotted ∙ ap (numberOf ns) (sym q))
+                ∙ number-last (m .inv .shape .tailBelow) (m .inv .shape .headBelow) ch moved room ∙ f .slotted ∙ ap (numberOf ns) (sym q))
                 (λ b. m .numbersAre j b)
                 (last-or-before j i k);
             others = λ k lk un. entry-kept ch k lk (λ a b. omega arith) ∙ m .others k lk un;

@@ -177,11 +177,11 @@ module _ {g : Geometry} {r : Reckoned} (m : Media) (w : ℕ) (s : Map) (x : Reck
       let settled = open-passed v w z in
       rests openSave [] (λ a. refl) settled (along-none (m .onCard) (m .onDisk) (v, settled) (v, settled))
   call-does (put p b bs ch) z =
-      let q = put-passed v w s p b bs ch z in
+      let q = put-passed g (m .onCard) (geometry-is v) w s p b bs ch z in
       own (put p b bs ch) (λ y. putRuns y (m .onCard) b bs)
       (record { cutting = put-cut x p b bs q; finished = λ n. put-reck x p b bs q; settles = λ e. absurd-bool refl e })
   call-does (finish p) z =
-      let q = finish-passed v w s p z in
+      let q = finish-passed g (m .onCard) (geometry-is v) w s p z .1 in
       own (finish p) (λ y. finishRuns y (m .onCard))
       (record { cutting = finish-cut x p q; finished = λ n. finish-reck x p q; settles = λ _. finish-settles x p q })
 

@@ -73,6 +73,7 @@ pub record RoomPassed (w : ℕ) (g : Geometry) (c t ns bs ch : List ℕ) : Type 
   pub saves : SavePassed g ns bs ch (enoughVictims g c t ns)
 
 pub record PutPassed (g : Geometry) (c : List ℕ) (r : Pending) (b : ℕ) (bs : List ℕ) : Type 0 where
+  pub undamaged : damageRefusal g c ≡ 0
   pub pending : isPending g c r ≡ true
   pub counted : r .count ≡ g .slots - 1 → ⊥
   pub sized : length bs ≡ blockSize g
@@ -180,7 +181,14 @@ module _ {g : Geometry} {row : ℕ → List ℕ} {c d : List ℕ} (v : Inv g row
       save-commit (passed 6 _ (sym (card-refuses v) ∙ first-zero (cardRefusal g c) _ card))
       (save-passed g ns bs ch _ (second-zero (mapRefusal c s) _ (second-zero (cardRefusal g c) _ card)))
 
-  -- what put and finish have passed
+  pub open-passed : (w : ℕ) → openRefusal w c ≡ 0 → isSettled g c ≡ true
+  unfolding openRefusal
+  open-passed w z =
+      let e = ap (λ (y : Geometry). fitRefusal w w c orElse cardRefusal y c) (sym (geometry-is v)) ∙ z in
+      passed 6 _ (sym (card-refuses v) ∙ second-zero (fitRefusal w w c) _ e)
+
+-- what put and finish have passed
+module _ (g : Geometry) (c : List ℕ) (own : geometryOf c ≡ g) where
   pub put-passed : (w : ℕ) (s : Map) (r : Pending) (b : ℕ) (bs ch : List ℕ) → putRefusal w c s r b bs ch ≡ 0 → PutPassed g c r b bs
   unfolding putRefusal blockRefusal
   put-passed w s r b bs ch z =
@@ -197,7 +205,7 @@ module _ {g : Geometry} {row : ℕ → List ℕ} {c d : List ℕ} (v : Inv g row
       orElse refuse 10 (ltb b (y .disk))
       orElse refuse 11 (not (inWindow y c b))
       orElse refuse 14 (roomFor y c 1))
-      (sym (geometry-is v))
+      (sym own)
       ∙ z in
       let asked = second-zero (damageRefusal g c) _ (second-zero (fitRefusal w w c) _ e) in
       let own = second-zero (mapRefusal c s) _ (second-zero (refuse 18 (isPending g c r)) _ asked) in
@@ -205,6 +213,7 @@ module _ {g : Geometry} {row : ℕ → List ℕ} {c d : List ℕ} (v : Inv g row
       let ten = second-zero (choiceRefusal g ch) _ (second-zero (refuse 9 (eqb (length bs) (blockSize g))) _ nine) in
       let more = second-zero (refuse 10 (ltb b (g .disk))) _ ten in
       record {
+        undamaged = first-zero (damageRefusal g c) _ (second-zero (fitRefusal w w c) _ e);
         pending = passed 17 _ (first-zero (refuse 18 (isPending g c r)) _ asked);
         counted = eqb-false _ _ (not-true _ (passed 7 _ (first-zero (refuse 8 (not (eqb (r .count) (g .slots - 1)))) _ own)));
         sized = eqb-true _ _ (passed 8 _ (first-zero (refuse 9 (eqb (length bs) (blockSize g))) _ nine));
@@ -213,19 +222,14 @@ module _ {g : Geometry} {row : ℕ → List ℕ} {c d : List ℕ} (v : Inv g row
         room = passed 13 _ (second-zero (refuse 11 (not (inWindow g c b))) _ more);
       }
 
-  pub finish-passed : (w : ℕ) (s : Map) (r : Pending) → finishRefusal w c s r ≡ 0 → isPending g c r ≡ true
+  pub finish-passed : (w : ℕ) (s : Map) (r : Pending) → finishRefusal w c s r ≡ 0 → (damageRefusal g c ≡ 0) × (isPending g c r ≡ true)
   unfolding finishRefusal
   finish-passed w s r z =
       let e =
       ap
       (λ (y : Geometry).
       fitRefusal w w c orElse damageRefusal y c orElse refuse 18 (isPending y c r) orElse mapRefusal c s orElse refuse 8 (not (eqb (r .count) 0)))
-      (sym (geometry-is v))
+      (sym own)
       ∙ z in
-      passed 17 _ (first-zero (refuse 18 (isPending g c r)) _ (second-zero (damageRefusal g c) _ (second-zero (fitRefusal w w c) _ e)))
-
-  pub open-passed : (w : ℕ) → openRefusal w c ≡ 0 → isSettled g c ≡ true
-  unfolding openRefusal
-  open-passed w z =
-      let e = ap (λ (y : Geometry). fitRefusal w w c orElse cardRefusal y c) (sym (geometry-is v)) ∙ z in
-      passed 6 _ (sym (card-refuses v) ∙ second-zero (fitRefusal w w c) _ e)
+      let more = second-zero (fitRefusal w w c) _ e in
+      (first-zero (damageRefusal g c) _ more, passed 17 _ (first-zero (refuse 18 (isPending g c r)) _ (second-zero (damageRefusal g c) _ more)))

@@ -43,6 +43,18 @@ previous-kept g c i q e =
     let z : _≡_ {A = ℕ} 0 1 = cc in absurd (omega arith))
     (either (undoableAt g c i))
 
+-- where no two entries in use have one current block, there is an unused entry for each free data block
+pub enough-entries : (g : Geometry) (c : List ℕ) → searchStart g c < g .blocks
+    → ((i j : ℕ) → i < g .blocks → j < g .blocks → usedAt g c i ≡ true → usedAt g c j ≡ true → entryAt g c i .current ≡ entryAt g c j .current → i ≡ j)
+    → ((i : ℕ) → i < g .blocks → usedAt g c i ≡ true → entryAt g c i .current < g .blocks)
+    → length (freeBlocks g c) ≤ length (unusedEntries g c)
+unfolding freeBlocks unusedEntries isFree takenBy currentIs unusedAt
+enough-entries g c l apart low =
+    let few =
+    walk-fewer (isFree g c) (λ p. not (anyBelow (λ i. usedAt g c i && eqb (entryAt g c i .current) p) (g .blocks))) (g .blocks) (searchStart g c)
+    (λ p h. ap not (any-none _ (g .blocks) (λ i l. or-false (usedAt g c i && eqb (entryAt g c i .current) p) _ (any-at (takenBy g c p) (g .blocks) i (not-true _ h) l) .0))) in
+    omega (arith, few, unused-enough (usedAt g c) (λ i. entryAt g c i .current) (g .blocks) (searchStart g c) apart low l)
+
 module _ {g : Geometry} {row : ℕ → List ℕ} {c d : List ℕ} (v : Inv g row c d) where
   pub start-below : searchStart g c < g .blocks
   unfolding searchStart
@@ -103,17 +115,10 @@ module _ {g : Geometry} {row : ℕ → List ℕ} {c d : List ℕ} (v : Inv g row
 
   -- "commit never lacks an entry"
   pub enough-unused : length (freeBlocks g c) ≤ length (unusedEntries g c)
-  unfolding freeBlocks unusedEntries isFree takenBy currentIs unusedAt
   enough-unused =
-      let few =
-      walk-fewer (isFree g c) (λ p. not (anyBelow (λ i. usedAt g c i && eqb (entryAt g c i .current) p) (g .blocks))) (g .blocks) (searchStart g c)
-      (λ p h. ap not (any-none _ (g .blocks) (λ i l. or-false (usedAt g c i && eqb (entryAt g c i .current) p) _ (any-at (takenBy g c p) (g .blocks) i (not-true _ h) l) .0))) in
-      let enough =
-      unused-enough (usedAt g c) (λ i. entryAt g c i .current) (g .blocks) (searchStart g c)
+      enough-entries g c start-below
       (λ i j l m ui uj e. v .safe .currents i j (entryAt g c i .current) l m (used-current g c i ui) (used-current g c j uj ∙ ap some (sym e)))
       (λ i l u. v .safe .currentUnder i (entryAt g c i .current) l (used-current g c i u))
-      start-below in
-      omega (arith, few, enough)
 
   -- on a settled card no entry has a block to be undone to
   pub no-previous : isSettled g c ≡ true → (i : ℕ) → i < g .blocks → kindPrevious (kindAt g c i) ≡ none
