@@ -21,6 +21,7 @@ pub mod Loaded
 pub mod Made
 pub mod Maps
 pub mod Passed
+pub mod PendingMap
 pub mod Planned
 pub mod Previewed
 pub mod Recency
