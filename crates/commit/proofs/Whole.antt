@@ -33,7 +33,7 @@ use Rattle.plan.specs.declared.Admitted.{Admitted}
 use Rattle.plan.specs.Planned.{Homes, Planned, Plannable, Admission}
 use Rattle.plan.specs.Request.{choiceRoom}
 use Rattle.plan.proofs.Count.{runs-count}
-use Rattle.plan.proofs.Bounds.{Passed, passed, late-passed, few-numbers, new-below, entry-below, unused-room}
+use Rattle.plan.proofs.Bounds.{Passed, passed, passed-tail, late-passed, few-numbers, new-below, entry-below, unused-room}
 use Rattle.plan.proofs.Order.{map-eq}
 use Rattle.stores.specs.Did.{Did}
 use Rattle.stores.proofs.Laws.{did-same, refused-answer, refused-after, refused-map, made-answer, made-after, made-map}
@@ -103,7 +103,7 @@ module _ (c : List ℕ) (m : Map) (ns bs ch xs : List ℕ) (s : Admitted) (room 
     pub commit-savable : (es ps : List ℕ) → Homes (s .geometry) c ns es ps → Savable (s .geometry) c (s .head) m ns bs ch es ps
     commit-savable es ps h = record {
       own = x .geometry-is z;
-      head = x .findable z .plannable .head;
+      head = x .findable z .head;
       passes = sym refusal-is ∙ z;
       homes = h;
     }
@@ -123,7 +123,7 @@ module _ (g : Geometry) (c : List ℕ) (h : ℕ) (m : Map) (ns bs ch zs ps : Lis
       let p = has-passed in
       record {
         fitted = save-fitted;
-        head = v .head;
+        tail = passed-tail c m ns bs ch h (v .passes) (v .head);
         map-is = own-map c m ns bs ch (v .passes) ∙ ap (λ (y : Geometry). mapBy (isMarked y c)) (sym (v .own));
         room = rw (v .own) (le-leb _ _ (p .room));
         unused = rw (v .own) (unused-room p);
