@@ -1,0 +1,179 @@
+// A save block by block: opened on a settled card, put one block after the other, and finished. Between the calls the station holds the record.
+use protocol::Answer;
+use protocol::Geometry;
+use protocol::Map;
+use protocol::Opened;
+use protocol::Pending;
+use protocol::Stored;
+use ring::Window;
+ghost use mathlib.Core.Path.{_≡_};
+ghost use mathlib.Core.Bool.{true, _&&_};
+ghost use mathlib.Core.List.{List};
+ghost use Prim.Native.Nat.{ℕ, _≤_, _<_};
+ghost use lib.Dec.{eqb};
+ghost use lib.ListN.{length, getD};
+ghost use Rattle.protocol.specs.Below.{eachBelow};
+ghost use Rattle.protocol.specs.Entry.{switched};
+ghost use Rattle.protocol.specs.Store.{Medium};
+ghost use Rattle.protocol.specs.Pending.{opened};
+ghost use Rattle.ring.specs.Fitted.{Fitted, WindowOf};
+ghost use Rattle.checks.specs.Chain.{Blank};
+ghost use Rattle.stores.specs.Did.{Did};
+ghost use Rattle.pending.specs.Standing.{Met, Findable, placeAt, switchAt, Places, Finished};
+
+// A pending save, by the record that the station holds.
+pub struct Save {
+    pub record: Pending,
+}
+
+// What put and finish go on from: their refusal, and where there is none the card's geometry and window, how many of its data blocks are free, and the
+// map of its current blocks alone.
+pub struct Standing {
+    pub refusal: u8,
+    pub geometry: Geometry,
+    pub window: Window,
+    pub free: u64,
+    pub currents: Map,
+}
+
+fn stopped(g: Geometry, refusal: u8) -> Standing
+    ensures { λ r. ⌜ r .refusal ≡ refusal ⌝ }
+{
+    Standing {
+        refusal: refusal,
+        geometry: g,
+        window: Window {
+            tail: 0,
+            count: 0,
+            head: 0,
+        },
+        free: 0,
+        currents: Map { low: 0, high: 0 },
+    }
+}
+
+// Whether the window has the record's Tail and count, told whether the entries with R match its numbers.
+fn is_pending(record: Pending, w: Window, matched: bool) -> bool
+    ensures { λ r. ⌜ r ≡ eqb (w .tail) (record .tail) && (eqb (w .count) (record .count) && matched) ⌝ }
+{
+    (w.tail == record.tail) & ((w.count == record.count) & matched)
+}
+
+// 1, 2, 4 to 6, 18 in place of 7, and 15; and the index of the card's numbers.
+fn meet(record: Pending, card: &[u8], map: Map, index: &mut [u8; 640]) -> Standing
+    requires { ⌜ Blank (now index) ⌝ }
+    ensures { λ r. ⌜ Met (now (card .entry)) map record (now (index .exit)) r ⌝ }
+{
+    let f = ring::fit_of(card, 2, 2);
+    let g = f.geometry;
+    if f.refusal != 0 {
+        return stopped(g, f.refusal);
+    }
+    let v = checks::inspect(f, card, index);
+    if v.refusal != 0 {
+        return stopped(g, v.refusal);
+    }
+    let w = ring::window_of(g, card);
+    if !is_pending(record, w, v.matched) {
+        return stopped(g, 18);
+    }
+    if !freemap::same(map, v.map) {
+        return stopped(g, 15);
+    }
+    let currents = v.currents;
+    Standing {
+        refusal: 0,
+        geometry: g,
+        window: w,
+        free: v.free,
+        currents: currents,
+    }
+}
+
+// The place of the entry of each of the window's numbers.
+fn find_places(g: Geometry, card: &[u8], index: &[u8; 640], w: Window, places: &mut [u8; 128])
+    requires { ⌜ Findable g (now card) (now index) w × (length (now places) ≡ 128) ⌝ }
+    ensures { λ _. ⌜ Places g (now (card .entry)) (now (places .exit)) (w .count) ⌝ }
+{
+    let n = w.count as usize;
+    let mut j: usize = 0;
+    while j < n {
+        let at = checks::find(g, card, index, ring::window_number(g, card, w, j as u64));
+        places[j] = at as u8;
+        j += 1;
+    }
+}
+
+fn wide(x: u8) -> usize
+    ensures { λ r. ⌜ r ≡ x ⌝ }
+{
+    x as usize
+}
+
+// The role switches of the entries at the first n places. A store touches its own entry alone, so each is read as it stood at the start.
+fn make_switches(g: Geometry, card: &mut [u8], places: &[u8; 128], n: usize, credit: u64) -> u64
+    requires { ⌜ Fitted g (now card) × Places g (now card) (now places) n ⌝ }
+    ensures { λ r. ⌜ ((ch : List ℕ) → Did Medium.card (eachBelow (switchAt g (now (card .entry)) (now (places .entry))) n) ch credit (now (card .entry)) (now (card .exit)) r) ⌝ }
+{
+    let mut left = credit;
+    let mut j: usize = 0;
+    while j < n {
+        let at = wide(places[j]);
+        let e = commit::switch_role(checks::entry_of(g, card, at));
+        left = stores::make_entry(card, stores::entry_place(g, at), e, left);
+        j += 1;
+    }
+    left
+}
+
+// The role switches, then Tail set to Head.
+fn make_finish(s: Standing, card: &mut [u8], index: &[u8; 640], map: Map, allowance: u64) -> Stored
+    requires { ⌜ (s .window .count ≤ 128) × (0 < s .window .count) × Findable (s .geometry) (now card) (now index) (s .window) ⌝ }
+    ensures { λ r. ⌜ Made s (now (card .entry)) map allowance r (now (card .exit)) ⌝ }
+{
+    let g = s.geometry;
+    let w = s.window;
+    let mut places = [0u8; 128];
+    find_places(g, card, index, w, &mut places);
+    let count = w.count + 1;
+    let a = make_switches(g, card, &places, w.count as usize, stores::credit(count, allowance));
+    stores::make_word(card, 72, w.head, a);
+    stores::hand_on(stores::answer(count, allowance), map, s.currents)
+}
+
+impl Save {
+    // Opens a save on a settled card: its record has Tail's position and count 0. Refused with 1, 2 and 4 to 7.
+    pub fn open(card: &[u8]) -> Opened
+        ensures { λ r. ⌜ r ≡ opened (now (card .entry)) ⌝ }
+    {
+        let f = ring::fit_of(card, 2, 2);
+        if f.refusal != 0 {
+            return Opened::Refused(f.refusal);
+        }
+        let r = checks::card_refusal(f, card);
+        if r != 0 {
+            return Opened::Refused(r);
+        }
+        Opened::Is(Pending {
+            tail: f.tail,
+            count: 0,
+        })
+    }
+
+    // Finishes the save: the role switches of its entries, then Tail set to Head. `allowance` stores still happen. Refused before any store: 1, 2, 4 to
+    // 6, 18, 15, and 8 where nothing was put. Done hands on the map of the card that is left.
+    pub fn finish(self, card: &mut [u8], map: Map, allowance: u64) -> Stored
+        ensures { λ r. ⌜ Finished (now (card .entry)) map (self .record) allowance r (now (card .exit)) ⌝ }
+    {
+        let record = self.record;
+        let mut index = [0u8; 640];
+        let s = meet(record, card, map, &mut index);
+        if s.refusal != 0 {
+            return stores::hand_on(Answer::Refused(s.refusal), map, map);
+        }
+        if record.count == 0 {
+            return stores::hand_on(Answer::Refused(8), map, map);
+        }
+        make_finish(s, card, &index, map, allowance)
+    }
+}
