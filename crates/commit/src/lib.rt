@@ -57,7 +57,7 @@ fn log_entry(number: u64, previous: u16, block: u8) -> Entry
 }
 
 // The role switch: R cleared and nothing else changed. The previous block stays named, since a cut before Tail moves must find it.
-fn switch_role(e: Entry) -> Entry
+pub fn switch_role(e: Entry) -> Entry
     ensures { λ r. ⌜ r ≡ switched e ⌝ }
 {
     Entry {
@@ -205,8 +205,8 @@ fn make_block(
     log_number(g, card, head, i, numbers[i], b)
 }
 
-// Each block in turn.
-fn make_blocks(
+// Each block in turn: a put's one block, and all blocks of a commit.
+pub fn make_blocks(
     g: Geometry,
     card: &mut [u8],
     entries: &[u8; 128],

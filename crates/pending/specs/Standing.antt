@@ -1,4 +1,4 @@
--- What put and finish find before their own checks, and what finish makes.
+-- What put and finish find before their own checks.
 use Prim.Native.Nat.{ℕ, _+_, _<_}
 use mathlib.Core.List.{List}
 use mathlib.Core.Bool.{true}
@@ -50,26 +50,3 @@ pub record Stands (c : List ℕ) (m : Map) (r : Pending) (xs : List ℕ) (s : St
 pub record Met (c : List ℕ) (m : Map) (r : Pending) (xs : List ℕ) (s : Standing) : Type 0 where
   pub refusal-is : s .refusal ≡ metRefusal c m r
   pub stands : s .refusal ≡ 0 → Stands c m r xs s
-
--- ---- finish
-
--- the place of the entry of the window's number j
-unfoldable pub placeAt : Geometry → List ℕ → ℕ → ℕ
-placeAt g c j = findEntry g c (windowNumber g c j)
-
--- the first n of these are the places ps, all of them entries of the card, no two the same
-pub record Places (g : Geometry) (c ps : List ℕ) (n : ℕ) : Type 0 where
-  pub at : (j : ℕ) → j < n → getD ps j 0 ≡ placeAt g c j
-  pub few : n < 129
-  pub below : (j : ℕ) → j < n → placeAt g c j < g .blocks
-  pub once : (i j : ℕ) → i < n → j < n → placeAt g c i ≡ placeAt g c j → i ≡ j
-
--- the entry at the j-th place, with R cleared
-unfoldable pub switchAt : Geometry → List ℕ → List ℕ → ℕ → List Run
-switchAt g c ps j = single (entryStore g (getD ps j 0) (switched (entryAt g c (getD ps j 0))))
-
--- a finish of the record r on the card c, given the map m, under the allowance a, hands back t and leaves the card d
-pub record Finished (c : List ℕ) (m : Map) (r : Pending) (a : ℕ) (t : Stored) (d : List ℕ) : Type 0 where
-  pub answers : t .answer ≡ answerOf a (finishWork 2 c m r)
-  pub hands : t .map ≡ mapAfter a (finishWork 2 c m r) c m
-  pub leaves : d ≡ afterOn card a (finishWork 2 c m r) c

@@ -15,15 +15,25 @@ ghost use lib.ListN.{length, getD};
 ghost use Rattle.protocol.specs.Below.{eachBelow};
 ghost use Rattle.protocol.specs.Entry.{switched};
 ghost use Rattle.protocol.specs.Store.{Medium};
-ghost use Rattle.protocol.specs.Pending.{opened};
+ghost use Rattle.protocol.specs.Layout.{goodGeometry};
+ghost use Rattle.protocol.specs.Pending.{opened, nextRecord};
 ghost use Rattle.ring.specs.Fitted.{Fitted, WindowOf};
 ghost use Rattle.checks.specs.Chain.{Blank};
 ghost use Rattle.stores.specs.Did.{Did};
-ghost use Rattle.pending.specs.Standing.{Met, Findable, placeAt, switchAt, Places, Finished};
+ghost use Rattle.pending.specs.Standing.{Met, Findable};
+ghost use Rattle.pending.specs.Putting.{ownRefusal, Asked, Puttable, Logged, PutBlock};
+ghost use Rattle.pending.specs.Finishing.{switchAt, Places, Finishable, Finished};
 
 // A pending save, by the record that the station holds.
 pub struct Save {
     pub record: Pending,
+}
+
+// What a put hands back: its answer, the map, and the record of the save, the next one where the put is done.
+pub struct Put {
+    pub answer: Answer,
+    pub map: Map,
+    pub save: Save,
 }
 
 // What put and finish go on from: their refusal, and where there is none the card's geometry and window, how many of its data blocks are free, and the
@@ -34,6 +44,12 @@ pub struct Standing {
     pub window: Window,
     pub free: u64,
     pub currents: Map,
+}
+
+fn wide(x: u8) -> usize
+    ensures { λ r. ⌜ r ≡ x ⌝ }
+{
+    x as usize
 }
 
 fn stopped(g: Geometry, refusal: u8) -> Standing
@@ -90,6 +106,106 @@ fn meet(record: Pending, card: &[u8], map: Map, index: &mut [u8; 640]) -> Standi
     }
 }
 
+// 8, 9, 17 and 10, of `size` bytes of data and a choice of this room.
+fn own_refusal(g: Geometry, count: u64, size: usize, room: usize, block: u64) -> u8
+    requires { ⌜ goodGeometry g ≡ true ⌝ }
+    ensures { λ r. ⌜ r ≡ ownRefusal g count size room block ⌝ }
+{
+    if count == g.slots - 1 {
+        return 8;
+    }
+    let b = codec::block_size(g);
+    if size as u64 != b {
+        return 9;
+    }
+    if (room as u64) < b / 8 {
+        return 17;
+    }
+    if g.disk <= block {
+        return 10;
+    }
+    0
+}
+
+// All refusals of a put.
+fn ask(
+    record: Pending,
+    card: &[u8],
+    map: Map,
+    block: u64,
+    size: usize,
+    room: usize,
+    index: &mut [u8; 640],
+) -> Standing
+    requires { ⌜ Blank (now index) ⌝ }
+    ensures { λ r. ⌜ Asked (now (card .entry)) map record block size room (now (index .exit)) r ⌝ }
+{
+    let s = meet(record, card, map, index);
+    if s.refusal != 0 {
+        return s;
+    }
+    let g = s.geometry;
+    let own = own_refusal(g, record.count, size, room, block);
+    if own != 0 {
+        return stopped(g, own);
+    }
+    if ring::in_window(g, card, s.window, block) {
+        return stopped(g, 11);
+    }
+    if s.free == 0 {
+        return stopped(g, 14);
+    }
+    s
+}
+
+// Plans and makes a put that is not refused: one block, as a commit makes it, with both searches from Tail.
+fn make_put(
+    s: Standing,
+    card: &mut [u8],
+    index: &[u8; 640],
+    map: Map,
+    block: u64,
+    data: &[u8],
+    choice: &[u8],
+    allowance: u64,
+) -> Stored
+    requires { ⌜ ((r : Pending) × Puttable (now card) map r block (now «data») (now choice) (now index) s) ⌝ }
+    ensures { λ r. ⌜ ((p : Pending) → Puttable (now (card .entry)) map p block (now («data» .entry)) (now (choice .entry)) (now (index .entry)) s → Logged (now (card .entry)) map p block (now («data» .entry)) (now (choice .entry)) allowance r (now (card .exit))) ⌝ }
+{
+    let g = s.geometry;
+    let w = s.window;
+    let numbers = [block];
+    let mut entries = [0u8; 128];
+    let mut previous = [0u16; 128];
+    let mut blocks = [0u8; 128];
+    plan::find_homes(g, card, index, &numbers, &mut entries, &mut previous);
+    plan::plan_of(
+        g,
+        card,
+        w.tail,
+        map,
+        &numbers,
+        &mut entries,
+        &previous,
+        &mut blocks,
+    );
+    let count = codec::block_size(g) / 8 + 3;
+    commit::make_blocks(
+        g,
+        card,
+        &entries,
+        &previous,
+        &blocks,
+        &numbers,
+        data,
+        w.head,
+        choice,
+        stores::credit(count, allowance),
+    );
+    let after = freemap::with(map, wide(blocks[0]));
+    stores::hand_on(stores::answer(count, allowance), map, after)
+}
+
 // The place of the entry of each of the window's numbers.
 fn find_places(g: Geometry, card: &[u8], index: &[u8; 640], w: Window, places: &mut [u8; 128])
     requires { ⌜ Findable g (now card) (now index) w × (length (now places) ≡ 128) ⌝ }
@@ -102,12 +218,6 @@ fn find_places(g: Geometry, card: &[u8], index: &[u8; 640], w: Window, places: &
         places[j] = at as u8;
         j += 1;
     }
-}
-
-fn wide(x: u8) -> usize
-    ensures { λ r. ⌜ r ≡ x ⌝ }
-{
-    x as usize
 }
 
 // The role switches of the entries at the first n places. A store touches its own entry alone, so each is read as it stood at the start.
@@ -128,8 +238,8 @@ fn make_switches(g: Geometry, card: &mut [u8], places: &[u8; 128], n: usize, cre
 
 // The role switches, then Tail set to Head.
 fn make_finish(s: Standing, card: &mut [u8], index: &[u8; 640], map: Map, allowance: u64) -> Stored
-    requires { ⌜ (s .window .count ≤ 128) × (0 < s .window .count) × Findable (s .geometry) (now card) (now index) (s .window) ⌝ }
-    ensures { λ r. ⌜ Made s (now (card .entry)) map allowance r (now (card .exit)) ⌝ }
+    requires { ⌜ ((r : Pending) × Finishable (now card) map r (now index) s) ⌝ }
+    ensures { λ t. ⌜ ((r : Pending) → Finishable (now (card .entry)) map r (now (index .entry)) s → Finished (now (card .entry)) map r allowance t (now (card .exit))) ⌝ }
 {
     let g = s.geometry;
     let w = s.window;
@@ -139,6 +249,37 @@ fn make_finish(s: Standing, card: &mut [u8], index: &[u8; 640], map: Map, allowa
     let a = make_switches(g, card, &places, w.count as usize, stores::credit(count, allowance));
     stores::make_word(card, 72, w.head, a);
     stores::hand_on(stores::answer(count, allowance), map, s.currents)
+}
+
+// What a put hands back, from what it came to: done hands on the next record, cut and refused the one it got.
+fn hand_back(s: Stored, record: Pending) -> Put
+    requires { ⌜ ((n : ℕ) → s .answer ≡ Answer.Done n → record .count + 1 < 18446744073709551616) ⌝ }
+    ensures { λ r. ⌜ (r .answer ≡ s .answer) × (r .map ≡ s .map) × (r .save .record ≡ nextRecord (s .answer) record) ⌝ }
+{
+    let a = s.answer;
+    let map = s.map;
+    match a {
+        Answer::Done(n) => Put {
+            answer: Answer::Done(n),
+            map: map,
+            save: Save {
+                record: Pending {
+                    tail: record.tail,
+                    count: record.count + 1,
+                },
+            },
+        },
+        Answer::Cut => Put {
+            answer: Answer::Cut,
+            map: map,
+            save: Save { record: record },
+        },
+        Answer::Refused(r) => Put {
+            answer: Answer::Refused(r),
+            map: map,
+            save: Save { record: record },
+        },
+    }
 }
 
 impl Save {
@@ -158,6 +299,41 @@ impl Save {
             tail: f.tail,
             count: 0,
         })
+    }
+
+    // Puts disk block `block`, whose bytes are `data`, into the save. `allowance` stores still happen; where the power fails in the block's words, those
+    // are made whose byte of `choice` is 1. Refused before any store: 1, 2, 4 to 6, 18, 15, 8, 9, 17, 10, 11 and 14. Done hands on the next record and
+    // the map of the card that is left.
+    pub fn put(
+        self,
+        card: &mut [u8],
+        map: Map,
+        block: u64,
+        data: &[u8],
+        choice: &[u8],
+        allowance: u64,
+    ) -> Put
+        ensures { λ r. ⌜ PutBlock (now (card .entry)) map (self .record) block (now («data» .entry)) (now (choice .entry)) allowance r (now (card .exit)) ⌝ }
+    {
+        let record = self.record;
+        let mut index = [0u8; 640];
+        let s = ask(
+            record,
+            card,
+            map,
+            block,
+            data.len(),
+            plan::choice_room(choice),
+            &mut index,
+        );
+        if s.refusal != 0 {
+            return hand_back(
+                stores::hand_on(Answer::Refused(s.refusal), map, map),
+                record,
+            );
+        }
+        let t = make_put(s, card, &index, map, block, data, choice, allowance);
+        hand_back(t, record)
     }
 
     // Finishes the save: the role switches of its entries, then Tail set to Head. `allowance` stores still happen. Refused before any store: 1, 2, 4 to
