@@ -14,6 +14,7 @@ pub mod Finished
 pub mod Growing
 pub mod Handed
 pub mod Holds
+pub mod InRow
 pub mod Invariant
 pub mod Lawful
 pub mod Left
