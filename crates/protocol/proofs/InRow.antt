@@ -163,12 +163,17 @@ module _ {g : Geometry} {row : ℕ → List ℕ} {c d : List ℕ} (ns bs : List 
             let (j, lj, h, e) = count-reached (uncachedAt g c ns) i k l in
             go j lj e (entered ns bs v p j (omega arith)) h
           where
-            go : (j : ℕ) → j < i → countBelow (uncachedAt g c ns) j ≡ k → Entered ns bs v p j → uncachedAt g c ns j ≡ true → not (usedAt g c′ (first k)) ≡ false
+            go : (j : ℕ) → j < i → countBelow (uncachedAt g c ns) j ≡ k → Entered ns bs v p j → uncachedAt g c ns j ≡ true
+                → not (usedAt g c′ (first k)) ≡ false
             go j lj e (fresh a u q z) h = ap (λ (x : ℕ). not (usedAt g c′ x)) (ap first (sym e) ∙ sym q) ∙ ap not (used-logged j lj)
             go j lj e (again a q y w) h = absurd-bool h (ap not a)
 
         stays : (x : ℕ) → x < g .blocks → unusedAt g c x ≡ true → ((k : ℕ) → k < took → first k ≡ x → ⊥) → unusedAt g c′ x ≡ true
-        stays x l h un = ⊎-elim (λ w. absurd (go (w .0) (w .1) (w .2) (entered ns bs v p (w .0) (omega (arith, w .1))))) (λ z. ap not (used-other x l z) ∙ h) (among (entryFound g c ns) i x)
+        stays x l h un =
+            ⊎-elim
+            (λ w. absurd (go (w .0) (w .1) (w .2) (entered ns bs v p (w .0) (omega (arith, w .1)))))
+            (λ z. ap not (used-other x l z) ∙ h)
+            (among (entryFound g c ns) i x)
           where
             go : (j : ℕ) → j < i → entryFound g c ns j ≡ x → Entered ns bs v p j → ⊥
             go j lj e (fresh a u q z) = un (countBelow (uncachedAt g c ns) j) (count-below (uncachedAt g c ns) j i lj (ap not a)) (sym q ∙ e)

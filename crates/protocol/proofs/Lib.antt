@@ -21,6 +21,7 @@ pub mod Left
 pub mod Loaded
 pub mod Made
 pub mod Maps
+pub mod OneByOne
 pub mod Passed
 pub mod Planned
 pub mod Previewed
