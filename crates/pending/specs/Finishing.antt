@@ -16,7 +16,7 @@ use Rattle.protocol.specs.Ring.{windowOf, windowNumber, findEntry}
 use Rattle.protocol.specs.Check.{refuse, _orElse_, windowNumberFits, fitRefusal, damageRefusal}
 use Rattle.protocol.specs.Store.{Run, card, single, entryStore, answerOf, afterOn}
 use Rattle.protocol.specs.Map.{mapBy, isMarked, currentMarked, mapRefusal, mapAfter, freeCount}
-use Rattle.protocol.specs.Pending.{isMatched, isPending, finishRuns, finishWork}
+use Rattle.protocol.specs.Pending.{isMatched, isPending, finishRefusal, finishWork}
 use Rattle.ring.specs.Fitted.{Fitted, Placed, WindowOf}
 use Rattle.ring.specs.declared.Window.{Window}
 use Rattle.checks.specs.Passed.{Indexed}

@@ -54,5 +54,5 @@ pub record Logged (c : List ℕ) (m : Map) (r : Pending) (b : ℕ) (bs ch : List
 pub record PutBlock (c : List ℕ) (m : Map) (r : Pending) (b : ℕ) (bs ch : List ℕ) (a : ℕ) (t : Put) (d : List ℕ) : Type 0 where
   pub answers : t .answer ≡ answerOf a (putWork 2 c m r b bs ch)
   pub hands : t .map ≡ mapAfter a (putWork 2 c m r b bs ch) c m
-  pub next : t .save .record ≡ nextRecord (t .answer) r
+  pub next : t .save .held ≡ nextRecord (t .answer) r
   pub leaves : d ≡ afterOn card a (putWork 2 c m r b bs ch) c

@@ -26,7 +26,7 @@ ghost use Rattle.pending.specs.Finishing.{switchAt, Places, Finishable, 
 
 // A pending save, by the record that the station holds.
 pub struct Save {
-    pub record: Pending,
+    pub held: Pending,
 }
 
 // What a put hands back: its answer, the map, and the record of the save, the next one where the put is done.
@@ -69,16 +69,16 @@ fn stopped(g: Geometry, refusal: u8) -> Standing
 }
 
 // Whether the window has the record's Tail and count, told whether the entries with R match its numbers.
-fn is_pending(record: Pending, w: Window, matched: bool) -> bool
-    ensures { λ r. ⌜ r ≡ eqb (w .tail) (record .tail) && (eqb (w .count) (record .count) && matched) ⌝ }
+fn is_pending(held: Pending, w: Window, matched: bool) -> bool
+    ensures { λ r. ⌜ r ≡ eqb (w .tail) (held .tail) && (eqb (w .count) (held .count) && matched) ⌝ }
 {
-    (w.tail == record.tail) & ((w.count == record.count) & matched)
+    (w.tail == held.tail) & ((w.count == held.count) & matched)
 }
 
 // 1, 2, 4 to 6, 18 in place of 7, and 15; and the index of the card's numbers.
-fn meet(record: Pending, card: &[u8], map: Map, index: &mut [u8; 640]) -> Standing
+fn meet(held: Pending, card: &[u8], map: Map, index: &mut [u8; 640]) -> Standing
     requires { ⌜ Blank (now index) ⌝ }
-    ensures { λ r. ⌜ Met (now (card .entry)) map record (now (index .exit)) r ⌝ }
+    ensures { λ r. ⌜ Met (now (card .entry)) map held (now (index .exit)) r ⌝ }
 {
     let f = ring::fit_of(card, 2, 2);
     let g = f.geometry;
@@ -90,7 +90,7 @@ fn meet(record: Pending, card: &[u8], map: Map, index: &mut [u8; 640]) -> Standi
         return stopped(g, v.refusal);
     }
     let w = ring::window_of(g, card);
-    if !is_pending(record, w, v.matched) {
+    if !is_pending(held, w, v.matched) {
         return stopped(g, 18);
     }
     if !freemap::same(map, v.map) {
@@ -129,7 +129,7 @@ fn own_refusal(g: Geometry, count: u64, size: usize, room: usize, block: u64) ->
 
 // All refusals of a put.
 fn ask(
-    record: Pending,
+    held: Pending,
     card: &[u8],
     map: Map,
     block: u64,
@@ -138,14 +138,14 @@ fn ask(
     index: &mut [u8; 640],
 ) -> Standing
     requires { ⌜ Blank (now index) ⌝ }
-    ensures { λ r. ⌜ Asked (now (card .entry)) map record block size room (now (index .exit)) r ⌝ }
+    ensures { λ r. ⌜ Asked (now (card .entry)) map held block size room (now (index .exit)) r ⌝ }
 {
-    let s = meet(record, card, map, index);
+    let s = meet(held, card, map, index);
     if s.refusal != 0 {
         return s;
     }
     let g = s.geometry;
-    let own = own_refusal(g, record.count, size, room, block);
+    let own = own_refusal(g, held.count, size, room, block);
     if own != 0 {
         return stopped(g, own);
     }
@@ -252,9 +252,9 @@ fn make_finish(s: Standing, card: &mut [u8], index: &[u8; 640], map: Map, allowa
 }
 
 // What a put hands back, from what it came to: done hands on the next record, cut and refused the one it got.
-fn hand_back(s: Stored, record: Pending) -> Put
-    requires { ⌜ ((n : ℕ) → s .answer ≡ Answer.Done n → record .count + 1 < 18446744073709551616) ⌝ }
-    ensures { λ r. ⌜ (r .answer ≡ s .answer) × (r .map ≡ s .map) × (r .save .record ≡ nextRecord (s .answer) record) ⌝ }
+fn hand_back(s: Stored, held: Pending) -> Put
+    requires { ⌜ ((n : ℕ) → s .answer ≡ Answer.Done n → held .count + 1 < 18446744073709551616) ⌝ }
+    ensures { λ r. ⌜ (r .answer ≡ s .answer) × (r .map ≡ s .map) × (r .save .held ≡ nextRecord (s .answer) held) ⌝ }
 {
     let a = s.answer;
     let map = s.map;
@@ -263,21 +263,21 @@ fn hand_back(s: Stored, record: Pending) -> Put
             answer: Answer::Done(n),
             map: map,
             save: Save {
-                record: Pending {
-                    tail: record.tail,
-                    count: record.count + 1,
+                held: Pending {
+                    tail: held.tail,
+                    count: held.count + 1,
                 },
             },
         },
         Answer::Cut => Put {
             answer: Answer::Cut,
             map: map,
-            save: Save { record: record },
+            save: Save { held: held },
         },
         Answer::Refused(r) => Put {
             answer: Answer::Refused(r),
             map: map,
-            save: Save { record: record },
+            save: Save { held: held },
         },
     }
 }
@@ -313,12 +313,12 @@ impl Save {
         choice: &[u8],
         allowance: u64,
     ) -> Put
-        ensures { λ r. ⌜ PutBlock (now (card .entry)) map (self .record) block (now («data» .entry)) (now (choice .entry)) allowance r (now (card .exit)) ⌝ }
+        ensures { λ r. ⌜ PutBlock (now (card .entry)) map (self .held) block (now («data» .entry)) (now (choice .entry)) allowance r (now (card .exit)) ⌝ }
     {
-        let record = self.record;
+        let held = self.held;
         let mut index = [0u8; 640];
         let s = ask(
-            record,
+            held,
             card,
             map,
             block,
@@ -329,25 +329,25 @@ impl Save {
         if s.refusal != 0 {
             return hand_back(
                 stores::hand_on(Answer::Refused(s.refusal), map, map),
-                record,
+                held,
             );
         }
         let t = make_put(s, card, &index, map, block, data, choice, allowance);
-        hand_back(t, record)
+        hand_back(t, held)
     }
 
     // Finishes the save: the role switches of its entries, then Tail set to Head. `allowance` stores still happen. Refused before any store: 1, 2, 4 to
     // 6, 18, 15, and 8 where nothing was put. Done hands on the map of the card that is left.
     pub fn finish(self, card: &mut [u8], map: Map, allowance: u64) -> Stored
-        ensures { λ r. ⌜ Finished (now (card .entry)) map (self .record) allowance r (now (card .exit)) ⌝ }
+        ensures { λ r. ⌜ Finished (now (card .entry)) map (self .held) allowance r (now (card .exit)) ⌝ }
     {
-        let record = self.record;
+        let held = self.held;
         let mut index = [0u8; 640];
-        let s = meet(record, card, map, &mut index);
+        let s = meet(held, card, map, &mut index);
         if s.refusal != 0 {
             return stores::hand_on(Answer::Refused(s.refusal), map, map);
         }
-        if record.count == 0 {
+        if held.count == 0 {
             return stores::hand_on(Answer::Refused(8), map, map);
         }
         make_finish(s, card, &index, map, allowance)

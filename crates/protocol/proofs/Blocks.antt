@@ -47,12 +47,12 @@ among f a k =
     (either (anyBelow (λ j. eqb (f j) k) a))
 
 -- Head after one block more, and at the start
-forward-is : (g : Geometry) (c : List ℕ) (i h : ℕ) → h ≡ headAfter g c i → headOf c < g .slots → i + 1 ≤ g .slots
+pub forward-is : (g : Geometry) (c : List ℕ) (i h : ℕ) → h ≡ headAfter g c i → headOf c < g .slots → i + 1 ≤ g .slots
     → headAfter g c (i + 1) ≡ around (g .slots) h 1
 unfolding headAfter
 forward-is g c i h e l m = sym (around-next (g .slots) (headOf c) i l m) ∙ ap (λ (z : ℕ). around (g .slots) z 1) (sym e)
 
-head-start : (g : Geometry) (c : List ℕ) → headOf c < g .slots → headOf c ≡ headAfter g c 0
+pub head-start : (g : Geometry) (c : List ℕ) → headOf c < g .slots → headOf c ≡ headAfter g c 0
 unfolding headAfter around
 head-start g c l = let k : headOf c + 0 < g .slots = omega arith in rw (lt-ltb (headOf c + 0) (g .slots) k) (omega arith)
 
@@ -93,7 +93,7 @@ pub record PutsPassed (g : Geometry) (c ns bs : List ℕ) : Type 0 where
   pub room : roomFor g c (length ns) ≡ true
 
 module _ {g : Geometry} {row : ℕ → List ℕ} {c d : List ℕ} (ns bs : List ℕ) (v : Inv g row c d) (p : PutsPassed g c ns bs) where
-  enough-free : length ns ≤ length (freeBlocks g c)
+  pub enough-free : length ns ≤ length (freeBlocks g c)
   unfolding roomFor
   enough-free = leb-true _ _ (p .room)
 
@@ -188,7 +188,7 @@ module _ {g : Geometry} {row : ℕ → List ℕ} {c d : List ℕ} (ns bs : List 
           numbers-apart i j li lj (sym (k .number) ∙ ap (λ (z : ℕ). entryAt g c z .number) e ∙ k′ .number)
 
   -- an entry that stands for the j-th number at the start is its own
-  e-own : (j i : ℕ) → j < length ns → i < g .blocks → kindNumber (kindAt g c i) ≡ some (numberOf ns j) → entryFound g c ns j ≡ i
+  pub e-own : (j i : ℕ) → j < length ns → i < g .blocks → kindNumber (kindAt g c i) ≡ some (numberOf ns j) → entryFound g c ns j ≡ i
   e-own j i l m e = go (entered j l)
     where
       go : Entered j → entryFound g c ns j ≡ i
@@ -196,7 +196,7 @@ module _ {g : Geometry} {row : ℕ → List ℕ} {c d : List ℕ} (ns bs : List 
       go (again h x k w) = v .safe .numbers (entryFound g c ns j) i (numberOf ns j) (k .below) m (ap kindNumber w) e
 
   -- the old block of a number is the current block of its entry at the start
-  o-current : (j x : ℕ) → j < length ns → previousOf (oldBlock g c ns j) ≡ some x → kindCurrent (kindAt g c (entryFound g c ns j)) ≡ some x
+  pub o-current : (j x : ℕ) → j < length ns → previousOf (oldBlock g c ns j) ≡ some x → kindCurrent (kindAt g c (entryFound g c ns j)) ≡ some x
   o-current j x l e = go (entered j l)
     where
       go : Entered j → kindCurrent (kindAt g c (entryFound g c ns j)) ≡ some x
@@ -211,7 +211,7 @@ module _ {g : Geometry} {row : ℕ → List ℕ} {c d : List ℕ} (ns bs : List 
       go (again h y k w) = inl (v .safe .currentUnder (entryFound g c ns j) (oldBlock g c ns j) (k .below) (ap kindCurrent w))
 
   -- an old block is one of the card's
-  old-named : (j : ℕ) → Cached g c (numberOf ns j) (entryFound g c ns j)
+  pub old-named : (j : ℕ) → Cached g c (numberOf ns j) (entryFound g c ns j)
       → kindAt g c (entryFound g c ns j) ≡ live (isModified (entryAt g c (entryFound g c ns j))) (numberOf ns j) (oldBlock g c ns j)
       → oldBlock g c ns j ≡ FRESH → ⊥
   old-named j k w z =
@@ -440,7 +440,7 @@ module _ {g : Geometry} {row : ℕ → List ℕ} {c d : List ℕ} (ns bs : List 
   fit : Limits g
   fit = limits g (v .shape .good)
 
-  data-length : (i : ℕ) → i < length ns → length (dataOf g bs i) ≡ blockSize g
+  pub data-length : (i : ℕ) → i < length ns → length (dataOf g bs i) ≡ blockSize g
   unfolding dataOf dataFits
   data-length i l =
       length-part bs (i * blockSize g) (blockSize g)

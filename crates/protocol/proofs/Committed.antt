@@ -70,7 +70,7 @@ module _ {g : Geometry} {row : ℕ → List ℕ} {c d : List ℕ} (ns bs : List 
 
   -- ---- the blocks
 
-  pub blocks : List Run
+  unfoldable pub blocks : List Run
   blocks = eachBelow (blockRuns g c ns bs) (length ns)
 
   -- the media that they leave

@@ -400,14 +400,17 @@ plain-row v g c d rs known ok sized uncut unput =
     (start-rest v g c d known (format-passed g c ok) sized .1) uncut unput in
     (s, contents-hold (inv-left v g c d known ok sized rs) s)
 
--- a call that answers done is not refused, and has made all its stores
-pub done-passed : (a n : ℕ) (w : Work) → answerOf a w ≡ Done n → (w .refusal ≡ 0) × ((m : Medium) (xs : List ℕ) → afterOn m a w xs ≡ madeOn m (flat (w .runs)) xs)
+-- a call that answers done is not refused, has made all its stores, and tells how many
+abbrev pub DoneAll : ℕ → ℕ → Work → Type 0
+DoneAll a n w = (w .refusal ≡ 0) × ((m : Medium) (xs : List ℕ) → afterOn m a w xs ≡ madeOn m (flat (w .runs)) xs) × (length (flat (w .runs)) ≡ n)
+
+pub done-passed : (a n : ℕ) (w : Work) → answerOf a w ≡ Done n → DoneAll a n w
 done-passed a n w e = go (answered a w)
   where
-    go : Answered a w → (w .refusal ≡ 0) × ((m : Medium) (xs : List ℕ) → afterOn m a w xs ≡ madeOn m (flat (w .runs)) xs)
+    go : Answered a w → DoneAll a n w
     go (refused z x k) = let y : _≡_ {A = ℕ} 0 1 = cc in absurd (omega arith)
     go (cut z l x k) = let y : _≡_ {A = ℕ} 0 1 = cc in absurd (omega arith)
-    go (done z x k) = (z, k)
+    go (done z x k) = (z, k, cc)
 
 -- a room-making commit that answers done, on media that the invariant holds of
 module _ {g : Geometry} {r : Reckoned} (m : Media) (x : Reck g r (m .onCard) (m .onDisk)) (w : ℕ) (s : Map) (t ns bs ch : List ℕ) (a n : ℕ)

@@ -14,12 +14,14 @@ pub mod Finished
 pub mod Growing
 pub mod Handed
 pub mod Holds
+pub mod InRow
 pub mod Invariant
 pub mod Lawful
 pub mod Left
 pub mod Loaded
 pub mod Made
 pub mod Maps
+pub mod OneByOne
 pub mod Passed
 pub mod PendingMap
 pub mod Planned
