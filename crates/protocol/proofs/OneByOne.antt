@@ -247,7 +247,7 @@ module _ (c d ns bs : List ℕ) (whole : Intact (geometryOf c) c) (settled : isS
         let w = putWork 2 (x .media .onCard) (x .map) (x .held) b ds (chs i) in
         let (z, made, n) = done-passed (ls i) (ks i) w e in
         let q =
-        put-passed (mid i few (a .front) i (omega arith) .inv) 2 (x .map) (x .held) b ds (chs i)
+        put-passed g (left i) (geometry-is (mid i few (a .front) i (omega arith) .inv)) 2 (x .map) (x .held) b ds (chs i)
         (ap (λ (c′ : List ℕ). putRefusal 2 c′ (x .map) (x .held) b ds (chs i)) (sym (a .onCard)) ∙ z) in
         let f = next i l (a .front) (x .held) q in
         let runs : putRuns (geometryOf (x .media .onCard)) (x .media .onCard) b ds ≡ blockRuns g c ns bs i =
@@ -307,10 +307,10 @@ module _ (c d ns bs : List ℕ) (whole : Intact (geometryOf c) c) (settled : isS
       unfolding w′ finishWork
       some e =
           let p =
-          finish-passed (mid n few (end .front) n (omega arith) .inv) 2 (x .map) (x .held)
+          finish-passed g (left n) (geometry-is (mid n few (end .front) n (omega arith) .inv)) 2 (x .map) (x .held)
           (ap (λ (c′ : List ℕ). finishRefusal 2 c′ (x .map) (x .held)) (sym (end .onCard)) ∙ finished .0) in
           finish-some (x .media .onCard) (x .map) (x .held) (finished .0)
-          (sym (pending-count g (left n) (x .held) p) ∙ left-window n few (end .front) ∙ e)
+          (sym (pending-count g (left n) (x .held) (p .1)) ∙ left-window n few (end .front) ∙ e)
 
       -- so the commit passes all its checks
       saves : SavePassed g ns bs ch (roomFor g c (length ns))
