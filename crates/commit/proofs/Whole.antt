@@ -53,7 +53,7 @@ module _ (g : Geometry) (c ns bs es ps qs : List ℕ) (m : Map) (two : versionOf
   unfolding keyAt
   place-same i l = x .entries i l
 
-  block-same : (i : ℕ) → i < length ns → plannedBlock g (planBy es ps qs) (headOf c) ns bs i ≡ blockRuns g c ns bs i
+  pub block-same : (i : ℕ) → i < length ns → plannedBlock g (planBy es ps qs) (headOf c) ns bs i ≡ blockRuns g c ns bs i
   unfolding plannedBlock stepRuns blockRuns headAfter logEntry
   block-same i l = λ t. stepRuns g (place-same i l t) (entry-same i l t) bs (headOf c) i
 
@@ -70,7 +70,7 @@ module _ (g : Geometry) (c ns bs es ps qs : List ℕ) (m : Map) (two : versionOf
 
 -- ---- what the checks have passed
 
-fit-two : (c : List ℕ) → fitRefusal 2 2 c ≡ 0 → versionOf c ≡ 2
+pub fit-two : (c : List ℕ) → fitRefusal 2 2 c ≡ 0 → versionOf c ≡ 2
 fit-two c z = eqb-true _ _ (sym (between-one 2 (versionOf c)) ∙ header-version c 2 2 (fit-header c 2 2 z))
 
 -- the map that a commit gets is the card's

@@ -65,16 +65,16 @@ module _ {g : Geometry} {c : List ℕ} (w : Intact g c) (r : Pending) (b : ℕ) 
   unfolding roomFor
   room = leb-true 1 _ (p .room)
 
-  abbrev q : ℕ
+  abbrev pub q : ℕ
   q = newBlock g c 0
 
-  abbrev at : ℕ
+  abbrev pub at : ℕ
   at = entryFound g c (b ∷ []) 0
 
   abbrev x : Entry
   x = logEntry g c (b ∷ []) 0
 
-  q-below : q < g .blocks
+  pub q-below : q < g .blocks
   unfolding newBlock freeBlocks
   q-below =
       let f = walk-finds (isFree g c) (g .blocks) (searchStart g c) (g .blocks) 0 room in
@@ -110,7 +110,7 @@ module _ {g : Geometry} {c : List ℕ} (w : Intact g c) (r : Pending) (b : ℕ) 
           idle-at : (i : ℕ) → unusedAt g c i ≡ true → usedAt g c i ≡ false
           idle-at i h = unfold unusedAt in not-true _ h
 
-  at-below : at < g .blocks
+  pub at-below : at < g .blocks
   at-below = go entered
     where
       go : Entered → at < g .blocks

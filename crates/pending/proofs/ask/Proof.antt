@@ -38,12 +38,12 @@ returns-4 c = search (ask-full, needs)
 
 returns-5 : tie.Need-returns-5
 returns-5 c =
-    let p = c .before in
+    let p = c .before .before in
     let i = p .before in
     let l = i .before in
     let o = l .before in
     let f = o .before .before in
-    ask-passed _ _ _ _ _ _ _ _ (f .before .meet .ensures) (f .if1 .left) _ (o .own-refusal .ensures) (l .if2 .left) _ (i .in-window .ensures) (p .if3 .left) (c .if4 .left)
+    ask-passed _ _ _ _ _ _ _ _ (f .before .before .meet .ensures) (f .if1 .left) _ (o .own-refusal .ensures) (l .if2 .left) _ (i .in-window .ensures) (p .if3 .left) (c .if4 .left)
 
 pub ask-spec : {M : Type 1} → statement M
 ask-spec =
