@@ -1,51 +1,67 @@
+-- `find_places` looks up each of the window's numbers. The invariant: the places of those passed are filled in.
+use Prim.Native.Nat.{_≤_, _-_}
+use mathlib.Core.Path.{_≡_, _∙_}
+use lib.ListN.{length, length-set}
+use Rattle.checks.specs.Keys.{Lists}
+use Rattle.checks.proofs.Laws.{lists-none, lists-more}
+use Rattle.pending.specs.Finishing.{placeAt}
+use Rattle.pending.proofs.Finishing.{places-few, place-number, place-is, place-fits, places-end}
+use native.Mathlib.Omega.{arith}
+use borrow.Author.Needs.{needs}
 use Rattle.pending.proofs.find_places.Statement.{statement}
 use Rattle.pending.proofs.find_places.Tie as tie
-use Rattle.pending.proofs.find_places.Reads as reads
-use Rattle.pending.proofs.find_places.Lts as lts
-use Rattle.checks.proofs.find.Reads as find-reads
-use Rattle.ring.proofs.window_number.Reads as window-number-reads
 
 abbrev Inv-loop : tie.InvT-loop
-Inv-loop g card index w places₀ n j₀ places j = ?
+Inv-loop g card index w places₀ n j₀ places j = (j ≤ n) × (length places ≡ 128) × Lists (placeAt g card) places j
 
 abbrev μ-loop : tie.MeasureT-loop
-μ-loop g card index w places₀ n j₀ places j = ?
+μ-loop g card index w places₀ n j₀ places j = n - j
 
--- src/lib.rt:216:5
 loop-holds : tie.Need-loop-holds Inv-loop μ-loop
-loop-holds c = ?
+loop-holds c = search (lists-none, needs)
 
--- src/lib.rt:217:47
 window-number-requires : tie.Need-window-number-requires Inv-loop μ-loop
-window-number-requires c κs = ?
+window-number-requires c κs = search needs
 
--- src/lib.rt:217:13
 find-requires : tie.Need-find-requires Inv-loop μ-loop
-find-requires c κs = ?
+find-requires c κs =
+    let n = c .before in
+    place-number _ _ _ _ (n .before .before .before .pre .0) _ _ (n .loop-test .taken) (c .window-number .ensures)
 
--- src/lib.rt:218:21
 cast-places : tie.Need-cast-places Inv-loop μ-loop
-cast-places c = ?
+cast-places c =
+    let w = c .before in
+    let n = w .before in
+    let l = place-fits _ _ _ _ (n .before .before .before .pre .0) _ _ (n .loop-test .taken) (w .window-number .ensures) _ (c .find .ensures) in
+    omega arith
 
--- src/lib.rt:218:9
 element-write-places : tie.Need-element-write-places Inv-loop μ-loop
-element-write-places c = ?
+element-write-places c =
+    let n = c .before .before in
+    let few = places-few _ _ _ _ (n .before .before .before .pre .0) in
+    omega (arith, n .loop-test .taken)
 
--- src/lib.rt:219:9
 add-j : tie.Need-add-j Inv-loop μ-loop
-add-j c = ?
+add-j c = search needs
 
--- src/lib.rt:216:5
 loop-less : tie.Need-loop-less Inv-loop μ-loop
-loop-less c = ?
+loop-less c = search needs
 
--- src/lib.rt:216:5
 loop-again : tie.Need-loop-again Inv-loop μ-loop
-loop-again c = ?
+loop-again c =
+    let w = c .before in
+    let n = w .before in
+    let l = n .before in
+    let f = l .before .before .pre .0 in
+    let few = places-few _ _ _ _ f in (
+      omega (arith, n .loop-test .taken),
+      length-set (l .loop .places) (l .loop .j) (c .find .result) ∙ l .loop .inv .1,
+      lists-more _ _ _ _ (omega (arith, n .loop-test .taken, l .loop .inv .1)) (l .loop .inv .2)
+          (place-is _ _ _ _ f _ _ (n .loop-test .taken) (w .window-number .ensures) _ (c .find .ensures)),
+    )
 
--- src/lib.rt:210:1
 returns : tie.Need-returns Inv-loop μ-loop
-returns c = ?
+returns c = search (places-end, needs)
 
 pub find-places-spec : {M : Type 1} → statement M
 find-places-spec =

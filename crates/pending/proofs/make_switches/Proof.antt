@@ -1,66 +1,81 @@
+-- `make_switches` makes the role switch of each place. The invariant: those passed are made, and the entries of the others are as at the start.
+use Prim.Native.Nat.{_≤_, _-_}
+use mathlib.Core.Path.{_≡_}
+use lib.ListN.{length}
+use Rattle.commit.proofs.Loops.{entry-lies, each-all}
+use Rattle.pending.proofs.Finishing.{Switching, switches-start, switch-on, switch-reads, switches-turn}
+use native.Mathlib.Omega.{arith}
+use borrow.Author.Needs.{needs}
 use Rattle.pending.proofs.make_switches.Statement.{statement}
 use Rattle.pending.proofs.make_switches.Tie as tie
-use Rattle.pending.proofs.make_switches.Reads as reads
-use Rattle.pending.proofs.make_switches.Lts as lts
-use Rattle.checks.proofs.entry_of.Reads as entry-of-reads
-use Rattle.commit.proofs.switch_role.Reads as switch-role-reads
-use Rattle.pending.proofs.wide.Reads as wide-reads
-use Rattle.stores.proofs.entry_place.Reads as entry-place-reads
-use Rattle.stores.proofs.make_entry.Reads as make-entry-reads
 
 abbrev Inv-loop : tie.InvT-loop
-Inv-loop g card₀ places n credit left₀ j₀ card left j = ?
+Inv-loop g card₀ places n credit left₀ j₀ card left j = (j ≤ n) × (length card ≡ length card₀) × Switching g card₀ places n credit j card left
 
 abbrev μ-loop : tie.MeasureT-loop
-μ-loop g card₀ places n credit left₀ j₀ card left j = ?
+μ-loop g card₀ places n credit left₀ j₀ card left j = n - j
 
--- src/lib.rt:230:5
 loop-holds : tie.Need-loop-holds Inv-loop μ-loop
-loop-holds c = ?
+loop-holds c = search (switches-start, needs)
 
--- src/lib.rt:231:23
 element-copy-out-wide : tie.Need-element-copy-out-wide Inv-loop μ-loop
-element-copy-out-wide c = ?
+element-copy-out-wide c = let few = c .before .before .before .pre .1 .few in omega (arith, c .loop-test .taken)
 
--- src/lib.rt:231:13
 wide-requires : tie.Need-wide-requires Inv-loop μ-loop
-wide-requires c κs = ?
+wide-requires c κs = search needs
 
--- src/lib.rt:232:37
 entry-of-requires : tie.Need-entry-of-requires Inv-loop μ-loop
-entry-of-requires c κs = ?
+entry-of-requires c κs =
+    let n = c .before .before .before in
+    let s = n .before .before .before in
+    switch-reads _ _ _ _ _ (s .pre .1) (n .loop-test .taken) _ _ (s .pre .0) (n .before .loop .inv .1) (c .before .wide .ensures)
 
--- src/lib.rt:232:13
 switch-role-requires : tie.Need-switch-role-requires Inv-loop μ-loop
-switch-role-requires c κs = ?
+switch-role-requires c κs = search needs
 
--- src/lib.rt:233:41
 entry-place-requires : tie.Need-entry-place-requires Inv-loop μ-loop
-entry-place-requires c κs = ?
+entry-place-requires c κs =
+    let w = c .before .before .before .before in
+    let n = w .before .before in
+    let s = n .before .before .before in
+    let l = switch-on _ _ _ _ _ (s .pre .1) (n .loop-test .taken) _ (w .wide .ensures) in
+    (s .pre .0 .good, omega arith)
 
--- src/lib.rt:233:9
 make-entry-requires : tie.Need-make-entry-requires Inv-loop μ-loop
-make-entry-requires c κs = ?
+make-entry-requires c κs =
+    let w = c .before .before .before .before .before in
+    let n = w .before .before in
+    let s = n .before .before .before in
+    let l = switch-on _ _ _ _ _ (s .pre .1) (n .loop-test .taken) _ (w .wide .ensures) in
+    entry-lies _ _ _ _ _ (s .pre .0) (n .before .loop .inv .1) l (c .entry-place .ensures)
 
--- src/lib.rt:234:9
 add-j : tie.Need-add-j Inv-loop μ-loop
-add-j c = ?
+add-j c = search needs
 
--- src/lib.rt:230:5
 loop-less : tie.Need-loop-less Inv-loop μ-loop
-loop-less c = ?
+loop-less c = search needs
 
--- src/lib.rt:230:5
 loop-again : tie.Need-loop-again Inv-loop μ-loop
-loop-again c = ?
+loop-again c =
+    let m = c .before .before in
+    let p = m .before in
+    let r = p .before .before in
+    let e = r .before in
+    let w = e .before .before in
+    let n = w .before .before in
+    let l = n .before in
+    let s = l .before .before in (
+      omega (arith, n .loop-test .taken),
+      search needs,
+      switches-turn _ _ _ _ _ (s .pre .1) (n .loop-test .taken) _ _ _ _ _ _ _ _ _ (l .loop .inv .2) (w .wide .ensures) (e .entry-of .ensures)
+          (r .switch-role .ensures) (p .entry-place .ensures) (m .make-entry .ensures),
+    )
 
--- src/lib.rt:224:1
 same-length : tie.Need-same-length Inv-loop μ-loop
-same-length c = ?
+same-length c = search needs
 
--- src/lib.rt:224:1
 returns : tie.Need-returns Inv-loop μ-loop
-returns c = ?
+returns c ch = each-all _ _ _ _ _ _ _ ch (c .before .loop .inv .0) (c .loop-test .left) (c .before .loop .inv .2 .did ch)
 
 pub make-switches-spec : {M : Type 1} → statement M
 make-switches-spec =
