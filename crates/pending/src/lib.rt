@@ -246,7 +246,13 @@ fn make_finish(s: Standing, card: &mut [u8], index: &[u8; 640], map: Map, allowa
     let mut places = [0u8; 128];
     find_places(g, card, index, w, &mut places);
     let count = w.count + 1;
-    let a = make_switches(g, card, &places, w.count as usize, stores::credit(count, allowance));
+    let a = make_switches(
+        g,
+        card,
+        &places,
+        w.count as usize,
+        stores::credit(count, allowance),
+    );
     stores::make_word(card, 72, w.head, a);
     stores::hand_on(stores::answer(count, allowance), map, s.currents)
 }
@@ -327,10 +333,7 @@ impl Save {
             &mut index,
         );
         if s.refusal != 0 {
-            return hand_back(
-                stores::hand_on(Answer::Refused(s.refusal), map, map),
-                held,
-            );
+            return hand_back(stores::hand_on(Answer::Refused(s.refusal), map, map), held);
         }
         let t = make_put(s, card, &index, map, block, data, choice, allowance);
         hand_back(t, held)
