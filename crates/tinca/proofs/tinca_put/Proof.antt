@@ -43,7 +43,7 @@ returns c =
     let e = put-held _ _ _ _ _ _ _ _ _ _ (r .lent-record .ensures) (k .put .ensures) in
     let own : Map → Work = λ m. putWork 2 (x .card .now) m (lentRecord (x .held .now)) (x .block) (x .bytes .now) (x .choice .now) in
     let y = lent-call own _ _ _ _ _ _ _ (l .lent .ensures) (e .answers) (e .hands) (h .handed .ensures) _ (e .leaves) in
-    (y .0, (y .1 .0, (y .1 .1, lent-held own _ _ _ _ _ _ _ _ (l .lent .ensures) (e .answers) (e .next) (w .put-record .ensures))))
+    (y .0, (y .1 .0, (y .1 .1, lent-held own _ _ _ _ (k .put .result) _ _ _ (l .lent .ensures) (e .answers) (e .next) (w .put-record .ensures))))
 
 pub tinca-put-spec : {M : Type 1} → statement M
 tinca-put-spec =
