@@ -1222,12 +1222,12 @@ impl<'a> Pair<'a> {
         let answer = self.choosing(PUT, &self.picked(PUT, pick, allowance), run, &what)?;
         self.owes_put(before.clone(), block, answer);
         self.count_cut(PUT, pick, answer == Answer::Cut && allowance < words);
-        let next = match answer {
-            Answer::Done(_) => vec![record[0], record[1] + 1],
-            _ => record.clone(),
+        let next = match (answer, &record[..]) {
+            (Answer::Done(_), [tail, count]) => record_of(self.card()).filter(|of_card| *of_card == [*tail, count + 1]).map(|next| next.to_vec()),
+            (Answer::Done(_), _) => None,
+            _ => Some(record.clone()),
         };
-        let of_card = matches!(answer, Answer::Done(_)).then(|| record_of(self.card())).flatten();
-        if self.record() != next || of_card.is_some_and(|of_card| of_card != *next) {
+        if next.is_none_or(|next| self.record() != next) {
             return Err(format!("{}: {answer:?}, and the record is {:X?}", what(), self.record()));
         }
         if !matches!(answer, Answer::Cut | Answer::Refused(_)) && answer != Answer::Done(words + 3) {
@@ -1250,7 +1250,7 @@ impl<'a> Pair<'a> {
         }
         if let Answer::Done(stores) = answer {
             let settled = Card::open_settled(self.card(), None).is_ok();
-            if stores != record[1] + 1 || !settled {
+            if record.get(1).is_none_or(|count| stores != count + 1) || !settled {
                 return Err(format!("{}: {answer:?}, and the card is settled: {settled}", what()));
             }
         }
