@@ -28,6 +28,9 @@ struct Parts {
 
 type Part<'p> = &'p dyn Fn(&dyn Calls, &dyn Calls) -> Result<Tally, String>;
 
+/// A part that a seed decides.
+type History<'p> = &'p dyn Fn(&dyn Calls, &dyn Calls, u64) -> Result<Tally, String>;
+
 impl Parts {
     fn run(&mut self, name: &str, part: Part) -> Result<(), String> {
         let start = Instant::now();
@@ -35,6 +38,16 @@ impl Parts {
         println!("{name}: {} ({:.1} s)", tally.line(), start.elapsed().as_secs_f64());
         self.total.add(&tally);
         Ok(())
+    }
+
+    /// So many histories on cards of the geometry, as one part.
+    fn run_seeds(&mut self, name: &str, geometry: Geometry, histories: u64, history: History) -> Result<(), String> {
+        let first = 1000 * geometry.k + 100 * geometry.slots;
+        self.run(name, &|library, model| {
+            let mut tally = Tally::default();
+            (first..first + histories).try_for_each(|seed| history(library, model, seed).map(|more| tally.add(&more)))?;
+            Ok(tally)
+        })
     }
 
     fn cuts(&mut self) -> Result<(), String> {
@@ -68,14 +81,8 @@ impl Parts {
             (12, 256, 128, 65_536, 1, 3000),
         ] {
             let name = format!("b histories, k {k} S {slots} N {data_blocks} D {disk_blocks}");
-            self.run(&name, &|library, model| {
-                let mut tally = Tally::default();
-                for history in 0..histories {
-                    let seed = 1000 * k + 100 * slots + history;
-                    tally.add(&random_history(library, model, geometry(k, slots, data_blocks, disk_blocks), calls, seed)?);
-                }
-                Ok(tally)
-            })?;
+            let geometry = geometry(k, slots, data_blocks, disk_blocks);
+            self.run_seeds(&name, geometry, histories, &|library, model, seed| random_history(library, model, geometry, calls, seed))?;
         }
         Ok(())
     }
@@ -113,13 +120,7 @@ impl Parts {
         {
             let name = format!("i histories across an upgrade, k {k} S {slots} N {data_blocks} D {disk_blocks}");
             let geometry = geometry(k, slots, data_blocks, disk_blocks);
-            self.run(&name, &|library, model| {
-                let mut tally = Tally::default();
-                for history in 0..histories {
-                    tally.add(&across(library, model, geometry, calls, 1000 * k + 100 * slots + history)?);
-                }
-                Ok(tally)
-            })?;
+            self.run_seeds(&name, geometry, histories, &|library, model, seed| across(library, model, geometry, calls, seed))?;
         }
         Ok(())
     }
@@ -158,14 +159,10 @@ impl Parts {
         ] {
             let name = format!("k histories of pending saves, k {k} S {slots} N {data_blocks} D {disk_blocks}");
             let geometry = geometry(k, slots, data_blocks, disk_blocks);
-            self.run(&name, &|library, model| {
-                let mut tally = Tally::default();
-                for history in 0..histories {
-                    let seed = 1000 * k + 100 * slots + history;
-                    tally.add(&pending_history(library, model, geometry, calls, seed, Reckoning::Right)?);
-                }
-                Ok(tally)
-            })?;
+            let history = |library: &dyn Calls, model: &dyn Calls, seed| {
+                pending_history(library, model, geometry, calls, seed, Reckoning::Right)
+            };
+            self.run_seeds(&name, geometry, histories, &history)?;
         }
         Ok(())
     }
