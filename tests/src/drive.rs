@@ -2605,10 +2605,7 @@ mod tests {
     #[test]
     fn the_page_tells_the_refusals_of_each_call() {
         let told = told_refusals(include_str!("../../docs/CARD.md"));
-        // the page tells of a call when the library has it
-        let is_told = |call: &usize| cfg!(feature = "pending") || ![OPEN, PUT, FINISH].contains(call);
-        let calls = (0..CALLS.len()).filter(is_told);
-        let given: Vec<(&str, Vec<usize>)> = calls.map(|call| (CALLS[call], REFUSALS[call].to_vec())).collect();
+        let given: Vec<(&str, Vec<usize>)> = (0..CALLS.len()).map(|call| (CALLS[call], REFUSALS[call].to_vec())).collect();
         assert_eq!(told, given);
     }
 

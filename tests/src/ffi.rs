@@ -59,8 +59,6 @@ pub struct RawRecord {
     pub count: u64,
 }
 
-// the library does not have these calls yet
-#[cfg(feature = "pending")]
 extern "C" {
     fn tinca_open(card: *const u8, card_len: usize) -> RawRecord;
     fn tinca_put(
@@ -326,12 +324,10 @@ impl Calls for Library {
         answer(unsafe { tinca_recover(lent_mut(card), card_len, lent_mut(map), words, allowance) })
     }
 
-    #[cfg(feature = "pending")]
     fn open(&self, card: &[u8]) -> Opened {
         opened(unsafe { tinca_open(lent(card), card.len()) })
     }
 
-    #[cfg(feature = "pending")]
     fn put(
         &self,
         card: &mut [u8],
@@ -351,26 +347,10 @@ impl Calls for Library {
         })
     }
 
-    #[cfg(feature = "pending")]
     fn finish(&self, card: &mut [u8], map: &mut [u64], record: &mut [u64], allowance: u64) -> Answer {
         let (card_len, words, record_words) = (card.len(), map.len(), record.len());
         let (card, map, record) = (lent_mut(card), lent_mut(map), lent_mut(record));
         answer(unsafe { tinca_finish(card, card_len, map, words, record, record_words, allowance) })
-    }
-
-    #[cfg(not(feature = "pending"))]
-    fn open(&self, _: &[u8]) -> Opened {
-        unimplemented!()
-    }
-
-    #[cfg(not(feature = "pending"))]
-    fn put(&self, _: &mut [u8], _: &mut [u64], _: &mut [u64], _: u64, _: &[u8], _: &[u8], _: u64) -> Answer {
-        unimplemented!()
-    }
-
-    #[cfg(not(feature = "pending"))]
-    fn finish(&self, _: &mut [u8], _: &mut [u64], _: &mut [u64], _: u64) -> Answer {
-        unimplemented!()
     }
 
     fn upgrade(&self, card: &mut [u8], allowance: u64) -> Answer {

@@ -2,19 +2,12 @@
 
 use std::time::Instant;
 use tinca_tests::drive::{arguments, damaged, drill, every_cut, every_preview, random_history, script, Reckoning, Tally, DRILL};
-#[cfg(feature = "pending")]
 use tinca_tests::ffi::Library;
 use tinca_tests::model::Model;
 use tinca_tests::pending::{full_windows, odd_cards, pending_history, pending_script, wide_pending_script};
 use tinca_tests::room::{crowded, every_room, room_script, wide_room_script};
 use tinca_tests::versions::{across, every_upgrade};
 use tinca_tests::{Calls, Geometry};
-
-/// What is held to the model: the library; until it has open, put and finish, a second model.
-#[cfg(feature = "pending")]
-const HELD: (&str, &dyn Calls) = ("library", &Library);
-#[cfg(not(feature = "pending"))]
-const HELD: (&str, &dyn Calls) = ("model", &Model::NOW);
 
 fn geometry(k: u64, slots: u64, data_blocks: u64, disk_blocks: u64) -> Geometry {
     Geometry { k, slots, data_blocks, disk_blocks }
@@ -34,7 +27,7 @@ type History<'p> = &'p dyn Fn(&dyn Calls, &dyn Calls, u64) -> Result<Tally, Stri
 impl Parts {
     fn run(&mut self, name: &str, part: Part) -> Result<(), String> {
         let start = Instant::now();
-        let tally = part(HELD.1, &Model::NOW).map_err(|difference| format!("{name}: {difference}"))?;
+        let tally = part(&Library, &Model::NOW).map_err(|difference| format!("{name}: {difference}"))?;
         println!("{name}: {} ({:.1} s)", tally.line(), start.elapsed().as_secs_f64());
         self.total.add(&tally);
         Ok(())
@@ -188,9 +181,8 @@ impl Parts {
 }
 
 fn run() -> Result<Tally, String> {
-    let (held, calls) = HELD;
-    if drill(calls) != DRILL {
-        return Err(format!("drill: the {held} prints\n{}", drill(calls)));
+    if drill(&Library) != DRILL {
+        return Err(format!("drill: the library prints\n{}", drill(&Library)));
     }
     let mut parts = Parts::default();
     parts.cuts()?;
@@ -209,7 +201,7 @@ fn main() {
         Ok(total) => {
             let seconds = start.elapsed().as_secs_f64();
             println!("all: {}", total.line());
-            println!("{} and model agree in {} calls, {seconds:.1} s", HELD.0, total.calls());
+            println!("library and model agree in {} calls, {seconds:.1} s", total.calls());
             if total.calls() < 1_000_000 {
                 println!("fewer than 1,000,000 calls");
                 std::process::exit(1);

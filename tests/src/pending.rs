@@ -599,7 +599,6 @@ pub fn odd_cards<'a>(one: &'a dyn Calls, other: &'a dyn Calls, geometry: Geometr
 mod tests {
     use super::*;
     use crate::drive::{every_cut, script, WRONG_RECKONINGS};
-    #[cfg(feature = "pending")]
     use crate::ffi::Library;
     use crate::model::{map_of, Model, Slip};
 
@@ -607,11 +606,7 @@ mod tests {
     const WIDE: Geometry = Geometry { data_blocks: 8, disk_blocks: 16, ..SMALL };
     const ZEROS: &[u8] = &[0; 64];
 
-    /// The library is one of them once it has these calls.
-    #[cfg(feature = "pending")]
     const EACH: [&dyn Calls; 2] = [&Model::NOW, &Library];
-    #[cfg(not(feature = "pending"))]
-    const EACH: [&dyn Calls; 1] = [&Model::NOW];
 
     /// A station with a pending save on a fresh card over a disk of nines.
     struct Station<'c> {

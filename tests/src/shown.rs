@@ -270,12 +270,9 @@ fn entries_of(card: &[u8], geometry: Geometry, window: Option<&[(u64, u64)]>) ->
     Some(used.map(|(index, bytes)| entry_row(card[VERSION_AT], index, bytes, geometry, window)).collect())
 }
 
-/// The service program tells an undoable entry's previous block to be free until it has the rule of pending saves.
 fn free_of(card: &[u8]) -> Option<Row> {
     let card = Card::open(card, None).ok()?;
-    let is_current = |block: usize| card.in_use().any(|entry| entry.current as usize == block);
-    let is_free = |block: &usize| if cfg!(feature = "pending") { card.is_free(*block) } else { !is_current(*block) };
-    Some((0..card.geometry.data_blocks as usize).filter(is_free).map(|block| block.to_string()).collect())
+    Some((0..card.geometry.data_blocks as usize).filter(|block| card.is_free(*block)).map(|block| block.to_string()).collect())
 }
 
 /// An old card, which state refuses for its version, is told from its bytes.
@@ -478,21 +475,7 @@ mod tests {
         card
     }
 
-    #[cfg(feature = "pending")]
-    macro_rules! free {
-        () => {
-            "    3\n"
-        };
-    }
-    #[cfg(not(feature = "pending"))]
-    macro_rules! free {
-        () => {
-            "    0   3\n"
-        };
-    }
-
-    const SHOWN: &str = concat!(
-        "\
+    const SHOWN: &str = "\
 card.img: 2,304 bytes
 
 header
@@ -516,12 +499,10 @@ entries: V in use, P previous modified, M modified, R log role
       1  8300000000000005 FFFFFFFF 00000001  V - M R       5     FRESH        1       yes      none
 
 free data blocks
-",
-        free!(),
-        "
+    3
+
 condition  unsettled, undoable entries 2, slots in the window 1
-"
-    );
+";
 
     #[test]
     fn a_card_is_shown_as_it_is() {
