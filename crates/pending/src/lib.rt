@@ -179,31 +179,25 @@ fn make_put(
     let mut previous = [0u16; 128];
     let mut blocks = [0u8; 128];
     plan::find_homes(g, card, index, &numbers, &mut entries, &mut previous);
-    plan::plan_of(
+    let count = codec::block_size(g) / 8 + 3;
+    let made = commit::make_save(
         g,
         card,
         w.tail,
+        w.head,
         map,
         &numbers,
+        data,
         &mut entries,
         &previous,
         &mut blocks,
-    );
-    let count = codec::block_size(g) / 8 + 3;
-    commit::make_blocks(
-        g,
-        card,
-        &entries,
-        &previous,
-        &blocks,
-        &numbers,
-        data,
-        w.head,
         choice,
-        stores::credit(count, allowance),
+        count,
+        allowance,
+        false,
     );
     let after = freemap::with(map, wide(blocks[0]));
-    stores::hand_on(stores::answer(count, allowance), map, after)
+    stores::hand_on(made.answer, map, after)
 }
 
 // The place of the entry of each of the window's numbers.
