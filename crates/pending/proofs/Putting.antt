@@ -38,10 +38,10 @@ use Rattle.stores.specs.Did.{Did}
 use Rattle.stores.proofs.Laws.{did-same, refused-answer, refused-after, refused-map, made-answer, made-after, made-map}
 use Rattle.checks.specs.Passed.{Indexed}
 use Rattle.checks.specs.Keys.{keyAt}
-use Rattle.plan.specs.Planned.{Plannable, Planned}
+use Rattle.plan.specs.Planned.{Homes, Plannable, Planned}
 use Rattle.plan.specs.Request.{choiceRoom}
 use Rattle.plan.proofs.Count.{block-count}
-use Rattle.commit.specs.Making.{planBy, plannedBlock, Named, Ready}
+use Rattle.commit.specs.Making.{planBy, plannedBlock, partRuns, Named, Ready, Makable, Made}
 use Rattle.commit.proofs.Whole.{block-same, fit-two}
 use Rattle.pending.specs.declared.Standing.{Standing}
 use Rattle.pending.specs.declared.Put.{Put}
@@ -136,7 +136,7 @@ module _ (c : List ℕ) (m : Map) (r : Pending) (b : ℕ) (bs ch xs : List ℕ) 
     pub put-small : (k : ℕ) → k ≡ getD qs 0 0 → k < 128
     put-small k e = let l : Limits (geometryOf c) = limits (geometryOf c) (whole .good) in omega (arith, block-below)
 
-    pub put-ready : Fitted g c × Ready g (planBy es ps qs) (s .window .head) (b ∷ []) bs × (blockSize g / 8 ≤ length ch)
+    put-ready : Ready g (planBy es ps qs) (s .window .head) (b ∷ []) bs
     put-ready =
         let l : Limits (geometryOf c) = limits (geometryOf c) (whole .good) in
         let named : Named (geometryOf c) (planBy es ps qs) (b ∷ []) =
@@ -145,16 +145,13 @@ module _ (c : List ℕ) (m : Map) (r : Pending) (b : ℕ) (bs ch xs : List ℕ) 
           entries = λ i h. let e : i ≡ 0 = omega arith in subst (λ (k : ℕ). getD es k 0 < geometryOf c .blocks) (sym e) entry-below;
           blocks = λ i h. let e : i ≡ 0 = omega arith in subst (λ (k : ℕ). getD qs k 0 < geometryOf c .blocks) (sym e) block-below;
           low = λ i h. let e : i ≡ 0 = omega arith in subst (λ (k : ℕ). getD (b ∷ []) k 0 < 4294967296) (sym e) (omega (arith, passes .inDisk));
-        } in (
-          put-fitted,
-          record {
-            named = of-own (λ (k : Geometry). Named k (planBy es ps qs) (b ∷ [])) named;
-            count = of-own (λ (k : Geometry). 1 < k .slots) (omega arith);
-            head = of-own (λ (k : Geometry). s .window .head < k .slots) (subst (λ (z : ℕ). z < geometryOf c .slots) (sym (p .stands .findable .window .head)) (whole .head));
-            sized = of-own (λ (k : Geometry). length bs ≡ 1 * blockSize k) (passes .sized ∙ omega arith);
-          },
-          of-own (λ (k : Geometry). blockSize k / 8 ≤ length ch) chosen,
-        )
+        } in
+        record {
+          named = of-own (λ (k : Geometry). Named k (planBy es ps qs) (b ∷ [])) named;
+          count = of-own (λ (k : Geometry). 1 < k .slots) (omega arith);
+          head = of-own (λ (k : Geometry). s .window .head < k .slots) (subst (λ (z : ℕ). z < geometryOf c .slots) (sym (p .stands .findable .window .head)) (whole .head));
+          sized = of-own (λ (k : Geometry). length bs ≡ 1 * blockSize k) (passes .sized ∙ omega arith);
+        }
 
     runs-is : eachBelow (plannedBlock g (planBy es ps qs) (s .window .head) (b ∷ []) bs) 1 ≡ putRuns (geometryOf c) c b bs
     unfolding eachBelow putRuns
@@ -162,26 +159,41 @@ module _ (c : List ℕ) (m : Map) (r : Pending) (b : ℕ) (bs ch xs : List ℕ) 
         (λ t. plannedBlock (own t) (planBy es ps qs) (p .stands .findable .window .head t) (b ∷ []) bs 0)
         ∙ block-same (geometryOf c) c (b ∷ []) bs es ps qs u (fit-two c fit) own-plan 0 (omega arith)
 
-    pub put-made : (a n k q : ℕ) (d : List ℕ) (w : Answer) (more : Map) (t : Stored) → n ≡ blockSize g / 8 + 3 → k ≡ min n a + 1
-        → Did card (eachBelow (plannedBlock g (planBy es ps qs) (s .window .head) (b ∷ []) bs) 1) ch k c d q → w ≡ cond (ltb a n) Cut (Done n)
-        → more ≡ withBit m (getD qs 0 0) → (t .answer ≡ w) × (t .map ≡ handedOn w m more) → Logged c m r b bs ch a t d
-    unfolding putWork storesOf putRuns
-    put-made a n k q d w more t e f made j o x =
-        let work = putWork 2 c m r b bs ch in
-        let z = sym (p .passes) in
-        let count = e ∙ ap (λ (y : Geometry). blockSize y / 8 + 3) own ∙ sym (block-count (geometryOf c) c (b ∷ []) bs 0) in
-        let answered = made-answer work a 0 z refl n w count j in
-        let l : Limits (geometryOf c) = limits (geometryOf c) (whole .good) in
-        let marked =
-        o ∙ (λ i. withBit (p .stands .map-is i) (block-is i))
-        ∙ ap (λ (y : Geometry). withBit (mapBy (isMarked y c)) (newBlock (geometryOf c) c 0)) own
-        ∙ with-by (isMarked (geometryOf c) c) (newBlock (geometryOf c) c 0) (omega (arith, block-is, block-below))
-        ∙ sym (put-map c m r b bs ch (p .passes)) in
-        record {
-          answers = x .0 ∙ answered;
-          hands = x .1 ∙ made-map work a 0 z refl w c m more answered marked;
-          leaves = made-after work a 0 z refl f (omega (arith, count)) (did-same runs-is made);
-        }
+  pub put-makable : (es ps qs : List ℕ) (n : ℕ) → Homes g c (b ∷ []) es ps → length qs ≡ 128 → n ≡ blockSize g / 8 + 3
+      → Makable g c (s .window .tail) (s .window .head) m (b ∷ []) bs ch es ps qs n
+  put-makable es ps qs n h k e =
+      let l : Limits g = limits g put-good in
+      record {
+        plannable = put-plans;
+        homes = h;
+        long = k;
+        ready = λ xs ys u y. put-ready xs ps ys u y;
+        wide = of-own (λ (y : Geometry). blockSize y / 8 ≤ length ch) chosen;
+        short = omega (arith, e);
+      }
+
+  pub put-made : (es ps qs : List ℕ) (a n : ℕ) (d : List ℕ) (v : Stored) (more : Map) (t : Stored) → n ≡ blockSize g / 8 + 3
+      → Made false g c (s .window .head) m (b ∷ []) bs ch es ps qs n a v d → more ≡ withBit m (getD qs 0 0)
+      → (t .answer ≡ v .answer) × (t .map ≡ handedOn (v .answer) m more) → Logged c m r b bs ch a t d
+  unfolding putWork storesOf putRuns partRuns
+  put-made es ps qs a n d v more t e y o x =
+      let work = putWork 2 c m r b bs ch in
+      let z = sym (p .passes) in
+      let u = y .after in
+      let count = e ∙ ap (λ (y : Geometry). blockSize y / 8 + 3) own ∙ sym (block-count (geometryOf c) c (b ∷ []) bs 0) in
+      let answered = made-answer work a 0 z refl n (v .answer) count (y .answers) in
+      let l : Limits (geometryOf c) = limits (geometryOf c) (whole .good) in
+      let placed = block-is es ps qs u (y .planned) in
+      let marked =
+      o ∙ (λ i. withBit (p .stands .map-is i) (placed i))
+      ∙ ap (λ (y : Geometry). withBit (mapBy (isMarked y c)) (newBlock (geometryOf c) c 0)) own
+      ∙ with-by (isMarked (geometryOf c) c) (newBlock (geometryOf c) c 0) (omega (arith, placed, block-below es ps qs u (y .planned)))
+      ∙ sym (put-map c m r b bs ch (p .passes)) in
+      record {
+        answers = x .0 ∙ answered;
+        hands = x .1 ∙ made-map work a 0 z refl (v .answer) c m more answered marked;
+        leaves = made-after work a 0 z refl refl (omega (arith, count)) (did-same (runs-is es ps qs u (y .planned)) (y .stored));
+      }
 
 -- ---- the whole call
 

@@ -196,8 +196,9 @@ fn make_put(
         allowance,
         false,
     );
+    let answer = made.answer;
     let after = freemap::with(map, wide(blocks[0]));
-    stores::hand_on(made.answer, map, after)
+    stores::hand_on(answer, map, after)
 }
 
 // The place of the entry of each of the window's numbers.

@@ -1,5 +1,5 @@
 -- `make_put` plans and makes one block, as a commit makes it.
-use Rattle.pending.proofs.Putting.{put-good, put-finds, put-plans, put-small, put-ready, put-made}
+use Rattle.pending.proofs.Putting.{put-good, put-finds, put-small, put-makable, put-made}
 use Prim.Native.Nat.{ℕ, _+_, _/_}
 use mathlib.Core.Path.{ap, _∙_}
 use Rattle.freemap.specs.Bits.{withBit}
@@ -16,30 +16,18 @@ find-homes-requires c κs =
     let f = put-finds _ _ _ _ _ _ _ _ p in
     (f .0, f .1, f .2, search needs, search needs)
 
-slice-aggregate-plan-of : tie.Need-slice-aggregate-plan-of
-slice-aggregate-plan-of c = search needs
-
-plan-of-requires : tie.Need-plan-of-requires
-plan-of-requires c κs =
-    let p = c .before .before .before .before .before .before .before .before .before .before .before .before .before .before .before .pre .1 in
-    (put-plans _ _ _ _ _ _ _ _ p, c .before .before .before .before .before .find-homes .ensures, search needs)
-
 block-size-requires : tie.Need-block-size-requires
-block-size-requires c κs = put-good _ _ _ _ _ _ _ _ (c .before .before .before .before .before .before .before .before .before .before .before .before .before .before .before .before .pre .1)
+block-size-requires c κs = put-good _ _ _ _ _ _ _ _ (c .before .before .before .before .before .before .before .before .before .before .pre .1)
 
 add-count : tie.Need-add-count
 add-count c = search needs
 
-slice-aggregate-make-blocks : tie.Need-slice-aggregate-make-blocks
-slice-aggregate-make-blocks c = search needs
+slice-aggregate-make-save : tie.Need-slice-aggregate-make-save
+slice-aggregate-make-save c = search needs
 
-credit-requires : tie.Need-credit-requires
-credit-requires c κs = search needs
-
-make-blocks-requires : tie.Need-make-blocks-requires
-make-blocks-requires c κs =
-    let p = c .before .before .before .before .before .before .before .before .before .before .before .before .before .before .before .before .before .before .before .before .before .before .before .pre .1 in
-    put-ready _ _ _ _ _ _ _ _ p _ _ _ _ (c .before .before .before .before .before .before .before .plan-of .ensures)
+make-save-requires : tie.Need-make-save-requires
+make-save-requires c κs =
+    put-makable _ _ _ _ _ _ _ _ (c .before .before .before .before .before .before .before .before .before .before .before .before .before .before .before .before .pre .1) _ _ _ _ (c .before .before .before .before .before .before .find-homes .ensures) (search needs) (ap (λ (z : ℕ). z / 8 + 3) (c .before .before .before .before .before .block-size .ensures))
 
 array-read-wide : tie.Need-array-read-wide
 array-read-wide c = search needs
@@ -48,10 +36,7 @@ wide-requires : tie.Need-wide-requires
 wide-requires c κs = search needs
 
 with-requires : tie.Need-with-requires
-with-requires c κs = put-small _ _ _ _ _ _ _ _ (c .before .before .before .before .before .before .before .before .before .before .before .before .before .before .before .before .before .before .before .before .before .before .before .before .before .before .before .pre .1) _ _ _ _ (c .before .before .before .before .before .before .before .before .before .before .before .plan-of .ensures) _ (c .wide .ensures)
-
-answer-requires : tie.Need-answer-requires
-answer-requires c κs = search needs
+with-requires c κs = put-small _ _ _ _ _ _ _ _ (c .before .before .before .before .before .before .before .before .before .before .before .before .before .before .before .before .before .before .before .before .pre .1) _ _ _ _ (c .before .before .before .make-save .ensures .planned) _ (c .wide .ensures)
 
 hand-on-requires : tie.Need-hand-on-requires
 hand-on-requires c κs = search needs
@@ -61,9 +46,8 @@ same-length c = search needs
 
 returns : tie.Need-returns
 returns c q p =
-    let m = c .before .before .before .before .before .before in
-    put-made _ _ q _ _ _ _ _ p _ _ _ _ (c .before .before .before .before .before .before .before .before .before .before .before .before .before .before .plan-of .ensures) _ _ _ _ _ _ _ _ (ap (λ (z : ℕ). z / 8 + 3) (c .before .before .before .before .before .before .before .before .before .before .before .before .before .block-size .ensures))
-    (m .before .credit .ensures) (m .make-blocks .ensures) (c .before .answer .ensures) (c .before .before .with .ensures ∙ ap (withBit _) (c .before .before .before .wide .ensures)) (c .hand-on .ensures)
+    put-made _ _ q _ _ _ _ _ p _ _ _ _ _ _ _ _ _ (ap (λ (z : ℕ). z / 8 + 3) (c .before .before .before .before .before .before .before .before .before .before .before .block-size .ensures)) (c .before .before .before .before .before .make-save .ensures)
+    (c .before .with .ensures ∙ ap (withBit _) (c .before .before .wide .ensures)) (c .hand-on .ensures)
 
 pub make-put-spec : {M : Type 1} → statement M
 make-put-spec =
@@ -71,17 +55,13 @@ make-put-spec =
     (tie.spec
     slice-aggregate-find-homes
     find-homes-requires
-    slice-aggregate-plan-of
-    plan-of-requires
     block-size-requires
     add-count
-    slice-aggregate-make-blocks
-    credit-requires
-    make-blocks-requires
+    slice-aggregate-make-save
+    make-save-requires
     array-read-wide
     wide-requires
     with-requires
-    answer-requires
     hand-on-requires
     same-length
     returns)
