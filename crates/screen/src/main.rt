@@ -19,23 +19,17 @@ const OLD: u8 = 0x10;
 
 const NEW: u8 = 0x20;
 
-// The call after the three puts.
+// The call that comes after the three puts.
 const FINISH: u8 = 4;
 
-// What is read of the recipe.
-enum Label {
-    Old,
-    New,
-    Torn,
-}
-
-// What one cut came to: whether the call answered so, and what is read after the start.
+// What one cut came to: whether the call answered so, and whether the old or the new recipe is read after the start.
 struct Seen {
     cut: bool,
-    label: Label,
+    old: bool,
+    new: bool,
 }
 
-// How often each was seen.
+// How often each was seen. A torn label is neither recipe.
 struct Tally {
     cuts: u64,
     old: u64,
@@ -171,16 +165,6 @@ fn holds_all(card: &[u8], disk: &[u8], recipe: u8) -> bool {
     first & second & third
 }
 
-fn read_label(card: &[u8], disk: &[u8]) -> Label {
-    if holds_all(card, disk, OLD) {
-        return Label::Old;
-    }
-    if holds_all(card, disk, NEW) {
-        return Label::New;
-    }
-    Label::Torn
-}
-
 fn is_cut(a: Answer) -> bool {
     match a {
         Answer::Done(_) => false,
@@ -197,10 +181,10 @@ fn cut_at(j: u8, choice: u8, allowance: u64) -> Seen {
     let r = call(&mut card, p, j, choice, allowance);
     let a = r.answer;
     start(&mut card);
-    let l = read_label(&card, &disk);
     Seen {
         cut: is_cut(a),
-        label: l,
+        old: holds_all(&card, &disk, OLD),
+        new: holds_all(&card, &disk, NEW),
     }
 }
 
@@ -217,22 +201,6 @@ fn stores_of(j: u8) -> u64 {
     }
 }
 
-fn is_old(l: Label) -> bool {
-    match l {
-        Label::Old => true,
-        Label::New => false,
-        Label::Torn => false,
-    }
-}
-
-fn is_new(l: Label) -> bool {
-    match l {
-        Label::Old => false,
-        Label::New => true,
-        Label::Torn => false,
-    }
-}
-
 fn more(n: u64, hit: bool) -> u64
     requires { ⌜ n < 18446744073709551615 ⌝ }
     ensures { λ r. ⌜ r ≤ n + 1 ⌝ }
@@ -244,14 +212,11 @@ fn add(t: Tally, s: Seen) -> Tally
     requires { ⌜ (t .cuts < 18446744073709551615) × (t .old < 18446744073709551615) × (t .new < 18446744073709551615) × (t .torn < 18446744073709551615) ⌝ }
     ensures { λ r. ⌜ (r .cuts ≤ t .cuts + 1) × (r .old ≤ t .old + 1) × (r .new ≤ t .new + 1) × (r .torn ≤ t .torn + 1) ⌝ }
 {
-    let l = s.label;
-    let old = is_old(l);
-    let new = is_new(l);
     Tally {
         cuts: more(t.cuts, s.cut),
-        old: more(t.old, old),
-        new: more(t.new, new),
-        torn: more(t.torn, !(old | new)),
+        old: more(t.old, s.old),
+        new: more(t.new, s.new),
+        torn: more(t.torn, !(s.old | s.new)),
     }
 }
 
@@ -271,10 +236,15 @@ fn sweep(j: u8, choice: u8, stores: u64) -> Tally {
     t
 }
 
+// A word, and the number that it is about.
+fn show(word: &[u8], n: u64) {
+    print::text(word);
+    print::number(n);
+}
+
 fn name(j: u8) {
     if j < FINISH {
-        print::text(b"put");
-        print::number(j as u64);
+        show(b"put", j as u64);
     } else {
         print::text(b"finish");
     }
@@ -284,16 +254,11 @@ fn show_sweep(j: u8, choice: u8) {
     let n = stores_of(j);
     let t = sweep(j, choice, n);
     name(j);
-    print::text(b": stores");
-    print::number(n);
-    print::text(b", cuts");
-    print::number(t.cuts);
-    print::text(b", old");
-    print::number(t.old);
-    print::text(b", new");
-    print::number(t.new);
-    print::text(b", torn");
-    print::number(t.torn);
+    show(b": stores", n);
+    show(b", cuts", t.cuts);
+    show(b", old", t.old);
+    show(b", new", t.new);
+    show(b", torn", t.torn);
     print::text(b"\n");
 }
 
@@ -306,10 +271,8 @@ fn show_answer(p: Put) -> Put {
 fn show_record(p: Put) -> Put {
     let save = p.save;
     let r = save.held;
-    print::text(b"record: Tail");
-    print::number(r.tail);
-    print::text(b", count");
-    print::number(r.count);
+    show(b"record: Tail", r.tail);
+    show(b", count", r.count);
     print::text(b"\n");
     p
 }
@@ -331,8 +294,7 @@ fn show_step(card: &mut [u8], p: Put, j: u8) -> Put {
 // The call under an allowance. A cut call hands back the map and the record that it got.
 fn show_cut(card: &mut [u8], p: Put, j: u8, allowance: u64) -> Put {
     name(j);
-    print::text(b" allowance");
-    print::number(allowance);
+    show(b" allowance", allowance);
     show_answer(call(card, p, j, 0, allowance))
 }
 
@@ -344,12 +306,15 @@ fn show_commit(card: &mut [u8], map: Map) {
 }
 
 fn show_label(card: &[u8], disk: &[u8]) {
-    print::text(b"label");
-    match read_label(card, disk) {
-        Label::Old => print::text(b" old\n"),
-        Label::New => print::text(b" new\n"),
-        Label::Torn => print::text(b" torn\n"),
+    if holds_all(card, disk, OLD) {
+        print::text(b"label old\n");
+        return;
     }
+    if holds_all(card, disk, NEW) {
+        print::text(b"label new\n");
+        return;
+    }
+    print::text(b"label torn\n");
 }
 
 fn show_start(card: &mut [u8], disk: &[u8]) {
@@ -494,13 +459,17 @@ fn sweeps() {
     show_sweep(3, 1);
 }
 
+fn uncut(card: &mut [u8], disk: &[u8]) {
+    before(card, disk);
+    let put = puts(card);
+    let done = finished(card, disk, put);
+    finishes(card, done);
+}
+
 fn main() {
     let mut card = [0u8; 4416];
     let disk = [1u8; 8192];
-    before(&mut card, &disk);
-    let put = puts(&mut card);
-    let done = finished(&mut card, &disk, put);
-    finishes(&mut card, done);
+    uncut(&mut card, &disk);
     refusals(&mut card, &disk);
     cut_puts(&mut card, &disk);
     cut_finishes(&mut card, &disk);
