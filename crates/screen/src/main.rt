@@ -14,7 +14,7 @@ ghost use Prim.Native.Nat.{_+_, _≤_, _<_};
 
 const AMPLE: u64 = 0xFFFF_FFFF_FFFF_FFFF;
 
-// The recipes' fill bytes: that of block j is this one with j in its low bits, so that no two blocks are alike.
+// What the recipes' blocks are filled with: in block j it is this byte with j in its low bits, so that no two blocks are alike.
 const OLD: u8 = 0x10;
 
 const NEW: u8 = 0x20;
@@ -62,8 +62,10 @@ fn commit_old(card: &mut [u8], map: Map) -> Stored {
     commit::commit(card, map, &numbers, &bytes, &[0u8; 64], AMPLE)
 }
 
-// Every run begins so: a formatted card with the old recipe, saved by one commit.
+// Every run begins with the same card: no byte of an earlier run is left on it, and it has the old recipe, saved by one commit.
 fn prepare(card: &mut [u8]) {
+    let n = card.len();
+    numbers::fill(card, 0, n, 0);
     format::format(9, 8, 8, 16, card);
     let map = made(card);
     commit_old(card, map);
@@ -201,6 +203,7 @@ fn stores_of(j: u8) -> u64 {
     }
 }
 
+// One more where it was seen.
 fn more(n: u64, hit: bool) -> u64
     requires { ⌜ n < 18446744073709551615 ⌝ }
     ensures { λ r. ⌜ r ≤ n + 1 ⌝ }
@@ -220,7 +223,7 @@ fn add(t: Tally, s: Seen) -> Tally
     }
 }
 
-// Cuts call j at each of its stores.
+// Cuts call j at each of its stores: with an allowance of none, of one, and so on to all but the last.
 fn sweep(j: u8, choice: u8, stores: u64) -> Tally {
     let mut t = Tally {
         cuts: 0,
@@ -327,7 +330,7 @@ fn show_start(card: &mut [u8], disk: &[u8]) {
 
 fn show_read(card: &[u8], disk: &[u8]) {
     let mut out = [0u8; 512];
-    print::text(b"read 1");
+    show(b"read", 1);
     print::held(lookup::read(card, disk, 1, &mut out));
     print::text(b"\n");
 }
@@ -466,12 +469,16 @@ fn uncut(card: &mut [u8], disk: &[u8]) {
     finishes(card, done);
 }
 
+fn single(card: &mut [u8], disk: &[u8]) {
+    uncut(card, disk);
+    refusals(card, disk);
+    cut_puts(card, disk);
+    cut_finishes(card, disk);
+}
+
 fn main() {
     let mut card = [0u8; 4416];
     let disk = [1u8; 8192];
-    uncut(&mut card, &disk);
-    refusals(&mut card, &disk);
-    cut_puts(&mut card, &disk);
-    cut_finishes(&mut card, &disk);
+    single(&mut card, &disk);
     sweeps();
 }
