@@ -370,26 +370,18 @@ fn finishes(card: &mut [u8], p: Put) {
     show_call(card, p2, FINISH);
 }
 
-// While a save is pending the calls that need a settled card are refused.
-fn unsettled(card: &mut [u8], disk: &[u8], map: Map) {
-    show_open(card, map);
-    show_commit(card, map);
+// While a save is pending the calls that need a settled card are refused, and so is a put of a number that the save has.
+fn unsettled(card: &mut [u8], disk: &[u8], p: Put) {
+    show_commit(card, p.map);
     show_read(card, disk);
-}
-
-// A put of a number that the save has, and one with the record that the last put took.
-fn wrong_puts(card: &mut [u8], before: Put, p: Put) {
     show_call(card, p, 1);
-    show_call(card, before, 3);
 }
 
 // At the end a put with the record of a save that the recovery abandoned.
 fn refusals(card: &mut [u8], disk: &[u8]) {
     print::text(b"-- refusals while the save is pending\n");
-    let before = up_to(card, 2);
-    let p = show_step(card, before, 2);
-    unsettled(card, disk, p.map);
-    wrong_puts(card, before, p);
+    let p = show_record(up_to(card, 3));
+    unsettled(card, disk, p);
     show_start(card, disk);
     show_call(card, p, 3);
 }
