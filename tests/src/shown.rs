@@ -528,7 +528,7 @@ condition  unsettled, undoable entries 2, slots in the window 1
             (" R  ", " -  "),
             ("V P M R", "V - M R"),
             ("V - M R", "V P M R"),
-            ("  0   3\n", " none\n"),
+            ("    3\n", " none\n"),
             ("undoable ", "settled  "),
             ("window\n", "entries: V in use, P previous modified, M modified, R log role\n"),
         ];
