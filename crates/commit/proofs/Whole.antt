@@ -37,7 +37,7 @@ use Rattle.plan.proofs.Bounds.{Passed, passed, passed-tail, late-passed, few-nu
 use Rattle.plan.proofs.Order.{map-eq}
 use Rattle.stores.specs.Did.{Did}
 use Rattle.stores.proofs.Laws.{did-same, refused-answer, refused-after, refused-map, made-answer, made-after, made-map}
-use Rattle.commit.specs.Making.{stepRuns, plannedEntry, planBy, plannedBlock, plannedSwitch, plannedEnd, plannedRuns, partRuns, Named, Ready, Made}
+use Rattle.commit.specs.Making.{stepRuns, plannedEntry, planBy, plannedBlock, plannedSwitch, plannedEnd, plannedRuns, partRuns, Named, Ready, Makable, Made}
 use Rattle.commit.specs.Committed.{Committed, Savable, Saved}
 use Rattle.commit.proofs.Places.{each-same}
 
@@ -206,3 +206,7 @@ module _ (g : Geometry) (c : List ℕ) (h : ℕ) (m : Map) (ns bs ch zs ps : Lis
       let few : length ns ≤ 256 = omega (arith, save-few) in
       let k : length ns * (blockSize g / 8 + 4) ≤ 256 * 516 = mul-le-mul few b in
       omega arith
+
+  pub save-makable : (qs : List ℕ) → length qs ≡ 128 → (n : ℕ) → n ≡ length ns * (blockSize g / 8 + 4) + 1 → Makable g c h h m ns bs ch zs ps qs n
+  save-makable qs k n e =
+      record { plannable = save-plans; homes = v .homes; long = k; ready = save-ready; wide = save-wide; short = save-short n e }

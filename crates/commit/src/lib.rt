@@ -349,7 +349,7 @@ pub fn make_save(
     stores::hand_on(stores::answer(count, allowance), map, after)
 }
 
-// A commit that is not refused, on a card whose Tail is its Head.
+// A commit that is not refused, on a card whose Tail is its Head: the room-making commit's, once there is room.
 pub fn save(
     g: Geometry,
     card: &mut [u8],
@@ -414,16 +414,22 @@ pub fn commit(
     let mut entries = [0u8; 128];
     let mut previous = [0u16; 128];
     plan::find_homes(g, card, &index, numbers, &mut entries, &mut previous);
-    save(
+    let mut blocks = [0u8; 128];
+    let count = plan::count_of(g, numbers.len());
+    make_save(
         g,
         card,
+        s.head,
         s.head,
         map,
         numbers,
         data,
         &mut entries,
         &previous,
+        &mut blocks,
         choice,
+        count,
         allowance,
+        true,
     )
 }

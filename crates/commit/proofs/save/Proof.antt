@@ -1,6 +1,6 @@
 -- `save` makes a commit's plan, closed.
 use borrow.Author.Needs.{needs}
-use Rattle.commit.proofs.Whole.{save-fitted, save-plans, save-few, save-wide, save-ready, save-short, save-made}
+use Rattle.commit.proofs.Whole.{save-fitted, save-few, save-makable, save-made}
 use Rattle.commit.proofs.save.Statement.{statement}
 use Rattle.commit.proofs.save.Tie as tie
 
@@ -11,15 +11,7 @@ count-of-requires c κs =
 
 make-save-requires : tie.Need-make-save-requires
 make-save-requires c κs =
-    let v = c .before .before .before .before .before .before .before .before .pre in
-    record {
-      plannable = save-plans _ _ _ _ _ _ _ _ _ v;
-      homes = v .homes;
-      long = search needs;
-      ready = save-ready _ _ _ _ _ _ _ _ _ v;
-      wide = save-wide _ _ _ _ _ _ _ _ _ v;
-      short = save-short _ _ _ _ _ _ _ _ _ v _ (c .before .before .before .count-of .ensures);
-    }
+    save-makable _ _ _ _ _ _ _ _ _ (c .before .before .before .before .before .before .before .before .pre) _ (search needs) _ (c .before .before .before .count-of .ensures)
 
 same-length : tie.Need-same-length
 same-length c = search needs
