@@ -14,7 +14,7 @@ const CHOICE: &[u8] = &[0; BLOCK_BYTES / 8];
 fn text(number: u32) -> &'static str {
     match number {
         7 => "the card is not settled and must be recovered first",
-        11 => "a commit has the same number twice",
+        11 => "a commit has the same number twice (put: the save has the number already)",
         14 => "there are too few free data blocks (a room-making commit: too few blocks outside it to evict)",
         _ => unreachable!(),
     }

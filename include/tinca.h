@@ -1,13 +1,13 @@
 /*
  * tinca: a write-back cache card in front of a disk, proved against power cuts at every store.
  *
- * Promised. Both commits, load, evict, recover and upgrade each have a list of stores (docs/CARD.md): of an 8-byte word, a
- * 16-byte entry or a 512-byte disk sector each. The words of a data block are one run, and so are the sectors of a disk block;
- * every other store is a run by itself. Wherever that list stops between two runs, or inside one with any of its stores made
- * and the others not, a recovery that answers "done" leaves the card settled, and a settled card reads, byte for byte, as the
- * last commit that answered "done" left it. This holds over every list of calls from a formatted card, recoveries cut again and
- * again among them. It is proved of the code: the bytes that a call leaves are those after its list so stopped. Each call
- * takes every input, always returns, and refuses by number before any store, so that a refusal changes nothing.
+ * Promised. Both commits, put, finish, load, evict, recover and upgrade each have a list of stores (docs/CARD.md): of an 8-byte
+ * word, a 16-byte entry or a 512-byte disk sector each. The words of a data block are one run, and so are the sectors of a disk
+ * block; every other store is a run by itself. Wherever that list stops between two runs, or inside one with any of its stores
+ * made and the others not, a recovery that answers "done" leaves the card settled, and a settled card reads, byte for byte, as
+ * the last commit or finish that answered "done" left it. This holds over every list of calls from a formatted card, recoveries
+ * cut again and again among them. It is proved of the code: the bytes that a call leaves are those after its list so stopped. Each
+ * call takes every input, always returns, and refuses by number before any store, so that a refusal changes nothing.
  *
  * Not promised. That runs become durable as they are stored: compiled for x86-64 no instruction leaves a unit of the card in
  * part, and they come in this order, but a processor's cache hands them to the card in an order of its own. A unit that
@@ -18,7 +18,7 @@
  * The names. k, S, N, D are given to tinca_format and stand in the card's header from then on; tinca_state_of tells them.
  *
  *     k            B = 2^k bytes in a block            9 to 12 (512 to 4,096 bytes)
- *     slots        S, the ring's slots                 8 to 256, a multiple of 8; a commit takes at most S - 1 blocks
+ *     slots        S, the ring's slots                 8 to 256, a multiple of 8; a save takes at most S - 1 blocks
  *     data_blocks  N, the blocks that the card caches  4 to 128, a multiple of 4
  *     disk_blocks  D, the disk's blocks                1 to 65,536
  *     block        the number of a disk block, below D
@@ -28,7 +28,7 @@
  * all. A smaller one says where the power fails, in tests and drills, and gives the runs one by one to a station that hands
  * them to its card itself (docs/ORDER.md).
  *
- * The choice of a commit, a load or an evict says what a power failure inside a run leaves: one byte for each of the run's
+ * The choice of a commit, a put, a load or an evict says what a power failure inside a run leaves: one byte for each of the run's
  * stores, in order, 1 where the store is made and 0 where it is not. It has B/8 bytes or more, all of them 0 or 1, or the
  * call is refused with 17. A run that the allowance covers is made whole, whatever is chosen; of the first one that it does
  * not cover the chosen stores are made, however many, if it is the words of a data block or the sectors of a disk block, and
@@ -36,16 +36,16 @@
  * Ones up to where the allowance ends in its run, then zeros, make just the first stores, as many as the allowance.
  *
  * The map. Two 64-bit words in the station's own memory that tell the free data blocks: bit d mod 64, from the lowest, of word
- * d / 64 is set unless d is below N and data block d is free (no entry in use has it as its current block). The bits from N on
- * are set. The storing calls search it for free blocks and hand it on:
+ * d / 64 is set unless d is below N and data block d is free: no entry in use has it as its current block, and none that a
+ * recovery would undo as its previous one. The bits from N on are set. The storing calls search it for free blocks and hand it on:
  *
  *     at start     tinca_make_map gives it, tinca_recover takes it, and the station goes on with what the recovery left in it
  *     done         the call has written the map of the card that it leaves
  *     refused      the map is as it was, and still the card's; but after 15 it must be made again
  *     cut          the map is as it was; the card may have changed, so it must be made again
  *
- * Each storing call compares the map with the card and refuses a wrong one, with 15, before any store. So does the preview,
- * which leaves the map as it is.
+ * Each storing call but the upgrade compares the map with the card and refuses a wrong one, with 15, before any store. So does
+ * the preview, which leaves the map as it is.
  *
  * The table. 128 bytes in the station's own memory: the numbers 0 to 127, each once, for the entries of these places, the most
  * recently used first. At start it ascends: byte i is i. A room-making commit takes its victims from the table's end; a done one
@@ -53,19 +53,36 @@
  * takes it, and one that is cut or refused leaves it as it was. Each call that takes it refuses any other row of bytes with 16,
  * before any store. Nothing of the table stands on the card: a station that starts anew begins with one that ascends.
  *
+ * The record. Two 64-bit words in the station's own memory that stand for a pending save, one that is put block by block: the
+ * position of Tail, and how many blocks are put. A save is opened on a settled card, put and finished. Up to the finish's last
+ * store, Tail's, a recovery brings back what was read before; with that store all its blocks are read, at once.
+ *
+ *     open         tinca_open gives it: Tail and 0
+ *     put, done    the call has written the next record: the same Tail, one block more
+ *     put, else    the record is as it was; refused, it still stands for the same save, but not after 18
+ *     finish       the call only reads it; done, the save is over, and the next begins with an open
+ *     recover      a recovery that answers done abandons the save: what was put is undone
+ *
+ * Put and finish compare the record with the card and refuse with 18, before any store, where the window does not have the
+ * record's Tail and count or its numbers are not, one to one, those of the entries with R. So it is after a put that was cut behind
+ * the store of its entry and after a finish that was cut behind a role switch: the save must be recovered, and made anew. Cut
+ * before, both can be made again with the same record. From the first put to the finish the card is not settled: both commits,
+ * preview, load, evict, open, read, look and cached refuse it with 7. Nothing of the record stands on the card. A station that
+ * starts anew has none, and its recovery abandons what was pending.
+ *
  * Versions. tinca_format makes cards of version 2. A card of version 1, which an earlier library made, is taken by tinca_make_map,
  * tinca_recover and tinca_upgrade; every other call refuses it with 1. At start: make the map, recover, upgrade, and go on with the
  * map that the recovery left. The promise above holds from the day the version 1 card was formatted, across the upgrade too.
  *
- * Slices. A pointer and a length in bytes, but for `map` and `numbers`, whose lengths count words of 64 bits, and `blocks`, whose
- * length counts numbers of 32 bits. A pointer may be null where its length is 0; a null with another length is used as an
- * address wherever its bytes are looked at, and nothing is promised. `map` and `numbers` are aligned as a uint64_t is, `blocks`
- * as a uint32_t. All others may lie at any address; a card that units must reach whole lies at a multiple of 16
- * (docs/ORDER.md). The outputs, `out` and `blocks`, are written where the call is not refused, and only then. Slices that a
- * call only reads may overlap. One that it writes (card, disk, map, table, out, blocks, where they are not const) may overlap no
- * other: the proofs then say nothing of the bytes that it leaves.
+ * Slices. A pointer and a length in bytes, but for `map`, `record` and `numbers`, whose lengths count words of 64 bits, and
+ * `blocks`, whose length counts numbers of 32 bits. A pointer may be null where its length is 0; a null with another length is
+ * used as an address wherever its bytes are looked at, and nothing is promised. `map`, `record` and `numbers` are aligned as a
+ * uint64_t is, `blocks` as a uint32_t. All others may lie at any address; a card that units must reach whole lies at a multiple
+ * of 16 (docs/ORDER.md). The outputs, `out` and `blocks`, are written where the call is not refused, and only then. Slices that a
+ * call only reads may overlap. One that it writes (card, disk, map, table, record, out, blocks, where they are not const) may
+ * overlap no other: the proofs then say nothing of the bytes that it leaves.
  *
- * Threads. Nothing here locks or keeps anything between calls: one thread a card at a time, with its disk, map and table.
+ * Threads. Nothing here locks or keeps anything between calls: one thread a card at a time, with its disk, map, table and record.
  * Different cards are independent.
  *
  * docs/CARD.md has the bytes of the card, each call's stores in order, and the rule on cuts. An install has these pages in
@@ -78,7 +95,7 @@
 #include <stdint.h>
 
 /* Of this header and the library beside it. The middle number grows where a call changes. */
-#define TINCA_VERSION "0.6.0"
+#define TINCA_VERSION "0.7.0"
 
 /* Lengths in bytes, as constants where their arguments are: of a block, of a card, of a disk. */
 #define TINCA_BLOCK_LENGTH(k) ((size_t)1 << (k))
@@ -101,11 +118,12 @@ enum {
     TINCA_IN_USE = 0, /* tinca_entry */
     TINCA_UNUSED = 1,
     TINCA_MADE = 0, /* tinca_map */
+    TINCA_OPENED = 0, /* tinca_record */
     TINCA_REFUSED = 2
 };
 
-/* The field `refusal` of a refused answer. The lowest number whose condition holds is given, with 15 and then 16 in the place
- * between 7 and 8, and 17 in that between 9 and 10. */
+/* The field `refusal` of a refused answer. The lowest number whose condition holds is given, with 18 in the place of 7, 15 and then
+ * 16 in that between 7 and 8, and 17 in that between 9 and 10. */
 enum {
     TINCA_BAD_HEADER = 1,
     TINCA_BAD_CARD_LENGTH = 2,
@@ -123,7 +141,8 @@ enum {
     TINCA_NO_ROOM = 14,
     TINCA_WRONG_MAP = 15,
     TINCA_BAD_TABLE = 16,
-    TINCA_BAD_CHOICE = 17
+    TINCA_BAD_CHOICE = 17,
+    TINCA_WRONG_RECORD = 18
 };
 
 /* What a refusal's number means, in words. */
@@ -147,13 +166,13 @@ static inline const char *tinca_refusal_text(uint32_t number)
     case TINCA_NOT_SETTLED:
         return "the card is not settled and must be recovered first";
     case TINCA_BAD_COUNT:
-        return "a commit of no block or of more than S - 1";
+        return "a commit of no block or of more than S - 1 (put: the save has S - 1 blocks; finish: it has none)";
     case TINCA_BAD_LENGTH:
         return "the data is not B bytes for each number, or the output is not B bytes (preview: not one number for each)";
     case TINCA_BAD_NUMBER:
         return "a block number is not below D";
     case TINCA_NUMBER_TWICE:
-        return "a commit has the same number twice";
+        return "a commit has the same number twice (put: the save has the number already)";
     case TINCA_ALREADY_CACHED:
         return "the block to load is cached";
     case TINCA_NOT_CACHED:
@@ -166,6 +185,8 @@ static inline const char *tinca_refusal_text(uint32_t number)
         return "the table is not the numbers 0 to 127, each once, in 128 bytes";
     case TINCA_BAD_CHOICE:
         return "the choice has fewer than B/8 bytes, or a byte above 1";
+    case TINCA_WRONG_RECORD:
+        return "the window does not have the record's Tail and count, or not the numbers of the entries with R; or the record is not of two words";
     default:
         return "no such refusal";
     }
@@ -220,6 +241,13 @@ typedef struct {
     uint64_t low, high;
 } tinca_map;
 
+/* TINCA_OPENED: the record of a save with no block yet: tail is its first word, count its second. */
+typedef struct {
+    uint32_t kind;
+    uint32_t refusal;
+    uint64_t tail, count;
+} tinca_record;
+
 /* Makes a fresh card of version 2: nothing cached, settled. It leaves the bytes of the data blocks, and what the old card had cached and
  * not yet written to the disk is lost. The card's length is TINCA_CARD_LENGTH. Done, or refused with 1 (a limit of k, S, N or
  * D) or 2 (a card of another length, a short one too). */
@@ -264,11 +292,31 @@ tinca_answer tinca_load(uint8_t *card, size_t card_len, const uint8_t *disk, siz
 tinca_answer tinca_evict(uint8_t *card, size_t card_len, uint8_t *disk, size_t disk_len, uint64_t *map, size_t map_words, uint64_t block,
                          const uint8_t *choice, size_t choice_len, uint64_t allowance);
 
-/* Undoes what a cut commit left, of a card of version 1 or 2; on a settled card it makes no store. On a version 2 card a block that
- * was clean before the commit is clean again; on a version 1 card every block that is undone comes back modified. To be called at start-up, with the map just made, before
- * all else: a station cannot know whether its power failed in a commit. After a cut one the next, with the map made again, goes
- * on where it stopped. Done, cut, or refused with 1, 2, 4 to 6 or 15. */
+/* Undoes what a cut commit or a pending save left, of a card of version 1 or 2; on a settled card it makes no store. On a version 2
+ * card a block that was clean before the save is clean again; on a version 1 card every block that is undone comes back modified. To
+ * be called at start-up, with the map just made, before all else: a station cannot know whether its power failed in a save. After
+ * a cut one the next, with the map made again, goes on where it stopped. Done abandons a pending save. Done, cut, or refused with 1,
+ * 2, 4 to 6 or 15. */
 tinca_answer tinca_recover(uint8_t *card, size_t card_len, uint64_t *map, size_t map_words, uint64_t allowance);
+
+/* Opens a save that is put block by block, on a settled card: its record has the position of Tail, and count 0. It makes no store and
+ * takes no map. Opened, or refused with 1, 2 or 4 to 7. */
+tinca_record tinca_open(const uint8_t *card, size_t card_len);
+
+/* Puts one block, B bytes of `data`, into the pending save: the stores of a commit for that block, up to Head's. It goes to the first
+ * free data block from Tail on, which is never one with an older version that a recovery needs. m = B/8 + 3. Done writes the map
+ * of the card that it leaves and the next record; cut and refused write neither. 15 also where `map_words` is not 2, 18 where
+ * `record_words` is not; 14 where no data block is free. Done, cut, or refused with 1, 2, 4 to 6, 18, 15, 8, 9, 17, 10, 11 or 14. */
+tinca_answer tinca_put(uint8_t *card, size_t card_len, uint64_t *map, size_t map_words, uint64_t *record, size_t record_words, uint64_t block,
+                       const uint8_t *data, size_t data_len, const uint8_t *choice, size_t choice_len, uint64_t allowance);
+
+/* Finishes the pending save: the role switch of each of its entries, then Tail's store, with which all its blocks are read. Its stores
+ * are single ones, so it takes no choice. m = count + 1, the record's. Done writes the map of the card that it leaves; cut and refused
+ * do not, and no answer changes the record. 15 also where `map_words` is not 2, 18 where `record_words` is not. Open, puts of n blocks
+ * and finish, all done, leave card and map as one tinca_commit of these blocks does, and their counts add up to its m. Done, cut, or
+ * refused with 1, 2, 4 to 6, 18, 15 or 8. */
+tinca_answer tinca_finish(uint8_t *card, size_t card_len, uint64_t *map, size_t map_words, const uint64_t *record, size_t record_words,
+                          uint64_t allowance);
 
 /* Makes a settled card of version 1 one of version 2: one store, of the header's first word. The map and the table stay as they
  * are. m = 1. Done, cut, or refused with 1 (any version but 1), 2 or 4 to 7. */

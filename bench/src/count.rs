@@ -72,6 +72,13 @@ impl Station {
         black_box(blocks);
     }
 
+    /// Open, n puts and finish.
+    fn in_parts(&mut self, n: usize) {
+        let numbers = self.next(n);
+        let data = &self.data[..n << self.k];
+        save_in_parts(&mut self.pair.card, &mut self.pair.map, &numbers, data, zeros(self.k));
+    }
+
     /// The room-making commit.
     fn save(&mut self, numbers: &[u64]) {
         self.pair.save(numbers, &self.data[..numbers.len() << self.k]);
@@ -220,6 +227,9 @@ fn others() -> Vec<(String, [Row; 2])> {
             station.recover();
         }),
         row("preview, 4 blocks", "tinca_preview", |station| station.preview(4)),
+        row("open, 1 put and finish", "save_in_parts", |station| station.in_parts(1)),
+        row("open, 4 puts and finish", "save_in_parts", |station| station.in_parts(4)),
+        row("open, 16 puts and finish", "save_in_parts", |station| station.in_parts(16)),
     ]
 }
 

@@ -53,7 +53,39 @@ struct RawMap {
     high: u64,
 }
 
+#[repr(C)]
+struct RawRecord {
+    kind: u32,
+    refusal: u32,
+    tail: u64,
+    count: u64,
+}
+
 extern "C" {
+    fn tinca_open(card: *const u8, length: usize) -> RawRecord;
+    fn tinca_put(
+        card: *mut u8,
+        length: usize,
+        map: *mut u64,
+        map_words: usize,
+        record: *mut u64,
+        record_words: usize,
+        block: u64,
+        data: *const u8,
+        data_length: usize,
+        choice: *const u8,
+        choice_length: usize,
+        allowance: u64,
+    ) -> RawAnswer;
+    fn tinca_finish(
+        card: *mut u8,
+        length: usize,
+        map: *mut u64,
+        map_words: usize,
+        record: *const u64,
+        record_words: usize,
+        allowance: u64,
+    ) -> RawAnswer;
     fn tinca_format(k: u64, slots: u64, data_blocks: u64, disk_blocks: u64, card: *mut u8, length: usize) -> RawAnswer;
     fn tinca_commit(
         card: *mut u8,
@@ -167,6 +199,27 @@ fn commit(card: &mut [u8], map: &mut [u64], numbers: &[u64], data: &[u8], choice
 
 fn done(raw: RawAnswer) {
     assert_eq!((raw.kind, raw.refusal), (0, 0));
+}
+
+/// Open, a put of each block and finish: a save in parts. A symbol of its own, so that its instructions can be counted.
+#[no_mangle]
+#[inline(never)]
+fn save_in_parts(card: &mut [u8], map: &mut [u64; 2], numbers: &[u64], data: &[u8], choice: &[u8]) -> u64 {
+    let (card, length, map) = (card.as_mut_ptr(), card.len(), map.as_mut_ptr());
+    let opened = unsafe { tinca_open(card, length) };
+    assert_eq!((opened.kind, opened.refusal), (0, 0));
+    let mut record = [opened.tail, opened.count];
+    let mut stores = 0;
+    for (number, block) in numbers.iter().zip(data.chunks(data.len() / numbers.len())) {
+        let held = record.as_mut_ptr();
+        let (bytes, chosen) = ((block.as_ptr(), block.len()), (choice.as_ptr(), choice.len()));
+        let raw = unsafe { tinca_put(card, length, map, 2, held, 2, *number, bytes.0, bytes.1, chosen.0, chosen.1, ALL) };
+        done(raw);
+        stores += raw.stores;
+    }
+    let raw = unsafe { tinca_finish(card, length, map, 2, record.as_ptr(), 2, ALL) };
+    done(raw);
+    stores + raw.stores
 }
 
 /// The map that the card gives; `None` where it is refused.
@@ -563,6 +616,36 @@ fn rooms(rounds: usize) {
     }
 }
 
+/// A save of n blocks: one commit, and open, n puts and finish on the same card.
+fn in_parts(k: u64, n: usize, rounds: usize) -> [f64; 2] {
+    let numbers = spread(64);
+    let data = vec![6u8; n << k];
+    let (mut whole, mut whole_map) = filled(k, 256, 128, &numbers);
+    let (mut parts, mut parts_map) = (whole.clone(), whole_map);
+    let saved = &numbers[..n];
+    let mut one = |_: usize| {
+        let answer = commit(black_box(&mut whole), &mut whole_map, black_box(saved), black_box(&data), zeros(k), ALL);
+        assert!(matches!(answer, Answer::Done(_)));
+    };
+    let mut other = |_: usize| {
+        let stores = save_in_parts(black_box(&mut parts), &mut parts_map, black_box(saved), black_box(&data), zeros(k));
+        assert_eq!(stores, n as u64 * ((1 << k) / 8 + 4) + 1);
+    };
+    let times = timed(rounds, 64, &mut [&mut one, &mut other]);
+    assert!(whole == parts && whole_map == parts_map, "a save in parts leaves another card than the commit");
+    [times[0], times[1]]
+}
+
+fn parts(rounds: usize) {
+    println!("\nA save of n blocks: one commit, and open, n puts and finish; S 256, N 128, D 65,536, 64 entries in use.\n");
+    println!("| n | B 512, commit | in parts | B 4096, commit | in parts |");
+    println!("|---|---|---|---|---|");
+    for n in [1, 4, 16] {
+        let [small, large] = [9, 12].map(|k| in_parts(k, n, rounds));
+        println!("| {n} | {:.0} | {:.0} | {:.0} | {:.0} |", small[0], small[1], large[0], large[1]);
+    }
+}
+
 fn main() {
     let words: Vec<String> = std::env::args().skip(1).collect();
     if words.first().is_some_and(|word| word == "--count") {
@@ -589,4 +672,5 @@ fn main() {
         println!("| {} | {:.0} | {:.0} |", one.0, one.1, other.1);
     }
     rooms(rounds);
+    parts(rounds);
 }

@@ -1,14 +1,17 @@
-/* Both commits, load, recover and upgrade, stopped after each machine instruction: every stop leaves whole units, in the order of the call's
- * stores.
+/* Both commits, put, finish, load, recover and upgrade, stopped after each machine instruction: every stop leaves whole units, in the order of
+ * the call's stores.
  *
  *     store_steps           the library's calls; the first stop that leaves anything else ends it
  *     store_steps --count   the same to the end, with such stops counted
- *     store_steps --wrong   the same stores from a list: with each entry in two halves, the header without a version first, or a sector behind
- *                           its entry, they must be reported, with each whole and in order not
+ *     store_steps --wrong   the same stores from a list: with each entry in two halves, the header without a version first, a sector behind its
+ *                           entry, or a finish's Tail before its last role switch, they must be reported, with each whole and in order not
  *
  * What a stop may leave: up to the data blocks the card is what some allowance leaves, no smaller one than at the stop before; and each
  * word of the data blocks is one that an allowance with those bytes leaves, so a block's words come in any order but before its entry. Each
  * byte of the disk is one too: a sector may be in part, but not once the entry of its block is zeroed.
+ *
+ * From each stop of a put or a finish a copy of the card is recovered besides, with the map made again: every block reads as before the save was
+ * opened or, once the finish has stored Tail, as the save has it.
  */
 #include <signal.h>
 #include <stdio.h>
@@ -27,7 +30,7 @@ enum {
     DATA_BLOCKS = 8,
     DISK_BLOCKS = 16,
     BLOCK = 512,
-    MOST = 3, /* blocks of a commit */
+    MOST = 3, /* blocks of a save */
     ENTRIES = 128 + 8 * SLOTS,
     FRONT = ENTRIES + 16 * DATA_BLOCKS, /* up to the data blocks */
     LENGTH = FRONT + DATA_BLOCKS * BLOCK,
@@ -39,19 +42,20 @@ enum {
 typedef uint64_t word __attribute__((may_alias));
 typedef uint64_t pair __attribute__((may_alias, vector_size(16)));
 
-enum call { COMMIT, ROOM, LOAD, RECOVER, RECOVER_OLD, UPGRADE };
-enum stores { BY_LIBRARY, WHOLE, HALVES, LATE };
+enum call { COMMIT, ROOM, PUT, FINISH, LOAD, RECOVER, RECOVER_OLD, UPGRADE };
+enum stores { BY_LIBRARY, WHOLE, HALVES, LATE, EARLY };
 
 typedef struct {
     const char *name;
     enum call call;
     size_t count;
-    uint64_t numbers[MOST]; /* of either commit, of the cut commit that is recovered; the first is loaded */
+    uint64_t numbers[MOST]; /* of either commit, of the puts, of the cut commit that is recovered; the first is loaded */
     uint64_t loaded;        /* up to this block, by the set-up */
 } subject;
 
 /* The set-up saves 1, 2 and 3 and leaves Head at the last slot; some load 4, which is clean then. Where room is to be made, it loads 4 to 8 and
- * reads 1 and 2, so that 3, which is modified, is the least recently used block, and then come 4 and 5, which are clean. */
+ * reads 1 and 2, so that 3, which is modified, is the least recently used block, and then come 4 and 5, which are clean. Of a save block by block
+ * each put is stepped, behind those before it, and the finish behind all of them. */
 static const subject subjects[] = {
     {"commit of a fresh block", COMMIT, 1, {9}, 0},
     {"commit of a cached block", COMMIT, 1, {2}, 0},
@@ -62,6 +66,10 @@ static const subject subjects[] = {
     {"room for one, a modified block goes", ROOM, 1, {9}, .loaded = DATA_BLOCKS},
     {"room for two, a clean one goes too", ROOM, 2, {12, 9}, .loaded = DATA_BLOCKS},
     {"room for three, one cached", ROOM, 3, {9, 2, 12}, .loaded = DATA_BLOCKS},
+    {"puts of three, one cached", PUT, 3, {9, 2, 12}, 0},
+    {"puts of a fresh block, a clean one and a modified one", PUT, 3, {9, 4, 2}, .loaded = 4},
+    {"finish of three, one cached", FINISH, 3, {9, 2, 12}, 0},
+    {"finish of a fresh block, a clean one and a modified one", FINISH, 3, {9, 4, 2}, .loaded = 4},
     {"load", LOAD, 1, {9}, 0},
     {"recover after fresh blocks", RECOVER, 2, {9, 12}, 0},
     {"recover after cached blocks", RECOVER, 2, {3, 1}, 0},
@@ -72,7 +80,8 @@ static const subject subjects[] = {
 };
 
 static uint8_t *card, *disk, table[128], data[MOST * BLOCK], choice[BLOCK / 8];
-static uint64_t map[2];
+static uint64_t map[2], record[2];
+static uint8_t contents[2][DISK_BLOCKS][BLOCK]; /* what every block reads as before a save block by block, and behind it */
 static uint8_t left[STORES + 1][LENGTH] __attribute__((aligned(16))); /* the card that each allowance leaves */
 static uint8_t left_disk[STORES + 1][DISK];                           /* and the disk */
 static size_t last;           /* m: the allowance that leaves the whole call */
@@ -123,6 +132,12 @@ static tinca_answer commit(uint8_t *to, size_t count, const uint64_t *numbers, u
     return tinca_commit(to, LENGTH, map, 2, numbers, count, data, count * BLOCK, choice, sizeof choice, allowance);
 }
 
+/* The block of the save that is next by the record. */
+static tinca_answer put(const subject *s, uint8_t *to, uint64_t allowance)
+{
+    return tinca_put(to, LENGTH, map, 2, record, 2, s->numbers[record[1]], data + record[1] * BLOCK, BLOCK, choice, sizeof choice, allowance);
+}
+
 /* The call, in full or up to an allowance; it alone is stepped, with what surrounds it in the child. */
 static tinca_answer perform(const subject *s, uint8_t *to, uint64_t allowance)
 {
@@ -131,6 +146,10 @@ static tinca_answer perform(const subject *s, uint8_t *to, uint64_t allowance)
     if (s->call == ROOM)
         return tinca_commit_making_room(to, LENGTH, disk, DISK, map, 2, table, sizeof table, s->numbers, s->count, data, s->count * BLOCK,
                                         choice, sizeof choice, allowance);
+    if (s->call == PUT)
+        return put(s, to, allowance);
+    if (s->call == FINISH)
+        return tinca_finish(to, LENGTH, map, 2, record, 2, allowance);
     if (s->call == LOAD)
         return tinca_load(to, LENGTH, disk, DISK, map, 2, table, sizeof table, s->numbers[0], choice, sizeof choice, allowance);
     if (s->call == UPGRADE)
@@ -157,7 +176,37 @@ static void make_old(uint8_t *to)
         to[at] &= 0xFB;
 }
 
-/* The card before the call, into `left[0]`, its map and the table. */
+/* Whether every block of a settled card reads as it should. */
+static int reads_as(uint8_t (*all)[BLOCK], const uint8_t *on)
+{
+    for (uint64_t number = 0; number < DISK_BLOCKS; number++) {
+        const tinca_place place = tinca_look(on, LENGTH, disk, DISK, number);
+        if (place.kind == TINCA_REFUSED || memcmp((place.kind == TINCA_ON_CARD ? on : disk) + place.offset, all[number], BLOCK))
+            return 0;
+    }
+    return 1;
+}
+
+/* Opens a save on a settled card and puts its first blocks. */
+static void begin(const subject *s, uint8_t *on, uint64_t blocks)
+{
+    const tinca_record opened = tinca_open(on, LENGTH);
+    demand(opened.kind == TINCA_OPENED && opened.count == 0, "a save is not opened");
+    record[0] = opened.tail;
+    record[1] = opened.count;
+    for (uint64_t number = 0; number < DISK_BLOCKS; number++) {
+        const tinca_place place = tinca_look(on, LENGTH, disk, DISK, number);
+        demand(place.kind != TINCA_REFUSED, "a block of the set-up");
+        memcpy(contents[0][number], (place.kind == TINCA_ON_CARD ? on : disk) + place.offset, BLOCK);
+    }
+    memcpy(contents[1], contents[0], sizeof contents[0]);
+    for (size_t i = 0; i < s->count; i++)
+        memcpy(contents[1][s->numbers[i]], data + i * BLOCK, BLOCK);
+    for (uint64_t i = 0; i < blocks; i++)
+        demand(put(s, on, UINT64_MAX).kind == TINCA_DONE && record[1] == i + 1, "a put of the set-up");
+}
+
+/* The card before the call, into `left[0]`, its map and the table. Of a save block by block `cut` blocks are put already. */
 static void prepare(const subject *s, uint64_t cut)
 {
     uint8_t *const before = left[0];
@@ -178,16 +227,18 @@ static void prepare(const subject *s, uint64_t cut)
     choose(cut);
     if (s->call == RECOVER || s->call == RECOVER_OLD)
         demand(commit(before, s->count, s->numbers, cut).kind == TINCA_CUT, "the commit to recover from is not cut");
+    if (s->call == PUT || s->call == FINISH)
+        begin(s, before, cut);
     if (s->call == RECOVER_OLD || s->call == UPGRADE)
         make_old(before);
     make_map(before);
     memcpy(left_disk[0], disk, DISK);
 }
 
-/* The call from what was prepared, with an allowance: the map and the table are left as they were. */
+/* The call from what was prepared, with an allowance: the map, the table and the record are left as they were. */
 static tinca_answer attempt(const subject *s, uint8_t *to, uint64_t allowance)
 {
-    const uint64_t map_before[2] = {map[0], map[1]};
+    const uint64_t map_before[2] = {map[0], map[1]}, record_before[2] = {record[0], record[1]};
     uint8_t table_before[sizeof table];
     tinca_answer answer;
     memcpy(table_before, table, sizeof table);
@@ -195,7 +246,10 @@ static tinca_answer attempt(const subject *s, uint8_t *to, uint64_t allowance)
     memcpy(disk, left_disk[0], DISK);
     choose(allowance);
     answer = perform(s, to, allowance);
+    demand(record[0] == record_before[0] && record[1] == record_before[1] + (s->call == PUT && answer.kind == TINCA_DONE),
+           "a call leaves another record than it should");
     memcpy(map, map_before, sizeof map);
+    memcpy(record, record_before, sizeof record);
     memcpy(table, table_before, sizeof table);
     return answer;
 }
@@ -229,6 +283,17 @@ static void look_at_flags(const subject *s)
     }
 }
 
+/* A put's log entry in the same way; a finish clears R in each entry of the save and nothing else. */
+static void look_at_save(const subject *s)
+{
+    if (s->call == PUT) {
+        const uint64_t number = s->numbers[record[1]];
+        demand(flags_of(left[last], number) == (0x83 | (flags_of(left[0], number) & 2 ? 4 : 0)), "a put's log entry has other flags");
+    }
+    for (size_t i = 0; s->call == FINISH && i < s->count; i++)
+        demand(flags_of(left[last], s->numbers[i]) == (flags_of(left[0], s->numbers[i]) ^ 1), "an entry has other flags after a finish");
+}
+
 /* What the call leaves with every allowance up to m, and where each store changes what the one before left. */
 static void list(const subject *s)
 {
@@ -248,6 +313,9 @@ static void list(const subject *s)
     }
     if (s->call == COMMIT || s->call == ROOM)
         look_at_flags(s);
+    look_at_save(s);
+    demand(s->call != PUT || last == SAVING - 1, "a put has other stores than a commit of its block up to Head");
+    demand(s->call != FINISH || last == s->count + 1, "a finish has other stores than its role switches and Tail");
     demand(s->call != UPGRADE || (last == 1 && places[0] == 0), "an upgrade stores something else than the header's first word");
 }
 
@@ -272,11 +340,12 @@ static void store(size_t i, enum stores how)
     }
 }
 
-/* The listed stores, one after the other; where sectors are late, each behind the entry that it should come before. */
+/* The listed stores, one after the other; where sectors are late, each behind the entry that it should come before; where Tail is early, it
+ * comes before the store that it should come behind. */
 static void replay(enum stores how)
 {
     for (size_t i = 0; i < last; i++) {
-        if (how == LATE && places[i] >= LENGTH) {
+        if ((how == LATE && places[i] >= LENGTH) || (how == EARLY && i + 2 == last)) {
             store(i + 1, how);
             store(i, how);
             i++;
@@ -306,6 +375,21 @@ static int is_whole(size_t *made)
     return 1;
 }
 
+/* Whether a recovery from here leaves what it must of a save block by block: all of it once the finish has stored Tail, else nothing. */
+static int recovers(const subject *s, size_t made)
+{
+    static uint8_t copy[LENGTH] __attribute__((aligned(16)));
+    uint64_t own[2];
+    tinca_map given;
+    if (s->call != PUT && s->call != FINISH)
+        return 1;
+    memcpy(copy, card, LENGTH);
+    given = tinca_make_map(copy, LENGTH);
+    own[0] = given.low;
+    own[1] = given.high;
+    return tinca_recover(copy, LENGTH, own, 2, UINT64_MAX).kind == TINCA_DONE && reads_as(contents[s->call == FINISH && made == last], copy);
+}
+
 /* Makes the stores in a child that stops after each instruction; answers how many stops left something else than they may. */
 static long stepped(const subject *s, enum stores how, long *stops)
 {
@@ -330,7 +414,7 @@ static long stepped(const subject *s, enum stores how, long *stops)
     waitpid(child, &status, 0);
     while (WIFSTOPPED(status)) {
         *stops += 1;
-        wrong += !is_whole(&made);
+        wrong += !is_whole(&made) || !recovers(s, made);
         if (wrong && how == BY_LIBRARY && !counting) {
             kill(child, SIGKILL);
             waitpid(child, &status, 0);
@@ -346,15 +430,17 @@ static long stepped(const subject *s, enum stores how, long *stops)
     return wrong;
 }
 
-/* Steps the call, a recovery from every cut of its commit that leaves another card up to the data blocks. */
+/* Steps the call: a recovery from every cut of its commit that leaves another card up to the data blocks, each put of a save, and the finish
+ * behind them. */
 static long all_stepped(const subject *s, enum stores how, long *stops)
 {
-    const uint64_t cuts = s->call == RECOVER || s->call == RECOVER_OLD ? s->count * (BLOCK / 8 + 4) : 0;
+    const uint64_t recovered = s->call == RECOVER || s->call == RECOVER_OLD ? s->count * (BLOCK / 8 + 4) : 0;
+    const uint64_t first = s->call == FINISH ? s->count : 0, cuts = s->call == PUT ? s->count - 1 : first + recovered;
     static uint8_t before[FRONT];
     long wrong = 0;
-    for (uint64_t cut = 0; cut <= cuts && (wrong == 0 || how != BY_LIBRARY || counting); cut++) {
+    for (uint64_t cut = first; cut <= cuts && (wrong == 0 || how != BY_LIBRARY || counting); cut++) {
         prepare(s, cut);
-        if (cut > 0 && memcmp(before, left[0], FRONT) == 0)
+        if (cut > first && memcmp(before, left[0], FRONT) == 0)
             continue;
         memcpy(before, left[0], FRONT);
         list(s);
@@ -378,8 +464,8 @@ int main(int count, char **words)
         if (wrong_too) {
             const long whole = all_stepped(s, WHOLE, &stops);
             const long late = s->call == ROOM ? all_stepped(s, LATE, &stops) : 1;
-            wrong = all_stepped(s, HALVES, &stops);
-            printf("%s: units whole, %ld wrong stops; in halves, %ld", s->name, whole, wrong);
+            wrong = all_stepped(s, s->call == FINISH ? EARLY : HALVES, &stops);
+            printf("%s: units whole, %ld wrong stops; %s, %ld", s->name, whole, s->call == FINISH ? "Tail early" : "in halves", wrong);
             if (s->call == ROOM)
                 printf("; sectors late, %ld", late);
             puts("");
@@ -389,10 +475,10 @@ int main(int count, char **words)
         wrong = all_stepped(s, BY_LIBRARY, &stops);
         good &= wrong == 0;
         if (wrong && !counting) {
-            printf("%s: stop %ld leaves a unit in part or out of order\n", s->name, stops);
+            printf("%s: stop %ld leaves a unit in part or out of order, or a save torn\n", s->name, stops);
             return 1;
         }
-        printf("%s: %ld stops, %ld leave a unit in part or out of order\n", s->name, stops, wrong);
+        printf("%s: %ld stops, %ld leave a unit in part or out of order, or a save torn\n", s->name, stops, wrong);
     }
     return !good;
 }

@@ -1,6 +1,6 @@
 //! The functions of include/tinca.h.
 
-use crate::{Answer, Cached, Calls, FreeMap, Geometry, Place, State};
+use crate::{Answer, Cached, Calls, FreeMap, Geometry, Opened, Place, State};
 
 #[repr(C)]
 #[derive(Clone, Copy, Debug, PartialEq, Eq)]
@@ -48,6 +48,43 @@ pub struct RawMap {
     pub refusal: u32,
     pub low: u64,
     pub high: u64,
+}
+
+#[repr(C)]
+#[derive(Clone, Copy, Debug, PartialEq, Eq)]
+pub struct RawRecord {
+    pub kind: u32,
+    pub refusal: u32,
+    pub tail: u64,
+    pub count: u64,
+}
+
+extern "C" {
+    fn tinca_open(card: *const u8, card_len: usize) -> RawRecord;
+    fn tinca_put(
+        card: *mut u8,
+        card_len: usize,
+        map: *mut u64,
+        map_words: usize,
+        record: *mut u64,
+        record_words: usize,
+        block: u64,
+        data: *const u8,
+        data_len: usize,
+        choice: *const u8,
+        choice_len: usize,
+        allowance: u64,
+    ) -> RawAnswer;
+    // the record is const in the header; here it is of a slice lent for writing, so that a library that writes is seen to
+    fn tinca_finish(
+        card: *mut u8,
+        card_len: usize,
+        map: *mut u64,
+        map_words: usize,
+        record: *mut u64,
+        record_words: usize,
+        allowance: u64,
+    ) -> RawAnswer;
 }
 
 extern "C" {
@@ -206,6 +243,14 @@ pub fn free_map(raw: RawMap) -> FreeMap {
     }
 }
 
+pub fn opened(raw: RawRecord) -> Opened {
+    match raw {
+        RawRecord { kind: 0, refusal: 0, tail, count } => Opened::Open([tail, count]),
+        RawRecord { kind: 2, refusal, tail: 0, count: 0 } => Opened::Refused(refusal),
+        _ => Opened::Malformed(raw.kind, raw.refusal, raw.tail, raw.count),
+    }
+}
+
 impl Calls for Library {
     fn format(&self, k: u64, slots: u64, data_blocks: u64, disk_blocks: u64, card: &mut [u8]) -> Answer {
         answer(unsafe { tinca_format(k, slots, data_blocks, disk_blocks, lent_mut(card), card.len()) })
@@ -277,6 +322,35 @@ impl Calls for Library {
     fn recover(&self, card: &mut [u8], map: &mut [u64], allowance: u64) -> Answer {
         let (card_len, words) = (card.len(), map.len());
         answer(unsafe { tinca_recover(lent_mut(card), card_len, lent_mut(map), words, allowance) })
+    }
+
+    fn open(&self, card: &[u8]) -> Opened {
+        opened(unsafe { tinca_open(lent(card), card.len()) })
+    }
+
+    fn put(
+        &self,
+        card: &mut [u8],
+        map: &mut [u64],
+        record: &mut [u64],
+        block: u64,
+        data: &[u8],
+        choice: &[u8],
+        allowance: u64,
+    ) -> Answer {
+        let (card_len, words, record_words) = (card.len(), map.len(), record.len());
+        let (data_len, choice_len) = (data.len(), choice.len());
+        let (card, map, record) = (lent_mut(card), lent_mut(map), lent_mut(record));
+        let (data, choice) = (lent(data), lent(choice));
+        answer(unsafe {
+            tinca_put(card, card_len, map, words, record, record_words, block, data, data_len, choice, choice_len, allowance)
+        })
+    }
+
+    fn finish(&self, card: &mut [u8], map: &mut [u64], record: &mut [u64], allowance: u64) -> Answer {
+        let (card_len, words, record_words) = (card.len(), map.len(), record.len());
+        let (card, map, record) = (lent_mut(card), lent_mut(map), lent_mut(record));
+        answer(unsafe { tinca_finish(card, card_len, map, words, record, record_words, allowance) })
     }
 
     fn upgrade(&self, card: &mut [u8], allowance: u64) -> Answer {

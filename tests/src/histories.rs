@@ -5,7 +5,7 @@
 use crate::drive::{data_of, first_disk, Snapshot};
 use crate::model::{ascending, commit_stores, map_of, stores_of, zeros, Card, Model};
 use crate::random::Random;
-use crate::{Answer, Calls, Geometry};
+use crate::{Answer, Calls, Geometry, Opened};
 
 /// A store of a commit of `n` blocks after which power fails: near the entry of one block, or among the role
 /// switches.
@@ -49,10 +49,12 @@ fn some_choice(seed: u64, geometry: Geometry) -> Vec<u8> {
     (0..geometry.block() / 8).map(|_| random.below(2) as u8).collect()
 }
 
-/// As many blocks as there is room for; one time in three the save makes room itself.
+/// As many blocks as there is room for; one time in three the save makes room itself, one time in three it is made block by block.
 fn save(model: &Model, random: &mut Random, geometry: Geometry, at: &mut Snapshot, most: u64, cut: bool) {
-    if random.once_in(3) {
-        return save_making_room(model, random, geometry, at, most, cut);
+    match random.below(3) {
+        0 => return save_making_room(model, random, geometry, at, most, cut),
+        1 => return save_in_parts(model, random, geometry, at, most, cut),
+        _ => {}
     }
     let free = Card::open(&at.card, None).unwrap().free_blocks().len() as u64;
     let numbers = some_numbers(random, geometry, &at.card, most.min(free));
@@ -77,12 +79,32 @@ fn save_making_room(model: &Model, random: &mut Random, geometry: Geometry, at: 
     }
     let (n, seed) = (numbers.len() as u64, random.next());
     let data = data_of(seed, n as usize, geometry.block());
-    let Snapshot { card, disk, table } = at;
+    let Snapshot { card, disk, table, .. } = at;
     let runs = model.room_list(card, disk.len(), table, &numbers, &data).unwrap();
     let evicting = stores_of(&runs).len() as u64 - commit_stores(n, geometry.block() as u64);
     let allowance = if cut { evicting + cut_place(random, geometry, n) } else { u64::MAX };
     let (mut map, choice) = (map_of(card), some_choice(seed, geometry));
     model.commit_making_room(card, disk, &mut map, table, &numbers, &data, &choice, allowance);
+}
+
+/// A save block by block. A cut falls into a put, or among the role switches, or the save is left as it is.
+fn save_in_parts(model: &Model, random: &mut Random, geometry: Geometry, at: &mut Snapshot, most: u64, cut: bool) {
+    let free = Card::open(&at.card, None).unwrap().free_blocks().len() as u64;
+    let numbers = some_numbers(random, geometry, &at.card, most.min(free));
+    let Opened::Open(mut record) = model.open(&at.card) else { panic!("a settled card is not opened") };
+    let (mut map, words) = (map_of(&at.card), geometry.block() as u64 / 8);
+    for (place, number) in numbers.iter().enumerate() {
+        let seed = random.next();
+        let (data, choice) = (data_of(seed, 1, geometry.block()), some_choice(seed, geometry));
+        let is_cut = cut && place + 1 == numbers.len() && random.once_in(2);
+        let allowance = if is_cut { words + random.below(3) } else { u64::MAX };
+        let answer = model.put(&mut at.card, &mut map, &mut record, *number, &data, &choice, allowance);
+        assert_eq!(answer == Answer::Cut, is_cut);
+    }
+    // refused where the last put was cut behind its entry, or nothing was put
+    let allowance = if cut { random.below(1 + record[1]) } else { u64::MAX };
+    map = map_of(&at.card);
+    model.finish(&mut at.card, &mut map, &mut record, allowance);
 }
 
 /// Recovers in full, or is cut again a few times before.
@@ -120,7 +142,7 @@ pub fn history(random: &mut Random, geometry: Geometry, most: u64, version: u8) 
     let (k, slots, data_blocks, disk_blocks) =
         (geometry.k, geometry.slots, geometry.data_blocks, geometry.disk_blocks);
     assert_eq!(model.format(k, slots, data_blocks, disk_blocks, &mut card), Answer::Done(0));
-    let mut at = Snapshot { card, disk: first_disk(random.next(), geometry), table: ascending() };
+    let mut at = Snapshot::new(card, first_disk(random.next(), geometry), ascending());
     for _ in 0..random.below(16) {
         step(model, random, geometry, &mut at, most);
     }

@@ -7,7 +7,9 @@ pub mod ffi;
 pub mod histories;
 pub mod mapped;
 pub mod model;
+pub mod pending;
 pub mod random;
+pub mod records;
 pub mod room;
 pub mod scratch;
 pub mod shown;
@@ -16,7 +18,7 @@ pub mod stores_log;
 pub mod tables;
 pub mod versions;
 
-pub use model::{Answer, Cached, FreeMap, Geometry, Place, State};
+pub use model::{Answer, Cached, FreeMap, Geometry, Opened, Place, State};
 
 /// The calls of the interface. The library is one implementation, the model another.
 pub trait Calls {
@@ -39,6 +41,19 @@ pub trait Calls {
         -> Answer;
     fn evict(&self, card: &mut [u8], disk: &mut [u8], map: &mut [u64], block: u64, choice: &[u8], allowance: u64) -> Answer;
     fn recover(&self, card: &mut [u8], map: &mut [u64], allowance: u64) -> Answer;
+    fn open(&self, card: &[u8]) -> Opened;
+    fn put(
+        &self,
+        card: &mut [u8],
+        map: &mut [u64],
+        record: &mut [u64],
+        block: u64,
+        data: &[u8],
+        choice: &[u8],
+        allowance: u64,
+    ) -> Answer;
+    /// In the header the record is const. Here it is lent for writing, so that a finish that writes to it is seen.
+    fn finish(&self, card: &mut [u8], map: &mut [u64], record: &mut [u64], allowance: u64) -> Answer;
     fn upgrade(&self, card: &mut [u8], allowance: u64) -> Answer;
     fn read(&self, card: &[u8], disk: &[u8], table: &mut [u8], block: u64, out: &mut [u8]) -> Place;
     fn look(&self, card: &[u8], disk: &[u8], block: u64) -> Place;

@@ -1,12 +1,13 @@
 //! Drives library and model side by side. One line for each part; the first difference ends the run with status 1.
 
 use std::time::Instant;
-use tinca_tests::drive::{arguments, damaged, drill, every_cut, every_preview, random_history, script, Tally, DRILL};
+use tinca_tests::drive::{arguments, damaged, drill, every_cut, every_preview, random_history, script, Reckoning, Tally, DRILL};
 use tinca_tests::ffi::Library;
 use tinca_tests::model::Model;
+use tinca_tests::pending::{full_windows, odd_cards, pending_history, pending_script, wide_pending_script};
 use tinca_tests::room::{crowded, every_room, room_script, wide_room_script};
 use tinca_tests::versions::{across, every_upgrade};
-use tinca_tests::Geometry;
+use tinca_tests::{Calls, Geometry};
 
 fn geometry(k: u64, slots: u64, data_blocks: u64, disk_blocks: u64) -> Geometry {
     Geometry { k, slots, data_blocks, disk_blocks }
@@ -18,15 +19,28 @@ struct Parts {
     total: Tally,
 }
 
-type Part<'p> = &'p dyn Fn(&Library, &Model) -> Result<Tally, String>;
+type Part<'p> = &'p dyn Fn(&dyn Calls, &dyn Calls) -> Result<Tally, String>;
+
+/// A part that a seed decides.
+type History<'p> = &'p dyn Fn(&dyn Calls, &dyn Calls, u64) -> Result<Tally, String>;
 
 impl Parts {
     fn run(&mut self, name: &str, part: Part) -> Result<(), String> {
         let start = Instant::now();
-        let tally = part(&Library, &Model::default()).map_err(|difference| format!("{name}: {difference}"))?;
+        let tally = part(&Library, &Model::NOW).map_err(|difference| format!("{name}: {difference}"))?;
         println!("{name}: {} ({:.1} s)", tally.line(), start.elapsed().as_secs_f64());
         self.total.add(&tally);
         Ok(())
+    }
+
+    /// So many histories on cards of the geometry, as one part.
+    fn run_seeds(&mut self, name: &str, geometry: Geometry, histories: u64, history: History) -> Result<(), String> {
+        let first = 1000 * geometry.k + 100 * geometry.slots;
+        self.run(name, &|library, model| {
+            let mut tally = Tally::default();
+            (first..first + histories).try_for_each(|seed| history(library, model, seed).map(|more| tally.add(&more)))?;
+            Ok(tally)
+        })
     }
 
     fn cuts(&mut self) -> Result<(), String> {
@@ -60,14 +74,8 @@ impl Parts {
             (12, 256, 128, 65_536, 1, 3000),
         ] {
             let name = format!("b histories, k {k} S {slots} N {data_blocks} D {disk_blocks}");
-            self.run(&name, &|library, model| {
-                let mut tally = Tally::default();
-                for history in 0..histories {
-                    let seed = 1000 * k + 100 * slots + history;
-                    tally.add(&random_history(library, model, geometry(k, slots, data_blocks, disk_blocks), calls, seed)?);
-                }
-                Ok(tally)
-            })?;
+            let geometry = geometry(k, slots, data_blocks, disk_blocks);
+            self.run_seeds(&name, geometry, histories, &|library, model, seed| random_history(library, model, geometry, calls, seed))?;
         }
         Ok(())
     }
@@ -105,13 +113,49 @@ impl Parts {
         {
             let name = format!("i histories across an upgrade, k {k} S {slots} N {data_blocks} D {disk_blocks}");
             let geometry = geometry(k, slots, data_blocks, disk_blocks);
-            self.run(&name, &|library, model| {
-                let mut tally = Tally::default();
-                for history in 0..histories {
-                    tally.add(&across(library, model, geometry, calls, 1000 * k + 100 * slots + history)?);
-                }
-                Ok(tally)
-            })?;
+            self.run_seeds(&name, geometry, histories, &|library, model, seed| across(library, model, geometry, calls, seed))?;
+        }
+        Ok(())
+    }
+
+    fn pending_saves(&mut self) -> Result<(), String> {
+        for (name, geometry, script, blocks, stride) in [
+            ("k 9", geometry(9, 8, 4, 16), pending_script(), 6, 4),
+            ("N 8", geometry(9, 8, 8, 16), wide_pending_script(), 8, 16),
+            ("k 12", geometry(12, 8, 4, 6), pending_script(), 6, 127),
+        ] {
+            let cuts = format!("j every cut of a pending save, {name}");
+            self.run(&cuts, &|library, model| every_cut(library, model, geometry, &script, blocks, stride))?;
+            let old = format!("j old cards with a pending save, {name}");
+            self.run(&old, &|library, model| every_upgrade(library, model, geometry, &script, blocks, stride))?;
+        }
+        self.pending_histories()?;
+        self.run("l full windows", &|library, model| full_windows(library, model, geometry(9, 8, 16, 16)))?;
+        for (k, slots, data_blocks, disk_blocks, cards) in
+            [(9, 8, 4, 16, 10_000), (9, 8, 8, 20, 10_000), (9, 8, 128, 200, 500), (12, 256, 128, 200, 200)]
+        {
+            let name = format!("m odd cards, k {k} S {slots} N {data_blocks} D {disk_blocks}");
+            let geometry = geometry(k, slots, data_blocks, disk_blocks);
+            self.run(&name, &|library, model| odd_cards(library, model, geometry, cards, 55 + k))?;
+        }
+        Ok(())
+    }
+
+    fn pending_histories(&mut self) -> Result<(), String> {
+        for (k, slots, data_blocks, disk_blocks, histories, calls) in [
+            (9, 8, 4, 16, 60, 300),
+            (9, 8, 4, 3, 40, 300),
+            (9, 8, 16, 12, 40, 300),
+            (10, 16, 8, 20, 20, 200),
+            (12, 8, 12, 30, 6, 100),
+            (9, 256, 128, 150, 2, 100),
+        ] {
+            let name = format!("k histories of pending saves, k {k} S {slots} N {data_blocks} D {disk_blocks}");
+            let geometry = geometry(k, slots, data_blocks, disk_blocks);
+            let history = |library: &dyn Calls, model: &dyn Calls, seed| {
+                pending_history(library, model, geometry, calls, seed, Reckoning::Right)
+            };
+            self.run_seeds(&name, geometry, histories, &history)?;
         }
         Ok(())
     }
@@ -147,6 +191,7 @@ fn run() -> Result<Tally, String> {
     parts.lists()?;
     parts.crowded_cards()?;
     parts.old_cards()?;
+    parts.pending_saves()?;
     Ok(parts.total)
 }
 

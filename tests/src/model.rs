@@ -46,6 +46,14 @@ pub enum FreeMap {
     Malformed(u32, u32, u64, u64),
 }
 
+/// A pending save as open gives it: the record's Tail and count.
+#[derive(Clone, Copy, Debug, PartialEq, Eq)]
+pub enum Opened {
+    Open([u64; 2]),
+    Refused(u32),
+    Malformed(u32, u32, u64, u64),
+}
+
 /// The versions of a card: document 01's, which format does not write any more, and the one with flag P.
 pub const OLD: u8 = 1;
 pub const NOW: u8 = 2;
@@ -291,12 +299,20 @@ impl Stored {
     }
 }
 
-/// What a commit of either kind is asked to save.
+/// What a commit of either kind, or a put, is asked to save.
 #[derive(Clone, Copy)]
 struct Save<'s> {
     numbers: &'s [u64],
     data: &'s [u8],
     choice: &'s [u8],
+}
+
+/// Which of the checks hold that commits and puts do not ask alike: 16, 8, 11 and 14.
+struct Own {
+    bad_table: bool,
+    bad_count: bool,
+    repeats: bool,
+    no_room: bool,
 }
 
 /// Where the blocks of a commit can go: free data blocks and unused entries, in the order of the search.
@@ -308,6 +324,11 @@ struct Homes {
 /// The map that a card gives. A card that is refused gives none: then no bit is set, and no call looks at it.
 pub fn map_of(card: &[u8]) -> [u64; 2] {
     Card::open(card, None).map_or([0; 2], |card| card.map())
+}
+
+/// The record that the card gives.
+pub fn record_of(card: &[u8]) -> Option<[u64; 2]> {
+    Card::open(card, None).ok()?.record()
 }
 
 /// A choice that is not refused with 17 on this card. On one that has no header none is looked at.
@@ -324,6 +345,9 @@ pub enum Call {
     Load,
     Evict,
     Recover,
+    Open,
+    Put,
+    Finish,
     Upgrade,
     Read,
     Look,
@@ -472,14 +496,34 @@ impl Card {
         &from[at..at + self.geometry.block()]
     }
 
-    /// Of a data block: it is no in-use entry's current block.
+    /// Of a data block: it is no in-use entry's current block and no undoable entry's previous one.
     pub fn is_free(&self, block: usize) -> bool {
-        !self.in_use().any(|entry| entry.current as usize == block)
+        let is_previous = |entry: &Entry| entry.previous == Some(block as u32) && self.undoable(entry);
+        !self.in_use().any(|entry| entry.current as usize == block || is_previous(entry))
     }
 
-    /// The free data blocks in the order of the search.
+    /// The free data blocks in the order of a commit's search.
     pub fn free_blocks(&self) -> Vec<usize> {
-        walk(self.geometry.data_blocks, self.head, |block| self.is_free(block))
+        self.free_from(self.head)
+    }
+
+    /// Those in the order of a search that starts at this slot position mod N.
+    fn free_from(&self, start: u64) -> Vec<usize> {
+        walk(self.geometry.data_blocks, start, |block| self.is_free(block))
+    }
+
+    /// The record of the pending save that is on the card, of count 0 where it is settled. None where the entries with R and the window's
+    /// numbers are not the same, one to one.
+    pub fn record(&self) -> Option<[u64; 2]> {
+        let (mut logged, mut window) = (self.logged_numbers(), self.window.clone());
+        logged.sort();
+        window.sort();
+        (logged == window).then_some([self.tail, window.len() as u64])
+    }
+
+    /// The numbers of the entries with R.
+    fn logged_numbers(&self) -> Vec<u64> {
+        self.in_use().filter(|entry| entry.log_role).map(|entry| entry.number).collect()
     }
 
     /// The free block map: bit d mod 64, from the lowest, of word d / 64 is set unless d is below N and data block d is free.
@@ -493,9 +537,14 @@ impl Card {
         words
     }
 
-    /// The unused entries in the order of the search.
+    /// The unused entries in the order of a commit's search.
     pub fn unused_entries(&self) -> Vec<usize> {
-        walk(self.geometry.data_blocks, self.head, |entry| self.entries[entry].is_none())
+        self.unused_from(self.head)
+    }
+
+    /// As `free_from`, the unused entries.
+    fn unused_from(&self, start: u64) -> Vec<usize> {
+        walk(self.geometry.data_blocks, start, |entry| self.entries[entry].is_none())
     }
 }
 
@@ -563,6 +612,11 @@ pub fn cut_run(runs: &[Run], allowance: u64) -> Option<(&Run, u64)> {
     None
 }
 
+/// The store that ends a save.
+fn tail_run(head: u64) -> Run {
+    Run::Single(Store::Word(72, head.to_be_bytes()))
+}
+
 /// The first of the checks whose condition holds.
 fn lowest(checks: &[(u32, bool)]) -> Result<(), u32> {
     checks.iter().find(|(_, holds)| *holds).map_or(Ok(()), |(number, _)| Err(*number))
@@ -596,8 +650,8 @@ pub enum Slip {
     /// The map's bits from N on are not set.
     MapWithoutRest,
     MapSwapped,
-    /// An undoable entry's previous block is not free.
-    MapTakesPrevious,
+    /// An undoable entry's previous block is free.
+    MapFreesPrevious,
     /// No map is made of an unsettled card.
     MapOfSettledAlone,
     CountsLowWord,
@@ -785,9 +839,62 @@ pub enum Slip {
     /// The word that upgrade stores has no slots; it stores the modified entries too, with P.
     UpgradeClearsSlots,
     UpgradeSetsP,
+    /// Open of an unsettled card gives its record.
+    OpenUnsettled,
+    /// A put gives out the previous version of a block of its save, as document 01's free has it.
+    PreviousGivenOut,
+    /// A put searches from Head; its data block from there alone, or its entry.
+    PutFromHead,
+    PutBlockFromHead,
+    PutEntryFromHead,
+    /// A cut put, or a refused one, hands on the next record; a done one the record that it got.
+    RecordAfterCut,
+    RecordAfterRefusal,
+    RecordStays,
+    /// Finish writes the record.
+    FinishWritesRecord,
+    /// Finish stores Tail before the last role switch, or the role switches in the order of the entries.
+    FinishTailEarly,
+    FinishByPlace,
+    /// 18 is asked behind 15, or after all.
+    MapBeforeRecord,
+    RecordAskedLast,
+    /// Put and finish ask 7 of a card without a pending save's record.
+    SettledForRecord,
+    /// 18 does not ask for Tail, or for the count.
+    TailUnasked,
+    CountUnasked,
+    /// 18 does not ask for one to one: a number stands in the window twice; an entry with R is outside it; a number in it has no entry with R;
+    /// there are as many of both.
+    WindowTwiceTaken,
+    RoleOutsideTaken,
+    NoRoleTaken,
+    RolesCounted,
+    /// A record of three words is taken by its first two; of another length it is one of zeros.
+    LongRecordTaken,
+    OddRecordAsZeros,
+    /// The record's numbers are looked at in their lowest 32 bits, or 8 bits.
+    RecordNarrowed(u32),
+    /// A put is taken at count S - 1; a finish at count 0.
+    FullWindowTaken,
+    EmptyFinished,
+    /// A put does not ask 9, 17, 10, 11 or 14.
+    PutUnasked(u32),
+    /// A put refuses a number that is cached, as if it were in the save.
+    CachedPutRefused,
+    /// A put counts the stores of a commit; a finish does not count Tail's.
+    PutCountsCommit,
+    FinishCountsSwitches,
+    /// A put, or a finish, hands on the map that it got.
+    OldMapAfterPut,
+    OldMapAfterFinish,
+    /// A put frees the block that it saves over, as a whole commit does.
+    PutFreesPrevious,
+    /// Finish clears the bits of previous blocks, also of one that is another entry's current block.
+    FinishFreesCurrent,
 }
 
-pub const SLIPS: [Slip; 158] = [
+pub const SLIPS: [Slip; 199] = [
     Slip::CleanUndo,
     Slip::FreshAtSwitch,
     Slip::FreshAtUndo,
@@ -811,7 +918,7 @@ pub const SLIPS: [Slip; 158] = [
     Slip::CachedCounted,
     Slip::MapWithoutRest,
     Slip::MapSwapped,
-    Slip::MapTakesPrevious,
+    Slip::MapFreesPrevious,
     Slip::MapOfSettledAlone,
     Slip::CountsLowWord,
     Slip::AnyMapTaken,
@@ -946,6 +1053,47 @@ pub const SLIPS: [Slip; 158] = [
     Slip::UpgradeUnmade,
     Slip::UpgradeClearsSlots,
     Slip::UpgradeSetsP,
+    Slip::OldTaken(Call::Open),
+    Slip::OldTaken(Call::Put),
+    Slip::OldTaken(Call::Finish),
+    Slip::OpenUnsettled,
+    Slip::PreviousGivenOut,
+    Slip::PutFromHead,
+    Slip::PutBlockFromHead,
+    Slip::PutEntryFromHead,
+    Slip::RecordAfterCut,
+    Slip::RecordAfterRefusal,
+    Slip::RecordStays,
+    Slip::FinishWritesRecord,
+    Slip::FinishTailEarly,
+    Slip::FinishByPlace,
+    Slip::MapBeforeRecord,
+    Slip::RecordAskedLast,
+    Slip::SettledForRecord,
+    Slip::TailUnasked,
+    Slip::CountUnasked,
+    Slip::WindowTwiceTaken,
+    Slip::RoleOutsideTaken,
+    Slip::NoRoleTaken,
+    Slip::RolesCounted,
+    Slip::LongRecordTaken,
+    Slip::OddRecordAsZeros,
+    Slip::RecordNarrowed(32),
+    Slip::RecordNarrowed(8),
+    Slip::FullWindowTaken,
+    Slip::EmptyFinished,
+    Slip::PutUnasked(9),
+    Slip::PutUnasked(17),
+    Slip::PutUnasked(10),
+    Slip::PutUnasked(11),
+    Slip::PutUnasked(14),
+    Slip::CachedPutRefused,
+    Slip::PutCountsCommit,
+    Slip::FinishCountsSwitches,
+    Slip::OldMapAfterPut,
+    Slip::OldMapAfterFinish,
+    Slip::PutFreesPrevious,
+    Slip::FinishFreesCurrent,
 ];
 
 /// The model; with a slip, a deliberately wrong one. That of the old version is the station of before request 7, whose calls made the cards
@@ -958,11 +1106,14 @@ pub struct Model {
 
 impl Default for Model {
     fn default() -> Model {
-        Model { slip: None, version: NOW }
+        Model::NOW
     }
 }
 
 impl Model {
+    /// Today's.
+    pub const NOW: Model = Model { slip: None, version: NOW };
+
     pub fn wrong(slip: Slip) -> Model {
         Model { slip: Some(slip), ..Model::default() }
     }
@@ -998,13 +1149,13 @@ impl Model {
     }
 
     /// Checks 1 to 6 of a call.
-    fn open(&self, call: Call, bytes: &[u8], disk_length: Option<usize>) -> Result<Card, u32> {
+    fn checked(&self, call: Call, bytes: &[u8], disk_length: Option<usize>) -> Result<Card, u32> {
         Card::open_as(self.takes(call), bytes, disk_length)
     }
 
     /// Checks 1 to 7 of a call.
     fn open_settled(&self, call: Call, bytes: &[u8], disk_length: Option<usize>) -> Result<Card, u32> {
-        self.open(call, bytes, disk_length)?.if_settled()
+        self.checked(call, bytes, disk_length)?.if_settled()
     }
 
     /// The map that the card gives.
@@ -1014,9 +1165,10 @@ impl Model {
             let rest = u128::MAX.checked_shl(card.geometry.data_blocks as u32).unwrap_or(0);
             words = [words[0] & !rest as u64, words[1] & !(rest >> 64) as u64];
         }
-        if self.slips(Slip::MapTakesPrevious) {
+        if self.slips(Slip::MapFreesPrevious) {
             let previous = card.in_use().filter(|entry| card.undoable(entry)).filter_map(|entry| entry.previous);
-            previous.for_each(|block| set_bit(&mut words, block as usize));
+            let is_current = |block: &u32| card.in_use().any(|entry| entry.current == *block);
+            previous.filter(|block| !is_current(block)).for_each(|block| clear_bit(&mut words, block as usize));
         }
         if self.slips(Slip::MapSwapped) {
             words.swap(0, 1);
@@ -1043,7 +1195,7 @@ impl Model {
     /// Checks 1 to 7 and 15, all that come before the choice is looked at.
     fn check_settled(&self, call: Call, bytes: &[u8], disk_length: Option<usize>, map: &[u64], choice: &[u8]) -> Result<Card, u32> {
         if self.slips(Slip::MapBeforeSettled) {
-            self.check_map(&self.open(call, bytes, disk_length)?, map)?;
+            self.check_map(&self.checked(call, bytes, disk_length)?, map)?;
         }
         let card = self.open_settled(call, bytes, disk_length)?;
         if self.slips(Slip::ChoiceBeforeMap) && self.is_wrong(choice, card.geometry.block() / 8) {
@@ -1066,7 +1218,7 @@ impl Model {
         choice: &[u8],
     ) -> Result<Card, u32> {
         let early = match self.slip {
-            Some(Slip::TableBeforeSettled) => Some(self.open(call, bytes, disk_length)?),
+            Some(Slip::TableBeforeSettled) => Some(self.checked(call, bytes, disk_length)?),
             Some(Slip::TableBeforeMap) => Some(self.open_settled(call, bytes, disk_length)?),
             _ => None,
         };
@@ -1104,7 +1256,7 @@ impl Model {
         if self.slips(Slip::MapBeforeEqual) {
             self.check_map(&Card::decoded(self.takes(Call::Recover), bytes, None)?, map)?;
         }
-        self.check_map(&self.open(Call::Recover, bytes, None)?, map)
+        self.check_map(&self.checked(Call::Recover, bytes, None)?, map)
     }
 
     /// Whether check 17 holds of the choice; `length` is how many bytes it must have at least.
@@ -1175,34 +1327,43 @@ impl Model {
     /// The runs of a commit, or which of its own checks refuses it.
     fn commit_runs(&self, card: &Card, save: Save) -> Result<Vec<Run>, u32> {
         let homes = self.homes(card, save.numbers);
-        self.check_save(card, save, false, save.numbers.len() > homes.blocks.len())?;
+        self.check_commit(card, save, false, save.numbers.len() > homes.blocks.len())?;
         Ok(self.saving_runs(card, homes, save))
     }
 
-    /// The checks that both commits make of what they are to save; `bad_table` and `no_room` are 16 and 14.
-    fn check_save(&self, card: &Card, save: Save, bad_table: bool, no_room: bool) -> Result<(), u32> {
+    /// The own checks of both commits; `bad_table` and `no_room` are 16 and 14.
+    fn check_commit(&self, card: &Card, save: Save, bad_table: bool, no_room: bool) -> Result<(), u32> {
+        let (numbers, n) = (save.numbers, save.numbers.len());
+        let repeats = (0..n).any(|i| numbers[..i].contains(&numbers[i])) && !self.slips(Slip::RepeatsLetBy);
+        let bad_count = n == 0 || n as u64 > card.geometry.slots - 1;
+        self.check_save(card, save, Own { bad_table, bad_count, repeats, no_room }, &[])
+    }
+
+    /// The checks that commits and puts make of what they are to save, but for those that a wrong model does not ask.
+    fn check_save(&self, card: &Card, save: Save, own: Own, unasked: &[u32]) -> Result<(), u32> {
         let (geometry, numbers, n) = (card.geometry, save.numbers, save.numbers.len());
-        let repeats = (0..n).any(|i| numbers[..i].contains(&numbers[i]));
-        self.first_refusal(vec![
-            (16, bad_table),
-            (8, n == 0 || n as u64 > geometry.slots - 1),
+        let mut checks = vec![
+            (16, own.bad_table),
+            (8, own.bad_count),
             (9, save.data.len() != n * geometry.block()),
             (17, self.is_wrong(save.choice, geometry.block() / 8)),
             (10, numbers.iter().any(|number| *number >= geometry.disk_blocks)),
-            (11, repeats && !self.slips(Slip::RepeatsLetBy)),
-            (14, no_room),
-        ])
+            (11, own.repeats),
+            (14, own.no_room),
+        ];
+        checks.iter_mut().filter(|check| unasked.contains(&check.0)).for_each(|check| check.1 = false);
+        self.first_refusal(checks)
     }
 
     /// The searches of a commit.
     fn homes(&self, card: &Card, numbers: &[u64]) -> Homes {
-        let searched = if self.slips(Slip::SearchFromZero) { Card { head: 0, ..card.clone() } } else { card.clone() };
-        let mut blocks = searched.free_blocks();
+        let start = if self.slips(Slip::SearchFromZero) { 0 } else { card.head };
+        let mut blocks = card.free_from(start);
         if self.slips(Slip::OldBlockGivenOut) {
             let old = numbers.first().and_then(|number| card.entry_for(*number));
             blocks.extend(old.map(|entry| card.entries[entry].unwrap().current as usize));
         }
-        Homes { blocks, entries: searched.unused_entries() }
+        Homes { blocks, entries: card.unused_from(start) }
     }
 
     /// The runs of a commit that passed its checks.
@@ -1216,18 +1377,20 @@ impl Model {
             let index = over.unwrap_or_else(|| unused.next().unwrap());
             let entry = self.logged(card, *number, over.and_then(|index| card.entries[index]), home as u32);
             written.push((index, entry));
-            if i == 0 || !self.slips(Slip::HeadAlone) {
-                runs.extend(self.logging_runs(geometry, block, index, entry, head));
-            }
+            let logging = self.logging_runs(geometry, block, index, entry, head);
+            let skipped = if i > 0 && self.slips(Slip::HeadAlone) { logging.len() - 1 } else { 0 };
+            runs.extend(logging.into_iter().skip(skipped));
             head = (head + 1) % geometry.slots;
-            runs.push(Run::Single(Store::Word(64, head.to_be_bytes())));
         }
-        let switches = written.into_iter().map(|(index, entry)| {
-            Run::Single(Store::Entry(geometry.entry_at(index), write_entry(Some(self.switched(entry)))))
-        });
-        let (mut last, tail) = (switches.collect::<Vec<Run>>(), Run::Single(Store::Word(72, head.to_be_bytes())));
-        last.insert(if self.slips(Slip::TailFirst) { 0 } else { last.len() }, tail);
+        let mut last = self.switching_runs(geometry, &written);
+        last.insert(if self.slips(Slip::TailFirst) { 0 } else { last.len() }, tail_run(head));
         [runs, last].concat()
+    }
+
+    /// The role switches of these entries, each with its place.
+    fn switching_runs(&self, geometry: Geometry, written: &[(usize, Entry)]) -> Vec<Run> {
+        let switch = |(index, entry): &(usize, Entry)| Store::Entry(geometry.entry_at(*index), write_entry(Some(self.switched(*entry))));
+        written.iter().map(|one| Run::Single(switch(one))).collect()
     }
 
     /// The log entry of a block of a commit.
@@ -1253,12 +1416,13 @@ impl Model {
         }
     }
 
-    /// What a commit stores of one block, but for Head.
+    /// What a commit stores of one block, and a put: Head's store is the last.
     fn logging_runs(&self, geometry: Geometry, block: &[u8], index: usize, entry: Entry, head: u64) -> Vec<Run> {
         let mut runs = vec![
             Run::words(geometry.block_at(entry.current), block),
             Run::Single(Store::Entry(geometry.entry_at(index), write_entry(Some(entry)))),
             Run::Single(Store::Word(geometry.slot_at(head), entry.number.to_be_bytes())),
+            Run::Single(Store::Word(64, ((head + 1) % geometry.slots).to_be_bytes())),
         ];
         if self.slips(Slip::SlotBeforeEntry) {
             runs.swap(1, 2);
@@ -1312,7 +1476,7 @@ impl Model {
             Some(Slip::OwnBlockEvicted) => Model::default().victims(card, table, save.numbers).len() < missing,
             _ => victims.len() < missing,
         };
-        self.check_save(card, save, asked && self.is_bad(table, card.geometry.data_blocks), no_room)?;
+        self.check_commit(card, save, asked && self.is_bad(table, card.geometry.data_blocks), no_room)?;
         victims.truncate(if missing > 0 && self.slips(Slip::OneVictimMore) { missing + 1 } else { missing });
         let (mut left, mut evictions) = (card.clone(), Vec::new());
         for victim in &victims {
@@ -1401,7 +1565,7 @@ impl Model {
     }
 
     pub fn recover_list(&self, bytes: &[u8]) -> Result<Vec<Store>, u32> {
-        let card = self.open(Call::Recover, bytes, None)?;
+        let card = self.checked(Call::Recover, bytes, None)?;
         let mut stores = Vec::new();
         for (index, entry) in card.entries.iter().enumerate() {
             let Some(entry) = entry else { continue };
@@ -1439,7 +1603,7 @@ impl Model {
 
     /// The stores of an upgrade: the header's first word, with today's version in it.
     pub fn upgrade_list(&self, bytes: &[u8]) -> Result<Vec<Store>, u32> {
-        let opened = self.open(Call::Upgrade, bytes, None);
+        let opened = self.checked(Call::Upgrade, bytes, None);
         let settled = match opened {
             Ok(card) if self.slips(Slip::UpgradeUnsettled) => Some(card),
             Err(4..=6) if self.slips(Slip::UpgradeDamaged) => None,
@@ -1610,7 +1774,7 @@ impl Model {
     fn place(&self, card: &[u8], disk: &[u8], block: u64, read: Option<(&[u8], usize)>) -> Result<Place, u32> {
         let is_bad = |card: &Card| read.is_some_and(|(table, _)| self.is_bad(table, card.geometry.data_blocks));
         let call = if read.is_some() { Call::Read } else { Call::Look };
-        if self.slips(Slip::ReadTableBeforeSettled) && is_bad(&self.open(call, card, Some(disk.len()))?) {
+        if self.slips(Slip::ReadTableBeforeSettled) && is_bad(&self.checked(call, card, Some(disk.len()))?) {
             return Err(16);
         }
         let opened = self.open_settled(call, card, Some(disk.len()))?;
@@ -1688,6 +1852,156 @@ impl Model {
             map.iter_mut().zip(before).for_each(|(word, old)| *word |= old);
         }
         answer
+    }
+}
+
+/// Open, put and finish.
+impl Model {
+    /// The record as the call sees it: two words, or none.
+    fn recorded(&self, record: &[u64]) -> Option<[u64; 2]> {
+        let words = match record {
+            [tail, count] => [*tail, *count],
+            [tail, count, ..] if self.slips(Slip::LongRecordTaken) => [*tail, *count],
+            _ if self.slips(Slip::OddRecordAsZeros) => [0; 2],
+            _ => return None,
+        };
+        match self.slip {
+            Some(Slip::RecordNarrowed(bits)) => Some(words.map(|word| word & ((1 << bits) - 1))),
+            _ => Some(words),
+        }
+    }
+
+    /// Check 18.
+    fn check_record(&self, card: &Card, record: &[u64]) -> Result<[u64; 2], u32> {
+        let Some([tail, count]) = self.recorded(record) else { return Err(18) };
+        let (logged, window) = (card.logged_numbers(), &card.window);
+        let in_window = logged.iter().all(|number| window.contains(number));
+        let with_role = window.iter().all(|number| logged.contains(number));
+        let matches = match self.slip {
+            Some(Slip::WindowTwiceTaken) => in_window && with_role,
+            Some(Slip::RoleOutsideTaken) => with_role && window.iter().all(|number| window.iter().filter(|one| *one == number).count() == 1),
+            Some(Slip::NoRoleTaken) => in_window,
+            Some(Slip::RolesCounted) => logged.len() == window.len(),
+            _ => card.record().is_some(),
+        };
+        let tail_fits = tail == card.tail || self.slips(Slip::TailUnasked);
+        let count_fits = count == window.len() as u64 || self.slips(Slip::CountUnasked);
+        match (matches && tail_fits && count_fits, self.slip) {
+            (true, _) => Ok([tail, count]),
+            (false, Some(Slip::RecordAskedLast)) => Ok([tail, count]),
+            (false, Some(Slip::SettledForRecord)) if !card.settled() && card.record().is_none() => Err(7),
+            _ => Err(18),
+        }
+    }
+
+    /// Checks 1, 2, 4 to 6, 18 and 15, and the record.
+    fn check_pending(&self, call: Call, bytes: &[u8], map: &[u64], record: &[u64], choice: &[u8]) -> Result<(Card, [u64; 2]), u32> {
+        let card = self.checked(call, bytes, None)?;
+        if self.slips(Slip::MapBeforeRecord) {
+            self.check_map(&card, map)?;
+        }
+        let record = self.check_record(&card, record)?;
+        if self.slips(Slip::ChoiceBeforeMap) && call == Call::Put && self.is_wrong(choice, card.geometry.block() / 8) {
+            return Err(17);
+        }
+        if !self.slips(Slip::MapAskedLast) {
+            self.check_map(&card, map)?;
+        }
+        Ok((card, record))
+    }
+
+    /// Where 18 is asked after all: it holds of a card that was let by.
+    fn asked_last(&self, card: &Card, [tail, count]: [u64; 2]) -> Result<(), u32> {
+        match self.slip {
+            Some(Slip::RecordAskedLast) if card.record() != Some([tail, count]) => Err(18),
+            _ => Ok(()),
+        }
+    }
+
+    /// The searches of a put.
+    fn put_homes(&self, card: &Card, tail: u64) -> Homes {
+        let from = |slips: &[Slip]| match self.slip {
+            Some(Slip::SearchFromZero) => 0,
+            Some(slip) if slips.contains(&slip) => card.head,
+            _ => tail,
+        };
+        let from_block = from(&[Slip::PutFromHead, Slip::PutBlockFromHead]);
+        let is_current = |block: usize| card.in_use().any(|entry| entry.current as usize == block);
+        let blocks = match self.slip {
+            Some(Slip::PreviousGivenOut) => walk(card.geometry.data_blocks, from_block, |block| !is_current(block)),
+            _ => card.free_from(from_block),
+        };
+        Homes { blocks, entries: card.unused_from(from(&[Slip::PutFromHead, Slip::PutEntryFromHead])) }
+    }
+
+    /// The runs of a put, or which of its own checks refuses it.
+    fn put_runs(&self, card: &Card, [tail, count]: [u64; 2], save: Save) -> Result<Vec<Run>, u32> {
+        let (geometry, number, homes) = (card.geometry, save.numbers[0], self.put_homes(card, tail));
+        let over = card.entry_for(number);
+        let own = Own {
+            bad_table: false,
+            bad_count: count >= geometry.slots - 1 && !self.slips(Slip::FullWindowTaken),
+            repeats: card.window.contains(&number) || (over.is_some() && self.slips(Slip::CachedPutRefused)),
+            no_room: homes.blocks.is_empty(),
+        };
+        let unasked: &[u32] = if let Some(Slip::PutUnasked(number)) = &self.slip { std::slice::from_ref(number) } else { &[] };
+        self.check_save(card, save, own, unasked)?;
+        self.asked_last(card, [tail, count])?;
+        // a wrong model that does not ask 9 or 14 stores what it finds
+        let home = homes.blocks.first().copied().unwrap_or((tail % geometry.data_blocks) as usize);
+        let index = over.or(homes.entries.first().copied()).unwrap_or(home);
+        let entry = self.logged(card, number, over.and_then(|index| card.entries[index]), home as u32);
+        let mut block = save.data.to_vec();
+        block.resize(geometry.block(), 0);
+        Ok(self.logging_runs(geometry, &block, index, entry, card.head))
+    }
+
+    /// The runs of a finish, or 8.
+    fn finish_runs(&self, card: &Card, [tail, count]: [u64; 2]) -> Result<Vec<Run>, u32> {
+        lowest(&[(8, count == 0 && !self.slips(Slip::EmptyFinished))])?;
+        self.asked_last(card, [tail, count])?;
+        let mut places: Vec<usize> = card.window.iter().filter_map(|number| card.entry_for(*number)).collect();
+        if self.slips(Slip::FinishByPlace) {
+            places.sort();
+        }
+        let switched: Vec<(usize, Entry)> = places.iter().map(|place| (*place, card.entries[*place].unwrap())).collect();
+        let mut runs = self.switching_runs(card.geometry, &switched);
+        let early = usize::from(self.slips(Slip::FinishTailEarly));
+        runs.insert(runs.len().saturating_sub(early), tail_run(card.head));
+        Ok(runs)
+    }
+
+    /// What a put leaves in its record: done, it counts one more; cut or refused, it is what it was.
+    fn hand_record_on(&self, record: &mut [u64], answer: Answer) {
+        let next = match answer {
+            Answer::Done(_) => !self.slips(Slip::RecordStays),
+            Answer::Cut => self.slips(Slip::RecordAfterCut),
+            Answer::Refused(_) => self.slips(Slip::RecordAfterRefusal),
+            Answer::Malformed(..) => false,
+        };
+        if let (true, Some(count)) = (next, record.get_mut(1)) {
+            *count = count.wrapping_add(1);
+        }
+    }
+
+    /// The map that a done put or finish hands on, by the card and the map that it found.
+    fn pending_map(&self, call: Call, found: &Card, number: u64, before: &[u64], map: &mut [u64]) {
+        let of_save = |entry: &&Entry| call == Call::Finish && found.undoable(entry);
+        let is_over = |entry: &&Entry| call == Call::Put && entry.number == number;
+        let mut words: [u64; 2] = [before[0], before[1]];
+        match (self.slip, call) {
+            (Some(Slip::OldMapAfterPut), Call::Put) | (Some(Slip::OldMapAfterFinish), Call::Finish) => {}
+            (Some(Slip::PutFreesPrevious), Call::Put) => {
+                words = [map[0], map[1]];
+                found.in_use().filter(is_over).for_each(|entry| clear_bit(&mut words, entry.current as usize));
+            }
+            (Some(Slip::FinishFreesCurrent), Call::Finish) => {
+                let previous = found.in_use().filter(of_save).filter_map(|entry| entry.previous);
+                previous.for_each(|block| clear_bit(&mut words, block as usize));
+            }
+            _ => return,
+        }
+        map.copy_from_slice(&words);
     }
 }
 
@@ -1820,6 +2134,58 @@ impl Calls for Model {
         answer
     }
 
+    fn open(&self, card: &[u8]) -> Opened {
+        let opened = self.checked(Call::Open, card, None);
+        let opened = if self.slips(Slip::OpenUnsettled) { opened } else { opened.and_then(Card::if_settled) };
+        match opened {
+            Ok(card) => Opened::Open(card.record().unwrap_or([card.tail, 0])),
+            Err(number) => Opened::Refused(number),
+        }
+    }
+
+    fn put(
+        &self,
+        card: &mut [u8],
+        map: &mut [u64],
+        record: &mut [u64],
+        block: u64,
+        data: &[u8],
+        choice: &[u8],
+        allowance: u64,
+    ) -> Answer {
+        let choice = self.looked_at(choice, allowance);
+        let checked = self.check_pending(Call::Put, card, map, record, choice);
+        let save = Save { numbers: &[block], data, choice };
+        let list = checked.and_then(|(opened, record)| self.put_runs(&opened, record, save));
+        let (before, found) = (map.to_vec(), Card::open(card, None));
+        let answer = self.make(list, choice, allowance, card, &mut [], map);
+        self.hand_record_on(record, answer);
+        match (answer, found) {
+            (Answer::Done(m), Ok(found)) => {
+                self.pending_map(Call::Put, &found, block, &before, map);
+                Answer::Done(if self.slips(Slip::PutCountsCommit) { m + 2 } else { m })
+            }
+            _ => answer,
+        }
+    }
+
+    fn finish(&self, card: &mut [u8], map: &mut [u64], record: &mut [u64], allowance: u64) -> Answer {
+        let checked = self.check_pending(Call::Finish, card, map, record, &[]);
+        let list = checked.and_then(|(opened, record)| self.finish_runs(&opened, record));
+        let (before, found) = (map.to_vec(), Card::open(card, None));
+        let answer = self.make(list, &[], allowance, card, &mut [], map);
+        match (answer, found) {
+            (Answer::Done(m), Ok(found)) => {
+                self.pending_map(Call::Finish, &found, 0, &before, map);
+                if self.slips(Slip::FinishWritesRecord) {
+                    record.fill(0);
+                }
+                Answer::Done(if self.slips(Slip::FinishCountsSwitches) { m - 1 } else { m })
+            }
+            _ => answer,
+        }
+    }
+
     fn upgrade(&self, card: &mut [u8], allowance: u64) -> Answer {
         let runs = self.upgrade_list(card).map(|stores| stores.into_iter().map(Run::Single).collect());
         let allowance = if self.slips(Slip::UpgradeFree) { u64::MAX } else { allowance };
@@ -1873,7 +2239,7 @@ impl Calls for Model {
     }
 
     fn state(&self, card: &[u8]) -> State {
-        let card = match self.open(Call::State, card, None) {
+        let card = match self.checked(Call::State, card, None) {
             Ok(card) => card,
             Err(number) => return State::Refused(number),
         };
@@ -1895,7 +2261,7 @@ impl Calls for Model {
     }
 
     fn cached(&self, card: &[u8], place: u64) -> Cached {
-        let opened = self.open(Call::Cached, card, None);
+        let opened = self.checked(Call::Cached, card, None);
         let opened = if self.slips(Slip::CachedUnsettled) { opened } else { opened.and_then(Card::if_settled) };
         let card = match opened {
             Ok(card) => card,
@@ -1913,7 +2279,7 @@ impl Calls for Model {
     }
 
     fn make_map(&self, card: &[u8]) -> FreeMap {
-        let opened = self.open(Call::MakeMap, card, None);
+        let opened = self.checked(Call::MakeMap, card, None);
         let opened = if self.slips(Slip::MapOfSettledAlone) { opened.and_then(Card::if_settled) } else { opened };
         match opened {
             Ok(card) => FreeMap::Made(self.given(&card)),

@@ -4,6 +4,7 @@
 use crate::choices::{Pick, PICKS};
 use crate::drive::{data_of, done, every_list, first_disk, make_in_full, Pair, Row, Snapshot, Step, Tally};
 use crate::model::{commit_stores, map_of, zeros, Card, Model, Run, Store};
+use crate::pending::in_parts;
 use crate::random::{mix, Random};
 use crate::tables::ORDERS;
 use crate::{Answer, Calls, Geometry};
@@ -153,18 +154,18 @@ pub fn evicted(runs: &[Run], allowance: u64, card: &[u8]) -> Vec<usize> {
     entries
 }
 
-/// Evicts of the victims, as many as are missing, and then the commit, all on one implementation. Gives what they leave and the count of
-/// their stores.
+/// Evicts of the victims, as many as are missing, and then the commit, itself made of puts and a finish, all on one implementation. Gives what
+/// they leave and the count of their stores.
 pub fn in_a_row(calls: &dyn Calls, from: Snapshot, victims: &[u64], numbers: &[u64], data: &[u8]) -> Result<(Snapshot, u64), String> {
-    let Snapshot { mut card, mut disk, table } = from;
+    let Snapshot { mut card, mut disk, table, .. } = from;
     let opened = Card::open_settled(&card, Some(disk.len())).map_err(|number| format!("a card refused with {number}"))?;
     let missing = numbers.len().saturating_sub(opened.free_blocks().len());
     let (mut map, choice, mut stores) = (map_of(&card), zeros(opened.geometry.block()), 0);
     for victim in &victims[..missing] {
         stores += done(calls.evict(&mut card, &mut disk, &mut map, *victim, &choice, u64::MAX))?;
     }
-    stores += done(calls.commit(&mut card, &mut map, numbers, data, &choice, u64::MAX))?;
-    Ok((Snapshot { card, disk, table }, stores))
+    stores += done(in_parts(calls, &mut card, &mut map, numbers, data, &choice, u64::MAX)?)?;
+    Ok((Snapshot::new(card, disk, table), stores))
 }
 
 /// Saves of more blocks than are free on a card of four data blocks: with victims clean and modified, against the order of the entries,
@@ -310,7 +311,9 @@ fn crowded_save(pair: &mut Pair, random: &mut Random, geometry: Geometry, row: &
     let answer = pair.commit_making_room(&numbers, &data, random.pick(&PICKS), allowance)?;
     row.feed(&numbers, &data, answer);
     if answer == Answer::Cut {
-        done(pair.recover(u64::MAX)?)?;
+        let recovery = pair.recover(u64::MAX)?;
+        row.recover(recovery);
+        done(recovery)?;
     }
     numbers.iter().take(3).try_for_each(|number| row.holds(pair, *number))
 }

@@ -271,9 +271,8 @@ fn entries_of(card: &[u8], geometry: Geometry, window: Option<&[(u64, u64)]>) ->
 }
 
 fn free_of(card: &[u8]) -> Option<Row> {
-    let mut free = Card::open(card, None).ok()?.free_blocks();
-    free.sort();
-    Some(free.iter().map(|block| block.to_string()).collect())
+    let card = Card::open(card, None).ok()?;
+    Some((0..card.geometry.data_blocks as usize).filter(|block| card.is_free(*block)).map(|block| block.to_string()).collect())
 }
 
 /// An old card, which state refuses for its version, is told from its bytes.
@@ -500,7 +499,7 @@ entries: V in use, P previous modified, M modified, R log role
       1  8300000000000005 FFFFFFFF 00000001  V - M R       5     FRESH        1       yes      none
 
 free data blocks
-    0   3
+    3
 
 condition  unsettled, undoable entries 2, slots in the window 1
 ";
@@ -529,7 +528,7 @@ condition  unsettled, undoable entries 2, slots in the window 1
             (" R  ", " -  "),
             ("V P M R", "V - M R"),
             ("V - M R", "V P M R"),
-            ("  0   3\n", " none\n"),
+            ("    3\n", " none\n"),
             ("undoable ", "settled  "),
             ("window\n", "entries: V in use, P previous modified, M modified, R log role\n"),
         ];

@@ -8,7 +8,7 @@ use crate::drive::{
 };
 use crate::model::{read_entry, Card, Model, NOW, OLD, VERSION_AT};
 use crate::random::{mix, Random};
-use crate::{Answer, Calls, Geometry};
+use crate::{Answer, Calls, Geometry, Opened};
 
 /// The versions that are tried: both that there are, the ones next to them and the largest byte.
 pub const VERSIONS: [u8; 5] = [0, OLD, NOW, 3, 255];
@@ -45,11 +45,19 @@ pub enum Over {
 
 pub const OVERS: [Over; 3] = [Over::Modified, Over::Clean, Over::Absent];
 
-/// What a recovery owes after a commit of today that was cut: the entries that were there, and no others, each at its place with its number,
-/// its current block and whether it is modified. Evictions that a room-making commit had finished stay.
+fn over(card: &Card, number: u64) -> Over {
+    match card.entry_for(number).and_then(|index| card.entries[index]) {
+        Some(entry) if entry.modified => Over::Modified,
+        Some(_) => Over::Clean,
+        None => Over::Absent,
+    }
+}
+
+/// What a recovery owes after a commit of today that was cut, and of a pending save: the entries that were there, and no others, each at its
+/// place with its number, its current block and whether it is modified. Evictions that a room-making commit had finished stay.
 #[derive(Clone, Debug)]
 pub struct Owed {
-    /// The commit, as its place in `CALLS`.
+    /// The commit, or put where there was none, as its place in `CALLS`.
     pub call: usize,
     pub overs: Vec<Over>,
     entries: Vec<Option<(u64, u32, bool)>>,
@@ -61,14 +69,14 @@ fn told(card: &Card) -> Vec<Option<(u64, u32, bool)>> {
 
 impl Owed {
     pub fn new(call: usize, before: Card, evicted: &[usize], numbers: &[u64]) -> Owed {
-        let over = |number: &u64| match before.entry_for(*number).and_then(|index| before.entries[index]) {
-            Some(entry) if entry.modified => Over::Modified,
-            Some(_) => Over::Clean,
-            None => Over::Absent,
-        };
-        let (overs, mut entries) = (numbers.iter().map(over).collect(), told(&before));
+        let (overs, mut entries) = (numbers.iter().map(|number| over(&before, *number)).collect(), told(&before));
         evicted.iter().for_each(|index| entries[*index] = None);
         Owed { call, overs, entries }
+    }
+
+    /// One more put of the save, on the card that it found.
+    pub fn saves_over(&mut self, found: &Card, number: u64) {
+        self.overs.push(over(found, number));
     }
 
     pub fn is_paid(&self, after: &Card) -> Result<(), String> {
@@ -89,9 +97,12 @@ fn refuses_old(pair: &mut Pair, geometry: Geometry) -> Result<(), String> {
         pair.preview(&[0], &data, Output::Whole)?,
         pair.load(0, Pick::Zeros, u64::MAX)?,
         pair.evict(0, Pick::Zeros, u64::MAX)?,
+        pair.put(0, &data, Pick::Zeros, u64::MAX)?,
+        pair.finish(u64::MAX)?,
     ];
-    if answers != [Answer::Refused(1); 5] || pair.snapshot() != before {
-        return Err(format!("an old card is not refused with 1, or changed: {answers:?}"));
+    let opened = pair.open()?;
+    if answers != [Answer::Refused(1); 7] || opened != Opened::Refused(1) || pair.snapshot() != before {
+        return Err(format!("an old card is not refused with 1, or changed: {answers:?}, {opened:?}"));
     }
     Ok(())
 }
@@ -159,7 +170,7 @@ fn found_old(pair: &mut Pair, geometry: Geometry, blocks: u64, step: &Step, answ
     as_left(pair, geometry, blocks, &row)?;
     refuses_old(pair, geometry)?;
     every_allowance(pair, blocks, &row)?;
-    every_recovery(pair, blocks, &row)?;
+    every_recovery(pair, blocks, &mut row)?;
     every_allowance(pair, blocks, &row)?;
     done(pair.upgrade(1)?)?;
     if pair.upgrade(u64::MAX)? != Answer::Refused(1) {
@@ -190,7 +201,10 @@ pub fn across<'a>(one: &'a dyn Calls, other: &'a dyn Calls, geometry: Geometry, 
     for _ in 0..calls {
         match random.below(6) {
             0 if pair.is_old() => drop(pair.upgrade(random.pick(&[0, 0, 1, u64::MAX]))?),
-            1 if pair.is_old() => drop(pair.recover(random.pick(&[0, 1, 2, u64::MAX]))?),
+            1 if pair.is_old() => {
+                let answer = pair.recover(random.pick(&[0, 1, 2, u64::MAX]))?;
+                row.recover(answer);
+            }
             _ => some_call(&mut pair, &mut random, geometry, &mut row)?,
         }
         keeps_rule(&mut pair, geometry, &row)?;
@@ -200,7 +214,7 @@ pub fn across<'a>(one: &'a dyn Calls, other: &'a dyn Calls, geometry: Geometry, 
 
 /// The rule after a list of calls: a settled card has the row; a recovery is not refused, and leaves a settled card that has the row too. The
 /// card is then set back.
-fn keeps_rule(pair: &mut Pair, geometry: Geometry, row: &Row) -> Result<(), String> {
+pub fn keeps_rule(pair: &mut Pair, geometry: Geometry, row: &Row) -> Result<(), String> {
     if pair.is_settled()? {
         all_hold(pair, geometry.disk_blocks, row)?;
     }

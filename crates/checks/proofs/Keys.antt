@@ -14,7 +14,7 @@ use Rattle.protocol.specs.Layout.{goodGeometry, versionOf}
 use Rattle.protocol.specs.Entry.{FRESH, entryAt}
 use Rattle.protocol.specs.Ring.{usedAt, undoableAt, settledBlock, isSettled}
 use Rattle.protocol.specs.Check.{goodEntryAt, entriesFit, alike, apart, apartBefore, entriesApart}
-use Rattle.protocol.proofs.Below.{absurd-bool, either, bool-same, and-left, and-right, and-both, and-fails, or-right, all-at, all-of, any-found, any-none}
+use Rattle.protocol.proofs.Below.{absurd-bool, either, bool-same, same-or-other, below-or-above, and-left, and-right, and-both, and-fails, or-right, all-at, all-of, any-found, any-none}
 use Rattle.protocol.proofs.Allowed.{UsedEntry, used-entry}
 use Rattle.protocol.proofs.Checks.{Limits, limits}
 use Rattle.protocol.proofs.Holds.{settled-undoable}
@@ -27,6 +27,19 @@ unfolding distinct lone keyed
 distinct-at f l n i j h ji iN b e =
     let found : anyBelow (keyed f (f i)) i ≡ true = any-found (keyed f (f i)) i j ji (eq-eqb (f j) (f i) e) in
     absurd-bool (all-at (lone f l) n i h iN) (rw (lt-ltb (f i) l b, found))
+
+-- an index whose key is below the limit is the only one that has it
+pub distinct-one : (f : ℕ → ℕ) (l n i j : ℕ) → distinct f l n ≡ true → i < n → j < n → f i < l → f i ≡ f j → i ≡ j
+distinct-one f l n i j d a b k e =
+    ⊎-elim
+    (λ (s : i ≡ j). s)
+    (λ (o : i ≡ j → ⊥).
+    absurd
+    (⊎-elim
+    (λ (t : i < j). distinct-at f l n j i d t b (rw e at k) e)
+    (λ (t : j ≤ i). distinct-at f l n i j d (omega arith) a k (sym e))
+    (below-or-above i j)))
+    (same-or-other i j)
 
 pub distinct-of : (f : ℕ → ℕ) (l n : ℕ) → ((i j : ℕ) → j < i → i < n → f i < l → f j ≡ f i → ⊥) → distinct f l n ≡ true
 unfolding distinct lone keyed
@@ -55,7 +68,7 @@ distinct-same f h l n q =
 -- ---- keys of entries
 
 -- a key below a limit is one of an entry in use
-key-below : (u : Bool) (x l : ℕ) → l ≤ NONE → key u x < l → (u ≡ true) × (key u x ≡ x)
+pub key-below : (u : Bool) (x l : ℕ) → l ≤ NONE → key u x < l → (u ≡ true) × (key u x ≡ x)
 unfolding key
 key-below true x l h b = (refl, refl)
 key-below false x l h b = absurd (omega arith)

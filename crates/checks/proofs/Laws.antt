@@ -17,7 +17,7 @@ use Rattle.protocol.specs.declared.Geometry.{Geometry}
 use Rattle.protocol.specs.declared.Map.{Map}
 use Rattle.protocol.specs.Below.{allBelow, anyBelow}
 use Rattle.protocol.specs.Entry.{entryAt, unused}
-use Rattle.protocol.specs.Map.{mapBy, isMarked, freeCount}
+use Rattle.protocol.specs.Map.{mapBy, freeCount}
 use Rattle.protocol.specs.Ring.{roleFreeAt}
 use Rattle.protocol.specs.Check.{goodEntryAt, entriesFit}
 use Rattle.protocol.proofs.Below.{absurd-bool, last-or-before, all-more, all-fails, all-done}

@@ -4,6 +4,8 @@ pub mod Flags
 pub mod Fields
 pub mod Tally
 pub mod Settled
+pub mod Undoing
 pub mod Laws
-pub mod Order
 pub mod Search
+pub mod Marks
+pub mod Order

@@ -33,7 +33,7 @@ first-same p q (suc n) h =
     λ t. cond (ltb (e t) n) (e t) (cond (h n (omega arith) t) n (suc n))
 
 -- an entry in use for b has the key b
-key-for : (u : Bool) (x b : ℕ) → b < NONE → eqb (key u x) b ≡ u && eqb x b
+pub key-for : (u : Bool) (x b : ℕ) → b < NONE → eqb (key u x) b ≡ u && eqb x b
 unfolding key
 key-for true x b l = refl
 key-for false x b l = ne-eqb NONE b (omega arith)

@@ -1,18 +1,24 @@
--- Undoable entries and the keys of settled blocks, and check 6 put together from distinct keys. Assumes nothing.
+-- Undoable entries and the keys of settled blocks; and what a settled card's map and window are. Assumes nothing.
 use Prim.Native.Nat.{ℕ}
 use mathlib.Core.List.{List}
-use mathlib.Core.Bool.{Bool, true, false, cond, not, _&&_}
+use mathlib.Core.Bool.{Bool, true, false, cond, not, _&&_, _||_}
+use mathlib.Core.Logic.{⊎-elim}
 use mathlib.Core.Path.{_≡_, sym, ap, _∙_}
-use borrow.Author.Tests.{not-true, not-false}
+use native.Mathlib.Omega.{arith}
+use borrow.Author.Tests.{not-true, not-false, le-leb}
 use Rattle.protocol.specs.declared.Geometry.{Geometry}
 use Rattle.protocol.specs.declared.Entry.{Entry}
+use Rattle.protocol.specs.Below.{allBelow}
 use Rattle.protocol.specs.Entry.{entryAt, inUse, hasLogRole}
-use Rattle.protocol.specs.Ring.{inWindow, usedAt, undoableAt, settledBlock, isSettled}
-use Rattle.protocol.specs.Check.{entriesApart}
-use Rattle.protocol.proofs.Below.{and-fails}
-use Rattle.checks.specs.Keys.{NONE, key, numberKey, currentKey, settledKey, undoableEntry, distinct}
-use Rattle.checks.specs.Passed.{Comparable}
-use Rattle.checks.proofs.Keys.{distinct-same, apart-keys, settled-keys}
+use Rattle.protocol.specs.Ring.{headOf, tailOf, windowLength, windowOf, inWindow, usedAt, undoableAt, settledBlock, isSettled}
+use Rattle.protocol.specs.Map.{mapBy, isMarked, currentMarked}
+use Rattle.protocol.specs.Pending.{roleInWindow, isMatched}
+use Rattle.protocol.proofs.Below.{either, and-fails, or-left, all-of}
+use Rattle.protocol.proofs.Loaded.{settled-ring, settled-role}
+use Rattle.protocol.proofs.Maps.{settled-marked}
+use Rattle.protocol.proofs.Words.{map-cong}
+use Rattle.checks.specs.Keys.{NONE, key, settledKey, entryKey, undoableEntry}
+use Rattle.checks.specs.Marks.{markedAt}
 
 -- ---- undoable entries
 
@@ -35,57 +41,54 @@ module _ (g : Geometry) (c : List ℕ) (e : Entry) (u : Bool) (used : u ≡ inUs
       let role : hasLogRole e ≡ false = sym q ∙ t in
       rw (on, role) p
 
--- the key of an entry's settled block
-keyOfEntry : Geometry → List ℕ → Entry → ℕ
-keyOfEntry g c e = key (inUse e) (cond (undoableEntry g c e) (e .previous) (e .current))
+-- ---- an entry's settled block and R, by its mark
 
-module _ (g : Geometry) (c : List ℕ) (i : ℕ) (e : Entry) (u : Bool) (q : e ≡ entryAt g c i) (used : u ≡ inUse e) where
-  key-is : keyOfEntry g c e ≡ settledKey g c i
-  unfolding keyOfEntry settledKey settledBlock undoableAt usedAt undoableEntry
-  key-is = ap (keyOfEntry g c) q
+module _ (e : Entry) (m u r : Bool) (used : u ≡ inUse e) where
+  pub key-unused : not u ≡ true → NONE ≡ entryKey e m
+  unfolding entryKey key
+  key-unused h = let off : inUse e ≡ false = sym used ∙ not-true u h in rw off
 
-  pub settled-unused : not u ≡ true → NONE ≡ settledKey g c i
-  unfolding keyOfEntry key
-  settled-unused h = let off : inUse e ≡ false = sym used ∙ not-true u h in sym (sym key-is ∙ rw off)
+  module _ (role : r ≡ hasLogRole e) (on : not u ≡ false) where
+    key-used : entryKey e m ≡ cond (r || m) (e .previous) (e .current)
+    unfolding entryKey key
+    key-used = let t : inUse e ≡ true = sym used ∙ not-false u on in rw (t, sym role)
 
-  pub settled-previous : (r : Bool) → not u ≡ false → r ≡ undoableEntry g c e → r ≡ true → e .previous ≡ settledKey g c i
-  unfolding keyOfEntry key
-  settled-previous r h p t =
-      let on : inUse e ≡ true = sym used ∙ not-false u h in
-      let un : undoableEntry g c e ≡ true = sym p ∙ t in
-      sym (sym key-is ∙ rw (on, un))
+    pub key-previous : r || m ≡ true → e .previous ≡ entryKey e m
+    key-previous h = sym (key-used ∙ rw h)
 
-  pub settled-current : (r : Bool) → not u ≡ false → r ≡ undoableEntry g c e → r ≡ false → e .current ≡ settledKey g c i
-  unfolding keyOfEntry key
-  settled-current r h p t =
-      let on : inUse e ≡ true = sym used ∙ not-false u h in
-      let un : undoableEntry g c e ≡ false = sym p ∙ t in
-      sym (sym key-is ∙ rw (on, un))
+    pub key-current : r || m ≡ false → e .current ≡ entryKey e m
+    key-current h = sym (key-used ∙ rw h)
 
--- ---- check 6
+-- of an entry in use the mark says whether its number stands in the window
+module _ (g : Geometry) (c : List ℕ) (i : ℕ) (m : Bool) (q : m ≡ markedAt g c (windowOf g c) i) where
+  pub marked-key : entryKey (entryAt g c i) m ≡ settledKey g c i
+  unfolding entryKey settledKey settledBlock undoableAt usedAt markedAt inWindow key
+  marked-key =
+      ⊎-elim
+      (λ (u : inUse (entryAt g c i) ≡ true). rw (q, u))
+      (λ (u : inUse (entryAt g c i) ≡ false). rw u)
+      (either (inUse (entryAt g c i)))
 
-module _ (g : Geometry) (c xs : List ℕ) (shared settled : Bool) (h : Comparable g c xs shared settled) where
-  abbrev numbersApart : Bool
-  numbersApart = distinct (numberKey g c) NONE (g .blocks)
+  pub marked-role : not (inUse (entryAt g c i) && hasLogRole (entryAt g c i)) || m ≡ roleInWindow g c i
+  unfolding roleInWindow usedAt markedAt inWindow
+  marked-role =
+      ⊎-elim
+      (λ (u : inUse (entryAt g c i) ≡ true). rw (q, u))
+      (λ (u : inUse (entryAt g c i) ≡ false). rw u)
+      (either (inUse (entryAt g c i)))
 
-  abbrev currentsApart : Bool
-  currentsApart = distinct (currentKey g c) 128 (g .blocks)
+-- ---- a settled card
 
-  abbrev settledApart : Bool
-  settledApart = distinct (settledKey g c) 128 (g .blocks)
+pub settled-matched : (g : Geometry) (c : List ℕ) → isSettled g c ≡ true → true ≡ isMatched g c
+unfolding isMatched windowOf windowLength allBelow roleInWindow
+settled-matched g c s =
+    let same : headOf c ≡ tailOf c = settled-ring g c s in
+    let none : windowOf g c ≡ 0 = rw (le-leb (tailOf c) (headOf c) (omega arith)) (omega arith) in
+    let roles : allBelow (roleInWindow g c) (g .blocks) ≡ true =
+    all-of _ _
+    (λ i l.
+    or-left (not (usedAt g c i && hasLogRole (entryAt g c i))) _ (ap not (and-fails (usedAt g c i) _ (settled-role g c s i l)))) in
+    sym (rw (none, roles))
 
-  three : entriesApart g c ≡ numbersApart && (currentsApart && settledApart)
-  three = apart-keys g c (h .fitted .good) (h .fits)
-
-  pub apart-numbers : (r : Bool) → r ≡ numbersApart → not r ≡ true → false ≡ entriesApart g c
-  apart-numbers r e t =
-      let off : numbersApart ≡ false = sym e ∙ not-true r t in
-      sym (three ∙ rw off)
-
-  pub apart-rest : (t : Bool) → numbersApart ≡ true → t ≡ settledApart → t ≡ entriesApart g c
-  apart-rest t a et = let b : currentsApart ≡ true = h .apart in sym (three ∙ rw (a, b) (sym et))
-
-  pub apart-settled : numbersApart ≡ true → settled ≡ true → true ≡ entriesApart g c
-  apart-settled a t =
-      let q : isSettled g c ≡ true = sym (h .settled-is) ∙ t in
-      apart-rest true a (sym (h .apart) ∙ distinct-same (currentKey g c) (settledKey g c) 128 (g .blocks) (settled-keys g c q))
+pub settled-map : (g : Geometry) (c : List ℕ) → isSettled g c ≡ true → mapBy (currentMarked g c) ≡ mapBy (isMarked g c)
+settled-map g c s = map-cong _ _ (λ d l. sym (settled-marked g c s d))

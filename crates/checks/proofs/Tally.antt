@@ -3,7 +3,7 @@
 use Prim.Native.Nat.{ℕ, zero, suc, _+_, _-_, _≤_, _<_}
 use mathlib.Core.List.{List}
 use mathlib.Core.Bool.{Bool, true, false, cond, not, _&&_, _||_}
-use mathlib.Core.Logic.{⊎-elim}
+use mathlib.Core.Logic.{_⊎_, inl, inr, ⊎-elim}
 use mathlib.Core.Path.{_≡_, refl, sym, ap, _∙_, subst}
 use native.Mathlib.Numerals.{add-one}
 use native.Mathlib.Omega.{arith}
@@ -13,17 +13,18 @@ use Rattle.protocol.specs.declared.Geometry.{Geometry}
 use Rattle.protocol.specs.declared.Map.{Map}
 use Rattle.protocol.specs.Below.{allBelow, anyBelow, countBelow}
 use Rattle.protocol.specs.Entry.{entryAt}
-use Rattle.protocol.specs.Ring.{usedAt}
-use Rattle.protocol.specs.Search.{takenBy}
-use Rattle.protocol.specs.Map.{mapBy, isMarked, freeCount}
-use Rattle.protocol.proofs.Below.{either, absurd-bool, bool-same, below-or-above, and-fails, or-none, or-right, any-cong, any-miss, count-hit, count-miss, count-le}
+use Rattle.protocol.specs.Ring.{usedAt, undoableAt, settledBlock}
+use Rattle.protocol.specs.Search.{currentIs, previousIs}
+use Rattle.protocol.specs.Map.{mapBy, isMarked, currentMarked, freeCount}
+use Rattle.protocol.proofs.Below.{either, absurd-bool, bool-same, below-or-above, and-left, and-right, and-both, and-fails, or-none, or-left, or-right, or-true, any-found, any-witness, any-cong, any-miss, count-hit, count-miss, count-le}
 use Rattle.protocol.proofs.Searches.{count-cong}
-use Rattle.protocol.proofs.Maps.{marked-below, marked-beyond}
+use Rattle.protocol.proofs.Maps.{current-marked, marked-either}
 use Rattle.protocol.proofs.Words.{map-cong}
 use Rattle.freemap.specs.Bits.{withBit}
 use Rattle.freemap.proofs.Maps.{with-by}
 use Rattle.freemap.proofs.Count.{free-by, count-with, count-kept}
-use Rattle.checks.specs.Keys.{NONE, key, currentKey, keyed, lone, distinct}
+use Rattle.checks.specs.Keys.{NONE, key, currentKey, settledKey, keyed, lone, distinct}
+use Rattle.checks.proofs.Keys.{key-below}
 
 -- the blocks that are marked after i keys of f: those of `base`, and those that are one of the keys
 abbrev marked : (ℕ → Bool) → (ℕ → ℕ) → ℕ → ℕ → Bool
@@ -167,15 +168,72 @@ unfolding key
 key-taken true x p l = refl
 key-taken false x p l = ne-eqb NONE p (omega arith)
 
-pub map-given : (g : Geometry) (c : List ℕ) → mapBy (marked (leb (g .blocks)) (currentKey g c) (g .blocks)) ≡ mapBy (isMarked g c)
-unfolding takenBy currentKey keyed
+current-beyond : (g : Geometry) (c : List ℕ) (d : ℕ) → g .blocks ≤ d → currentMarked g c d ≡ true
+unfolding currentMarked
+current-beyond g c d l = rw (le-ltb d (g .blocks) l)
+
+pub map-given : (g : Geometry) (c : List ℕ) → mapBy (marked (leb (g .blocks)) (currentKey g c) (g .blocks)) ≡ mapBy (currentMarked g c)
+unfolding currentIs currentKey keyed
 map-given g c =
     map-cong _ _
     (λ d l.
     ⊎-elim
     (λ (b : d < g .blocks).
     ap (λ (t : Bool). t || anyBelow (keyed (currentKey g c) d) (g .blocks)) (lt-leb (g .blocks) d b)
-    ∙ any-cong (keyed (currentKey g c) d) (takenBy g c d) (g .blocks) (λ i k. key-taken (usedAt g c i) (entryAt g c i .current) d l)
-    ∙ sym (marked-below g c d b))
-    (λ (b : g .blocks ≤ d). ap (λ (t : Bool). t || anyBelow (keyed (currentKey g c) d) (g .blocks)) (le-leb (g .blocks) d b) ∙ sym (marked-beyond g c d b))
+    ∙ any-cong (keyed (currentKey g c) d) (currentIs g c d) (g .blocks) (λ i k. key-taken (usedAt g c i) (entryAt g c i .current) d l)
+    ∙ sym (current-marked g c d b))
+    (λ (b : g .blocks ≤ d). ap (λ (t : Bool). t || anyBelow (keyed (currentKey g c) d) (g .blocks)) (le-leb (g .blocks) d b) ∙ sym (current-beyond g c d b))
     (below-or-above d (g .blocks)))
+
+-- a settled block is the previous block of an undoable entry, or the current one of another
+settled-hit : (g : Geometry) (c : List ℕ) (d i : ℕ) → d < 128 → keyed (settledKey g c) d i ≡ true → (currentIs g c d i ≡ true) ⊎ (previousIs g c d i ≡ true)
+unfolding keyed settledKey settledBlock currentIs previousIs
+settled-hit g c d i l h =
+    let e : settledKey g c i ≡ d = eqb-true _ _ h in
+    let (u, k) = key-below (usedAt g c i) (settledBlock g c i) 128 (omega arith) (omega arith) in
+    let b : cond (undoableAt g c i) (entryAt g c i .previous) (entryAt g c i .current) ≡ d = sym k ∙ e in
+    ⊎-elim
+    (λ (t : undoableAt g c i ≡ true). inr (and-both t (eq-eqb _ _ (rw t at b))))
+    (λ (t : undoableAt g c i ≡ false). inl (and-both u (eq-eqb _ _ (rw t at b))))
+    (either (undoableAt g c i))
+
+undoable-used : (g : Geometry) (c : List ℕ) (i : ℕ) → undoableAt g c i ≡ true → usedAt g c i ≡ true
+unfolding undoableAt
+undoable-used g c i t = and-left (usedAt g c i) _ t
+
+previous-hit : (g : Geometry) (c : List ℕ) (d i : ℕ) → previousIs g c d i ≡ true → keyed (settledKey g c) d i ≡ true
+unfolding keyed settledKey settledBlock previousIs key
+previous-hit g c d i h =
+    let t : undoableAt g c i ≡ true = and-left (undoableAt g c i) _ h in
+    let u : usedAt g c i ≡ true = undoable-used g c i t in
+    rw (u, t) (and-right (undoableAt g c i) _ h)
+
+-- what the settled blocks add to the current ones are the previous blocks of undoable entries
+pub map-both : (g : Geometry) (c : List ℕ)
+    → mapBy (λ d. currentMarked g c d || anyBelow (keyed (settledKey g c) d) (g .blocks)) ≡ mapBy (isMarked g c)
+map-both g c = map-cong _ _ (λ d l. same d l (below-or-above d (g .blocks)) ∙ sym (marked-either g c d))
+  where
+    same : (d : ℕ) → d < 128 → (d < g .blocks) ⊎ (g .blocks ≤ d)
+        → currentMarked g c d || anyBelow (keyed (settledKey g c) d) (g .blocks)
+        ≡ currentMarked g c d || (ltb d (g .blocks) && anyBelow (previousIs g c d) (g .blocks))
+    same d l (inr b) = rw (current-beyond g c d b)
+    same d l (inl b) =
+        rw (lt-ltb d (g .blocks) b)
+        (bool-same _ _
+        (λ h.
+        ⊎-elim
+        (λ t. or-left (currentMarked g c d) _ t)
+        (λ t.
+        let (i, li, k) = any-witness (keyed (settledKey g c) d) (g .blocks) t in
+        ⊎-elim
+        (λ z. or-left (currentMarked g c d) _ (current-marked g c d b ∙ any-found (currentIs g c d) (g .blocks) i li z))
+        (λ z. or-right (currentMarked g c d) _ (any-found (previousIs g c d) (g .blocks) i li z))
+        (settled-hit g c d i l k))
+        (or-true (currentMarked g c d) _ h))
+        (λ h.
+        ⊎-elim
+        (λ t. or-left (currentMarked g c d) _ t)
+        (λ t.
+        let (i, li, z) = any-witness (previousIs g c d) (g .blocks) t in
+        or-right (currentMarked g c d) _ (any-found (keyed (settledKey g c) d) (g .blocks) i li (previous-hit g c d i z)))
+        (or-true (currentMarked g c d) _ h)))

@@ -31,6 +31,10 @@ currentKey g c i = key (usedAt g c i) (entryAt g c i .current)
 unfoldable pub settledKey : Geometry → List ℕ → ℕ → ℕ
 settledKey g c i = key (usedAt g c i) (settledBlock g c i)
 
+-- the settled block of the entry e, which may stand anywhere, or FRESH, given whether its number stands in the window
+unfoldable pub entryKey : Entry → Bool → ℕ
+entryKey e marked = key (inUse e) (cond (hasLogRole e || marked) (e .previous) (e .current))
+
 -- the entry e, which may stand anywhere, is undoable
 unfoldable pub undoableEntry : Geometry → List ℕ → Entry → Bool
 undoableEntry g c e = inUse e && (hasLogRole e || inWindow g c (e .number))

@@ -1,4 +1,5 @@
 pub mod Keys
 pub mod Chain
 pub mod Fields
+pub mod Marks
 pub mod Passed

@@ -7,16 +7,18 @@ use ring::Window;
 ghost use mathlib.Core.Path.{_≡_};
 ghost use mathlib.Core.Bool.{true, false};
 ghost use Prim.Native.Nat.{ℕ, _+_, _≤_, _<_};
-ghost use lib.ListN.{length};
+ghost use lib.ListN.{length, replicate};
 ghost use Rattle.protocol.specs.Layout.{versionOf};
 ghost use Rattle.protocol.specs.Entry.{entryAt};
-ghost use Rattle.protocol.specs.Ring.{findEntry};
-ghost use Rattle.protocol.specs.Check.{entriesFit, entriesApart, damageRefusal, cardRefusal};
-ghost use Rattle.ring.specs.Fitted.{Fitted, Placed, WindowOf, Framed};
-ghost use Rattle.checks.specs.Keys.{NONE, settledKey, undoableEntry, numberKey, keyed, distinct};
+ghost use Rattle.protocol.specs.Below.{allBelow};
+ghost use Rattle.protocol.specs.Ring.{findEntry, windowOf};
+ghost use Rattle.protocol.specs.Check.{entriesFit, damageRefusal, cardRefusal};
+ghost use Rattle.ring.specs.Fitted.{Fitted, WindowOf, Framed};
+ghost use Rattle.checks.specs.Keys.{NONE, entryKey, undoableEntry, numberKey, keyed, distinct};
 ghost use Rattle.checks.specs.Chain.{lastBelow, Chains, Blank, Entered, Chained};
 ghost use Rattle.checks.specs.Fields.{Field, overOf, Numbered};
-ghost use Rattle.checks.specs.Passed.{Decoded, Comparable, Indexed, Inspected, Examined};
+ghost use Rattle.checks.specs.Marks.{slotOnce, Marked};
+ghost use Rattle.checks.specs.Passed.{Decoded, Comparable, Indexed, Windowed, Settles, Unsettled, Weighed, Inspected, Examined};
 
 // Entry i of the card.
 pub fn entry_of(g: Geometry, card: &[u8], i: usize) -> Entry
@@ -223,65 +225,126 @@ pub fn undoable(g: Geometry, card: &[u8], w: Window, e: Entry) -> bool
     ring::in_window(g, card, w, e.number)
 }
 
-// The key of the settled block of entry i: FRESH where it has none.
-fn settled_key(g: Geometry, card: &[u8], w: Window, i: usize) -> u32
-    requires { ⌜ Fitted g (now card) × WindowOf g (now card) w × (i < g .blocks) ⌝ }
-    ensures { λ r. ⌜ r ≡ settledKey g (now (card .entry)) i ⌝ }
+// The place of the entry in use for b, N where there is none.
+pub fn find(g: Geometry, card: &[u8], index: &[u8; 640], b: u64) -> usize
+    requires { ⌜ Indexed g (now card) (now index) × (b < NONE) ⌝ }
+    ensures { λ r. ⌜ r ≡ findEntry g (now (card .entry)) b ⌝ }
 {
-    let e = entry_of(g, card, i);
+    let at = chase(g, card, index, b, index[narrow(b % 512)]);
+    if at == 0 { g.blocks as usize } else { at - 1 }
+}
+
+// Marks the entry of the number in the window's slot j, and answers whether there is one, with R and not marked by a slot before.
+fn mark(
+    g: Geometry,
+    card: &[u8],
+    index: &[u8; 640],
+    w: Window,
+    j: u64,
+    marks: &mut [u8; 128],
+) -> bool
+    requires { ⌜ Windowed g (now card) (now index) w × (j < w .count) × Marked g (now card) (now marks) j ⌝ }
+    ensures { λ r. ⌜ Marked g (now (card .entry)) (now (marks .exit)) (j + 1) × (r ≡ slotOnce g (now (card .entry)) j) ⌝ }
+{
+    let at = find(g, card, index, ring::window_number(g, card, w, j));
+    if g.blocks as usize <= at {
+        return false;
+    }
+    let before = marks[at];
+    marks[at] = 1;
+    (before == 0) & codec::has_log_role(entry_of(g, card, at))
+}
+
+// Marks the entries whose numbers stand in the window, each found by the index; and whether each number stands there once, with R in its entry.
+fn mark_window(
+    g: Geometry,
+    card: &[u8],
+    index: &[u8; 640],
+    w: Window,
+    marks: &mut [u8; 128],
+) -> bool
+    requires { ⌜ Windowed g (now card) (now index) w × (now marks ≡ replicate 128 0) ⌝ }
+    ensures { λ r. ⌜ Marked g (now (card .entry)) (now (marks .exit)) (w .count) × (r ≡ allBelow (slotOnce g (now (card .entry))) (w .count)) ⌝ }
+{
+    let count = w.count;
+    let mut once = true;
+    let mut j: u64 = 0;
+    while j < count {
+        once = once & mark(g, card, index, w, j, marks);
+        j += 1;
+    }
+    once
+}
+
+// The key of an entry's settled block, from whether its number stands in the window: FRESH where it has none.
+fn settled_key(e: Entry, marked: bool) -> u32
+    ensures { λ r. ⌜ r ≡ entryKey e marked ⌝ }
+{
     if !codec::in_use(e) {
         return 65536;
     }
-    if undoable(g, card, w, e) {
+    if codec::has_log_role(e) | marked {
         e.previous
     } else {
         e.current
     }
 }
 
-// Whether no two settled blocks are equal: then as many are marked as there are.
-fn settled_apart(g: Geometry, card: &[u8]) -> bool
-    requires { ⌜ Fitted g (now card) × Placed g (now card) ⌝ }
-    ensures { λ r. ⌜ r ≡ distinct (settledKey g (now (card .entry))) 128 (g .blocks) ⌝ }
+// Whether no two settled blocks are equal, and their map; and whether each entry with R has its number in the window.
+pub struct Settling {
+    pub apart: bool,
+    pub roles: bool,
+    pub map: Map,
+}
+
+// One pass over the marked entries. Settled blocks are apart where as many are marked as there are.
+fn settle(g: Geometry, card: &[u8], marks: &[u8; 128]) -> Settling
+    requires { ⌜ Fitted g (now card) × Marked g (now card) (now marks) (windowOf g (now card)) ⌝ }
+    ensures { λ r. ⌜ Settles g (now (card .entry)) r ⌝ }
 {
-    let w = ring::window_of(g, card);
     let n = g.blocks as usize;
+    let mut roles = true;
     let mut count: u64 = 0;
     let mut map = Map { low: 0, high: 0 };
     let mut i: usize = 0;
     while i < n {
-        let k = wide(settled_key(g, card, w, i));
+        let e = entry_of(g, card, i);
+        let marked = marks[i] != 0;
+        let k = wide(settled_key(e, marked));
+        roles = roles & (!(codec::in_use(e) & codec::has_log_role(e)) | marked);
         i += 1;
         if k < 128 {
             map = freemap::with(map, k);
             count += 1;
         }
     }
-    freemap::free_count(map) + count == 128
+    Settling {
+        apart: freemap::free_count(map) + count == 128,
+        roles: roles,
+        map: map,
+    }
 }
 
-// Not 6, from whether numbers may be alike and whether the current blocks are apart. A settled card's settled blocks are its current ones.
-fn entries_apart(g: Geometry, card: &[u8], index: &[u8; 640], shared: bool, settled: bool) -> bool
-    requires { ⌜ Comparable g (now card) (now index) shared settled ⌝ }
-    ensures { λ r. ⌜ r ≡ entriesApart g (now (card .entry)) ⌝ }
+// Whether no two numbers are equal, from whether some share a chain.
+fn numbers_differ(g: Geometry, card: &[u8], index: &[u8; 640], shared: bool) -> bool
+    requires { ⌜ Comparable g (now card) (now index) shared ⌝ }
+    ensures { λ r. ⌜ r ≡ distinct (numberKey g (now (card .entry))) NONE (g .blocks) ⌝ }
 {
-    if shared {
-        if !numbers_apart(g, card, index) {
-            return false;
-        }
-    }
-    if settled {
+    if !shared {
         return true;
     }
-    settled_apart(g, card)
+    numbers_apart(g, card, index)
 }
 
-// What checks 4 to 6 find, and where they find nothing, whether the card is settled, how many of its data blocks are free, and its map.
+// What checks 4 to 6 find, and where they find nothing, whether the card is settled, whether its entries with R match the window's numbers one to
+// one, how many of its data blocks are free, its map, and the map of its current blocks alone.
 pub struct Verdict {
     pub refusal: u8,
     pub settled: bool,
+    pub matched: bool,
     pub free: u64,
     pub map: Map,
+    pub currents: Map,
 }
 
 fn refused(refusal: u8) -> Verdict
@@ -290,8 +353,49 @@ fn refused(refusal: u8) -> Verdict
     Verdict {
         refusal: refusal,
         settled: false,
+        matched: false,
         free: 0,
         map: Map { low: 0, high: 0 },
+        currents: Map { low: 0, high: 0 },
+    }
+}
+
+// The verdict on a settled card: its settled blocks are its current ones, and no previous block is kept.
+fn settled_verdict(free: u64, map: Map) -> Verdict
+    ensures { λ r. ⌜ r ≡ record { refusal = 0; settled = true; matched = true; free = free; map = map; currents = map } ⌝ }
+{
+    Verdict {
+        refusal: 0,
+        settled: true,
+        matched: true,
+        free: free,
+        map: map,
+        currents: map,
+    }
+}
+
+// The verdict on a card that is not settled. Its map has besides the current blocks the settled ones: what these add are the previous blocks of
+// undoable entries.
+fn unsettled_verdict(g: Geometry, card: &[u8], index: &[u8; 640], currents: Map) -> Verdict
+    requires { ⌜ Unsettled g (now card) (now index) currents ⌝ }
+    ensures { λ r. ⌜ Weighed g (now (card .entry)) (now (index .entry)) r ⌝ }
+{
+    let mut marks = [0u8; 128];
+    let w = ring::window_of(g, card);
+    let once = mark_window(g, card, index, w, &mut marks);
+    let s = settle(g, card, &marks);
+    if !s.apart {
+        return refused(6);
+    }
+    let more = s.map;
+    let map = freemap::moved(currents, Map { low: 0, high: 0 }, more);
+    Verdict {
+        refusal: 0,
+        settled: false,
+        matched: once & s.roles,
+        free: freemap::free_count(map),
+        map: map,
+        currents: currents,
     }
 }
 
@@ -311,17 +415,14 @@ pub fn inspect(f: Fit, card: &[u8], index: &mut [u8; 640]) -> Verdict
     if free + seen.count != 128 {
         return refused(6);
     }
-    let settled = (f.head == f.tail) & seen.quiet;
-    if !entries_apart(f.geometry, card, index, seen.shared != 0, settled) {
+    if !numbers_differ(f.geometry, card, index, seen.shared != 0) {
         return refused(6);
     }
     let map = seen.map;
-    Verdict {
-        refusal: 0,
-        settled: settled,
-        free: free,
-        map: map,
+    if (f.head == f.tail) & seen.quiet {
+        return settled_verdict(free, map);
     }
+    unsettled_verdict(f.geometry, card, index, map)
 }
 
 // 4 to 6: a damaged card.
@@ -354,13 +455,4 @@ pub fn card_refusal(f: Fit, card: &[u8]) -> u8
     let mut index = [0u8; 640];
     let v = examine(f, card, &mut index);
     v.refusal
-}
-
-// The place of the entry in use for b, N where there is none.
-pub fn find(g: Geometry, card: &[u8], index: &[u8; 640], b: u64) -> usize
-    requires { ⌜ Indexed g (now card) (now index) × (b < NONE) ⌝ }
-    ensures { λ r. ⌜ r ≡ findEntry g (now (card .entry)) b ⌝ }
-{
-    let at = chase(g, card, index, b, index[narrow(b % 512)]);
-    if at == 0 { g.blocks as usize } else { at - 1 }
 }

@@ -24,7 +24,7 @@ use Rattle.stores.specs.declared.Run.{Run}
 use Rattle.stores.specs.declared.Run.the-variants.{Words, Entry, Word}
 use Rattle.stores.specs.Told.{told, Placed}
 use Rattle.stores.proofs.Laws.{entry-aligned}
-use Rattle.commit.specs.Making.{planBy, stepRuns, plannedEntry, plannedBlock, plannedSwitch, plannedRuns, blockRun, switchRun, runAt, Named, Ready}
+use Rattle.commit.specs.Making.{planBy, stepRuns, plannedEntry, plannedBlock, plannedSwitch, plannedEnd, plannedRuns, blockRun, switchRun, runAt, Named, Ready}
 
 -- ---- what the plan names
 
@@ -230,7 +230,7 @@ module _ (g : Geometry) (p : Plan) (h : ℕ) (ns bs : List ℕ) where
       rw (le-ltb (4 * length ns + length ns) (4 * length ns) a, e, le-ltb (length ns) (length ns) n)
 
   pub runs-told : eachBelow toldAt (4 * length ns + length ns + 1) ≡ plannedRuns g p h ns bs
-  unfolding plannedRuns eachBelow
+  unfolding plannedRuns plannedEnd eachBelow
   runs-told =
       let n = length ns in
       let e : 4 * n + n + 1 ≡ 4 * n + suc n = omega arith in

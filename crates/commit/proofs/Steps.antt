@@ -1,31 +1,37 @@
 -- A byte and the previous block that it stands for, where a slot lies, and the runs of one block and of all, put together under one credit.
 -- Assumes nothing.
-use Prim.Native.Nat.{ℕ, _+_, _*_, _/_, _%_, _^_, _≤_, _<_}
+use Prim.Native.Nat.{ℕ, _+_, _*_, _/_, _%_, _^_, _≤_, _<_, min}
 use mathlib.Core.List.{List, [], _∷_, _++_}
-use mathlib.Core.Bool.{true}
-use mathlib.Core.Path.{_≡_, sym, ap, _∙_}
+use mathlib.Core.Bool.{Bool, true, false, cond}
+use mathlib.Core.Path.{_≡_, sym, ap, subst, _∙_}
 use native.Mathlib.Omega.{arith}
 use lib.ListN.{length}
+use lib.Dec.{ltb}
 use borrow.Author.Tests.{eq-eqb, ne-eqb, lt-ltb, le-ltb}
 use Rattle.numbers.specs.Bytes.{part}
+use Rattle.protocol.specs.declared.Answer.{Answer}
+use Rattle.protocol.specs.declared.Answer.the-variants.{Done, Cut}
 use Rattle.protocol.specs.declared.Entry.{Entry}
 use Rattle.protocol.specs.declared.Geometry.{Geometry}
+use Rattle.protocol.specs.declared.Map.{Map}
+use Rattle.protocol.specs.declared.Stored.{Stored}
 use Rattle.protocol.specs.Below.{eachBelow, around}
 use Rattle.protocol.specs.Entry.{FRESH, entryBytes, logFlags}
 use Rattle.protocol.specs.Layout.{goodGeometry, blockSize, slotPlace, entryPlace, blockPlace}
 use Rattle.protocol.specs.Store.{card, units, words, single, entryStore, wordStore, slotStore, headStore, tailStore}
+use Rattle.protocol.specs.Map.{handedOn}
 use Rattle.protocol.specs.Commit.{dataOf}
 use Rattle.protocol.proofs.Checks.{Limits, limits}
 use Rattle.protocol.proofs.Region.{in-card, block, place-block}
 use Rattle.plan.specs.declared.Plan.{Plan}
-use Rattle.plan.specs.Planned.{previousOf, overOf}
+use Rattle.plan.specs.Planned.{previousOf, overOf, Planned}
 use Rattle.ring.specs.Fitted.{Fitted}
 use Rattle.ring.proofs.Laws.{Room, room, fitted-long}
 use Rattle.stores.specs.declared.Run.{Run}
 use Rattle.stores.specs.declared.Run.the-variants.{Word}
 use Rattle.stores.specs.Did.{cardStore, unfenced, Did}
 use Rattle.stores.proofs.Laws.{did-then, did-same}
-use Rattle.commit.specs.Making.{stepRuns, plannedBlock, plannedSwitch, plannedRuns}
+use Rattle.commit.specs.Making.{stepRuns, planBy, plannedBlock, plannedSwitch, plannedEnd, plannedRuns, partRuns, Made}
 
 pub byte-block : (x : ℕ) → x < 256 → x % 128 ≡ previousOf x
 unfolding previousOf
@@ -98,10 +104,32 @@ stepped g i from e bs ch at to place x n h left a d r xs ys zs ws t y same p q s
 
 -- ---- all of them
 
-pub list-made : (g : Geometry) (p : Plan) (h : ℕ) (ns bs ch : List ℕ) (end left a b r : ℕ) (xs ys zs ws : List ℕ)
-    → Did card (eachBelow (plannedBlock g p h ns bs) (length ns)) ch left xs ys a
+pub end-made : (g : Geometry) (p : Plan) (h : ℕ) (ns : List ℕ) (end a b r : ℕ) (ys zs ws : List ℕ)
     → ((k : List ℕ) → Did card (eachBelow (plannedSwitch g p ns) (length ns)) k a ys zs b) → end ≡ around (g .slots) h (length ns)
-    → ((k : List ℕ) → Did card (single (wordStore 72 end)) k b zs ws r) → Did card (plannedRuns g p h ns bs) ch left xs ws r
-unfolding plannedRuns tailStore
-list-made g p h ns bs ch end left a b r xs ys zs ws x y e z =
-    did-then x (did-then (y ch) (did-same (ap (λ (v : ℕ). single (wordStore 72 v)) e) (z ch)))
+    → ((k : List ℕ) → Did card (single (wordStore 72 end)) k b zs ws r) → (k : List ℕ) → Did card (plannedEnd g p h ns) k a ys ws r
+unfolding plannedEnd tailStore
+end-made g p h ns end a b r ys zs ws y e z ch = did-then (y ch) (did-same (ap (λ (v : ℕ). single (wordStore 72 v)) e) (z ch))
+
+pub list-closed : (closed : Bool) → closed ≡ true → (g : Geometry) (p : Plan) (h : ℕ) (ns bs ch : List ℕ) (left a r : ℕ) (xs ys ws : List ℕ)
+    → Did card (eachBelow (plannedBlock g p h ns bs) (length ns)) ch left xs ys a
+    → ((k : List ℕ) → Did card (plannedEnd g p h ns) k a ys ws r) → Did card (partRuns closed g p h ns bs) ch left xs ws r
+unfolding partRuns plannedRuns
+list-closed closed e g p h ns bs ch left a r xs ys ws x y = rw e (did-then x (y ch))
+
+pub list-open : (closed : Bool) → closed ≡ false → (g : Geometry) (p : Plan) (h : ℕ) (ns bs ch : List ℕ) (left a : ℕ) (xs ys : List ℕ)
+    → Did card (eachBelow (plannedBlock g p h ns bs) (length ns)) ch left xs ys a → Did card (partRuns closed g p h ns bs) ch left xs ys a
+unfolding partRuns
+list-open closed e g p h ns bs ch left a xs ys x = rw e x
+
+pub save-stored : (closed : Bool) (g : Geometry) (c : List ℕ) (h : ℕ) (m : Map) (ns bs ch es ps qs : List ℕ) (n a k left : ℕ) (w : Answer) (u : Map) (t : Stored) (d : List ℕ)
+    → Planned g c ns es ps qs u → k ≡ min n a + 1 → Did card (partRuns closed g (planBy es ps qs) h ns bs) ch k c d left → w ≡ cond (ltb a n) Cut (Done n)
+    → (t .answer ≡ w) × (t .map ≡ handedOn w m u) → Made closed g c h m ns bs ch es ps qs n a t d
+save-stored closed g c h m ns bs ch es ps qs n a k left w u t d p e made f x =
+    record {
+      after = u;
+      planned = p;
+      answers = x .0 ∙ f;
+      hands = x .1 ∙ ap (λ (y : Answer). handedOn y m u) (sym (x .0));
+      left = left;
+      stored = subst (λ (y : ℕ). Did card (partRuns closed g (planBy es ps qs) h ns bs) ch y c d left) e made;
+    }

@@ -33,11 +33,11 @@ use Rattle.plan.specs.declared.Admitted.{Admitted}
 use Rattle.plan.specs.Planned.{Homes, Planned, Plannable, Admission}
 use Rattle.plan.specs.Request.{choiceRoom}
 use Rattle.plan.proofs.Count.{runs-count}
-use Rattle.plan.proofs.Bounds.{Passed, passed, late-passed, few-numbers, new-below, entry-below, unused-room}
+use Rattle.plan.proofs.Bounds.{Passed, passed, passed-tail, late-passed, few-numbers, new-below, entry-below, unused-room}
 use Rattle.plan.proofs.Order.{map-eq}
 use Rattle.stores.specs.Did.{Did}
 use Rattle.stores.proofs.Laws.{did-same, refused-answer, refused-after, refused-map, made-answer, made-after, made-map}
-use Rattle.commit.specs.Making.{stepRuns, plannedEntry, planBy, plannedBlock, plannedSwitch, plannedRuns, Named, Ready}
+use Rattle.commit.specs.Making.{stepRuns, plannedEntry, planBy, plannedBlock, plannedSwitch, plannedEnd, plannedRuns, partRuns, Named, Ready, Makable, Made}
 use Rattle.commit.specs.Committed.{Committed, Savable, Saved}
 use Rattle.commit.proofs.Places.{each-same}
 
@@ -53,7 +53,7 @@ module _ (g : Geometry) (c ns bs es ps qs : List ℕ) (m : Map) (two : versionOf
   unfolding keyAt
   place-same i l = x .entries i l
 
-  block-same : (i : ℕ) → i < length ns → plannedBlock g (planBy es ps qs) (headOf c) ns bs i ≡ blockRuns g c ns bs i
+  pub block-same : (i : ℕ) → i < length ns → plannedBlock g (planBy es ps qs) (headOf c) ns bs i ≡ blockRuns g c ns bs i
   unfolding plannedBlock stepRuns blockRuns headAfter logEntry
   block-same i l = λ t. stepRuns g (place-same i l t) (entry-same i l t) bs (headOf c) i
 
@@ -62,7 +62,7 @@ module _ (g : Geometry) (c ns bs es ps qs : List ℕ) (m : Map) (two : versionOf
   switch-same i l = λ t. single (entryStore g (place-same i l t) (switched (entry-same i l t)))
 
   pub runs-same : plannedRuns g (planBy es ps qs) (headOf c) ns bs ≡ commitRuns g c ns bs
-  unfolding plannedRuns commitRuns headAfter
+  unfolding plannedRuns plannedEnd commitRuns headAfter
   runs-same = λ t.
       each-same (plannedBlock g (planBy es ps qs) (headOf c) ns bs) (blockRuns g c ns bs) (length ns) block-same t
       ++ (each-same (plannedSwitch g (planBy es ps qs) ns) (switchRuns g c ns) (length ns) switch-same t
@@ -70,7 +70,7 @@ module _ (g : Geometry) (c ns bs es ps qs : List ℕ) (m : Map) (two : versionOf
 
 -- ---- what the checks have passed
 
-fit-two : (c : List ℕ) → fitRefusal 2 2 c ≡ 0 → versionOf c ≡ 2
+pub fit-two : (c : List ℕ) → fitRefusal 2 2 c ≡ 0 → versionOf c ≡ 2
 fit-two c z = eqb-true _ _ (sym (between-one 2 (versionOf c)) ∙ header-version c 2 2 (fit-header c 2 2 z))
 
 -- the map that a commit gets is the card's
@@ -103,7 +103,7 @@ module _ (c : List ℕ) (m : Map) (ns bs ch xs : List ℕ) (s : Admitted) (room 
     pub commit-savable : (es ps : List ℕ) → Homes (s .geometry) c ns es ps → Savable (s .geometry) c (s .head) m ns bs ch es ps
     commit-savable es ps h = record {
       own = x .geometry-is z;
-      head = x .findable z .plannable .head;
+      head = x .findable z .head;
       passes = sym refusal-is ∙ z;
       homes = h;
     }
@@ -123,7 +123,7 @@ module _ (g : Geometry) (c : List ℕ) (h : ℕ) (m : Map) (ns bs ch zs ps : Lis
       let p = has-passed in
       record {
         fitted = save-fitted;
-        head = v .head;
+        tail = passed-tail c m ns bs ch h (v .passes) (v .head);
         map-is = own-map c m ns bs ch (v .passes) ∙ ap (λ (y : Geometry). mapBy (isMarked y c)) (sym (v .own));
         room = rw (v .own) (le-leb _ _ (p .room));
         unused = rw (v .own) (unused-room p);
@@ -174,29 +174,29 @@ module _ (g : Geometry) (c : List ℕ) (h : ℕ) (m : Map) (ns bs ch zs ps : Lis
           sized = rw e (w .sized);
         }
 
-    pub save-made : (a n k r : ℕ) (d : List ℕ) (w : Answer) (t : Stored) → n ≡ length ns * (blockSize g / 8 + 4) + 1 → k ≡ min n a + 1
-        → Did card (plannedRuns g (planBy es ps qs) h ns bs) ch k c d r → w ≡ cond (ltb a n) Cut (Done n)
-        → (t .answer ≡ w) × (t .map ≡ handedOn w m u) → Saved c m ns bs ch a t d es
-    unfolding commitWork commitRefusal storesOf
-    save-made a n k r d w t b f made j o =
-        let g₀ = geometryOf c in
-        let p = own-plan in
-        let e = v .own in
-        let q = v .head in
-        let z = v .passes in
-        let count = b ∙ ap (λ (y : Geometry). length ns * (blockSize y / 8 + 4) + 1) e ∙ sym (runs-count g₀ c ns bs) in
-        let answered = made-answer (commitWork 2 c m ns bs ch) a 0 (sym z) refl n w count j in
-        let left = p .map-is ∙ sym (commit-map c m ns bs ch z) in
-        record {
-          committed = record {
-            answers = o .0 ∙ answered;
-            hands = o .1 ∙ made-map (commitWork 2 c m ns bs ch) a 0 (sym z) refl w c m u answered left;
-            leaves =
-                made-after (commitWork 2 c m ns bs ch) a 0 (sym z) refl f (omega (arith, count))
-                (did-same ((λ i. plannedRuns (e i) (planBy es ps qs) (q i) ns bs) ∙ runs-same g₀ c ns bs es ps qs u (fit-two c (orElse-none (fitRefusal 2 2 c) _ z .0)) p) made);
-          };
-          entries = p .entries;
-        }
+  pub save-made : (es qs : List ℕ) (a n : ℕ) (d : List ℕ) (t : Stored) → n ≡ length ns * (blockSize g / 8 + 4) + 1
+      → Made true g c h m ns bs ch es ps qs n a t d → Saved c m ns bs ch a t d es
+  unfolding commitWork commitRefusal storesOf partRuns
+  save-made es qs a n d t b y =
+      let g₀ = geometryOf c in
+      let u = y .after in
+      let p = own-plan es qs u (y .planned) in
+      let e = v .own in
+      let q = v .head in
+      let z = v .passes in
+      let count = b ∙ ap (λ (k : Geometry). length ns * (blockSize k / 8 + 4) + 1) e ∙ sym (runs-count g₀ c ns bs) in
+      let answered = made-answer (commitWork 2 c m ns bs ch) a 0 (sym z) refl n (t .answer) count (y .answers) in
+      let left = p .map-is ∙ sym (commit-map c m ns bs ch z) in
+      record {
+        committed = record {
+          answers = answered;
+          hands = y .hands ∙ made-map (commitWork 2 c m ns bs ch) a 0 (sym z) refl (t .answer) c m u answered left;
+          leaves =
+              made-after (commitWork 2 c m ns bs ch) a 0 (sym z) refl refl (omega (arith, count))
+              (did-same ((λ i. plannedRuns (e i) (planBy es ps qs) (q i) ns bs) ∙ runs-same g₀ c ns bs es ps qs u (fit-two c (orElse-none (fitRefusal 2 2 c) _ z .0)) p) (y .stored));
+        };
+        entries = p .entries;
+      }
 
   -- a commit has few stores
   pub save-short : (n : ℕ) → n ≡ length ns * (blockSize g / 8 + 4) + 1 → n < 18446744073709551615
@@ -206,3 +206,7 @@ module _ (g : Geometry) (c : List ℕ) (h : ℕ) (m : Map) (ns bs ch zs ps : Lis
       let few : length ns ≤ 256 = omega (arith, save-few) in
       let k : length ns * (blockSize g / 8 + 4) ≤ 256 * 516 = mul-le-mul few b in
       omega arith
+
+  pub save-makable : (qs : List ℕ) → length qs ≡ 128 → (n : ℕ) → n ≡ length ns * (blockSize g / 8 + 4) + 1 → Makable g c h h m ns bs ch zs ps qs n
+  save-makable qs k n e =
+      record { plannable = save-plans; homes = v .homes; long = k; ready = save-ready; wide = save-wide; short = save-short n e }

@@ -18,7 +18,7 @@ ghost use Rattle.protocol.specs.Store.{Medium, single, slotStore, headStore};
 ghost use Rattle.ring.specs.Fitted.{Fitted};
 ghost use Rattle.stores.specs.Did.{Did};
 ghost use Rattle.plan.specs.Planned.{previousOf, overOf};
-ghost use Rattle.commit.specs.Making.{stepRuns, planBy, plannedBlock, plannedSwitch, plannedRuns, blockRun, switchRun, runAt, Named, Ready};
+ghost use Rattle.commit.specs.Making.{stepRuns, planBy, plannedBlock, plannedSwitch, plannedEnd, partRuns, blockRun, switchRun, runAt, Named, Ready, Makable, Made};
 ghost use Rattle.commit.specs.Committed.{Committed, Savable, Saved};
 
 fn wide(x: u8) -> usize
@@ -57,7 +57,7 @@ fn log_entry(number: u64, previous: u16, block: u8) -> Entry
 }
 
 // The role switch: R cleared and nothing else changed. The previous block stays named, since a cut before Tail moves must find it.
-fn switch_role(e: Entry) -> Entry
+pub fn switch_role(e: Entry) -> Entry
     ensures { λ r. ⌜ r ≡ switched e ⌝ }
 {
     Entry {
@@ -205,7 +205,7 @@ fn make_block(
     log_number(g, card, head, i, numbers[i], b)
 }
 
-// Each block in turn.
+// Each block in turn: a put's one block, and all blocks of a commit.
 fn make_blocks(
     g: Geometry,
     card: &mut [u8],
@@ -256,8 +256,27 @@ fn make_switches(
     a
 }
 
-// The runs of all places, in order: the blocks, the role switches, then Tail set to Head. They are made by loops of their own, which cost a commit
-// less than one over the places does.
+// The role switches, then Tail set to Head: what a finish adds to the blocks.
+fn close_list(
+    g: Geometry,
+    card: &mut [u8],
+    entries: &[u8; 128],
+    previous: &[u16; 128],
+    blocks: &[u8; 128],
+    numbers: &[u64],
+    head: u64,
+    left: u64,
+) -> u64
+    requires { ⌜ Fitted g (now card) × Named g (planBy (now entries) (now previous) (now blocks)) (now numbers) × (length (now numbers) < g .slots) × (head < g .slots) ⌝ }
+    ensures { λ r. ⌜ ((ch : List ℕ) → Did Medium.card (plannedEnd g (planBy (now (entries .entry)) (now (previous .entry)) (now (blocks .entry))) head (now (numbers .entry))) ch left (now (card .entry)) (now (card .exit)) r) ⌝ }
+{
+    let b = make_switches(g, card, entries, previous, blocks, numbers, left);
+    let end = ring::forward(g.slots, head, numbers.len() as u64);
+    stores::make_word(card, 72, end, b)
+}
+
+// The runs of all places, in order; of a save that is not closed, the blocks alone. They are made by loops of their own, which cost a commit less than
+// one over the places does.
 fn make_list(
     g: Geometry,
     card: &mut [u8],
@@ -269,9 +288,10 @@ fn make_list(
     head: u64,
     choice: &[u8],
     credit: u64,
+    closed: bool,
 ) -> u64
     requires { ⌜ Fitted g (now card) × Ready g (planBy (now entries) (now previous) (now blocks)) head (now numbers) (now «data») × (blockSize g / 8 ≤ length (now choice)) ⌝ }
-    ensures { λ r. ⌜ Did Medium.card (plannedRuns g (planBy (now (entries .entry)) (now (previous .entry)) (now (blocks .entry))) head (now (numbers .entry)) (now («data» .entry))) (now (choice .entry)) credit (now (card .entry)) (now (card .exit)) r ⌝ }
+    ensures { λ r. ⌜ Did Medium.card (partRuns closed g (planBy (now (entries .entry)) (now (previous .entry)) (now (blocks .entry))) head (now (numbers .entry)) (now («data» .entry))) (now (choice .entry)) credit (now (card .entry)) (now (card .exit)) r ⌝ }
 {
     let a = make_blocks(
         g,
@@ -285,12 +305,51 @@ fn make_list(
         choice,
         credit,
     );
-    let b = make_switches(g, card, entries, previous, blocks, numbers, a);
-    let end = ring::forward(g.slots, head, numbers.len() as u64);
-    stores::make_word(card, 72, end, b)
+    if closed {
+        return close_list(g, card, entries, previous, blocks, numbers, head, a);
+    }
+    a
 }
 
-// Plans and makes a commit that is not refused, from where its numbers are cached.
+// Plans and makes a save that is not refused, of `count` stores, from where its numbers are cached: a commit, or, not closed, a put. One function for
+// both: apart they cost a commit some ninety instructions more.
+pub fn make_save(
+    g: Geometry,
+    card: &mut [u8],
+    tail: u64,
+    head: u64,
+    map: Map,
+    numbers: &[u64],
+    data: &[u8],
+    entries: &mut [u8; 128],
+    previous: &[u16; 128],
+    blocks: &mut [u8; 128],
+    choice: &[u8],
+    count: u64,
+    allowance: u64,
+    closed: bool,
+) -> Stored
+    requires { ⌜ Makable g (now card) tail head map (now numbers) (now «data») (now choice) (now entries) (now previous) (now blocks) count ⌝ }
+    ensures { λ r. ⌜ Made closed g (now (card .entry)) head map (now (numbers .entry)) (now («data» .entry)) (now (choice .entry)) (now (entries .exit)) (now (previous .entry)) (now (blocks .exit)) count allowance r (now (card .exit)) ⌝ }
+{
+    let after = plan::plan_of(g, card, tail, map, numbers, entries, previous, blocks);
+    make_list(
+        g,
+        card,
+        entries,
+        previous,
+        blocks,
+        numbers,
+        data,
+        head,
+        choice,
+        stores::credit(count, allowance),
+        closed,
+    );
+    stores::hand_on(stores::answer(count, allowance), map, after)
+}
+
+// A commit that is not refused, on a card whose Tail is its Head: the room-making commit's, once there is room.
 pub fn save(
     g: Geometry,
     card: &mut [u8],
@@ -307,21 +366,23 @@ pub fn save(
     ensures { λ r. ⌜ Saved (now (card .entry)) map (now (numbers .entry)) (now («data» .entry)) (now (choice .entry)) allowance r (now (card .exit)) (now (entries .exit)) ⌝ }
 {
     let mut blocks = [0u8; 128];
-    let after = plan::plan_of(g, card, head, map, numbers, entries, previous, &mut blocks);
     let count = plan::count_of(g, numbers.len());
-    make_list(
+    make_save(
         g,
         card,
-        entries,
-        previous,
-        &blocks,
+        head,
+        head,
+        map,
         numbers,
         data,
-        head,
+        entries,
+        previous,
+        &mut blocks,
         choice,
-        stores::credit(count, allowance),
-    );
-    stores::hand_on(stores::answer(count, allowance), map, after)
+        count,
+        allowance,
+        true,
+    )
 }
 
 // Saves the blocks `numbers`, with their bytes side by side in `data`, as one commit. `allowance` stores still happen. Refused before any
@@ -353,16 +414,22 @@ pub fn commit(
     let mut entries = [0u8; 128];
     let mut previous = [0u16; 128];
     plan::find_homes(g, card, &index, numbers, &mut entries, &mut previous);
-    save(
+    let mut blocks = [0u8; 128];
+    let count = plan::count_of(g, numbers.len());
+    make_save(
         g,
         card,
+        s.head,
         s.head,
         map,
         numbers,
         data,
         &mut entries,
         &previous,
+        &mut blocks,
         choice,
+        count,
         allowance,
+        true,
     )
 }

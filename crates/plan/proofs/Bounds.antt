@@ -3,32 +3,32 @@
 use Prim.Native.Nat.{ℕ, _*_, _-_, _≤_, _<_}
 use mathlib.Core.List.{List}
 use mathlib.Core.Bool.{Bool, true, not}
-use mathlib.Core.Path.{_≡_, refl, sym, subst}
+use mathlib.Core.Path.{_≡_, refl, sym, ap, subst}
 use mathlib.Core.Logic.{⊎-elim}
 use native.Mathlib.Nat.{mod-lt}
 use native.Mathlib.Omega.{arith}
 use lib.ListN.{length, getD}
 use lib.Dec.{eqb, ltb}
-use borrow.Author.Tests.{eqb-true, leb-true, ltb-true}
+use borrow.Author.Tests.{eqb-true, leb-true, ltb-true, not-true}
 use Rattle.protocol.specs.declared.Geometry.{Geometry}
 use Rattle.protocol.specs.declared.Map.{Map}
-use Rattle.protocol.specs.Below.{countBelow, walked}
+use Rattle.protocol.specs.Below.{anyBelow, countBelow, walked}
 use Rattle.protocol.specs.Layout.{geometryOf, versionOf, blockSize}
 use Rattle.protocol.specs.Entry.{entryAt}
-use Rattle.protocol.specs.Ring.{headOf, usedAt, findEntry, cached}
+use Rattle.protocol.specs.Ring.{headOf, tailOf, usedAt, findEntry, cached}
 use Rattle.protocol.specs.Check.{refuse, ringFits, goodEntryAt, entriesFit, entriesApart, fitRefusal, damageRefusal, cardRefusal, choiceFits, choiceRefusal}
-use Rattle.protocol.specs.Search.{takenBy, isFree, unusedAt, searchStart, freeBlocks, unusedEntries}
+use Rattle.protocol.specs.Search.{currentIs, takenBy, isFree, unusedAt, searchStart, freeBlocks, unusedEntries}
 use Rattle.protocol.specs.Commit.{numberOf, uncachedAt, newBlock, entryFound, countFits, dataFits, numbersFit, numbersApart, roomFor, saveRefusal, commitRefusal}
-use Rattle.protocol.proofs.Below.{either, and-left, and-right, all-at, around-below, count-le}
+use Rattle.protocol.proofs.Below.{either, and-left, and-right, or-false, all-at, any-at, any-none, around-below, count-le}
 use Rattle.protocol.proofs.Checks.{Limits, limits, orElse-none, refuse-none}
 use Rattle.protocol.specs.Map.{mapRefusal}
 use Rattle.protocol.proofs.Allowed.{bounded}
 use Rattle.protocol.proofs.Lawful.{currents-apart}
-use Rattle.protocol.proofs.Searches.{walk-finds, unused-enough}
+use Rattle.protocol.proofs.Searches.{walk-fewer, walk-finds, unused-enough}
 use Rattle.ring.specs.Fitted.{Fitted}
 use Rattle.ring.proofs.Laws.{fit-fitted}
 use Rattle.plan.proofs.Rows.{walk-few}
-use Rattle.plan.proofs.Start.{start-blocks}
+use Rattle.plan.proofs.Start.{start-blocks, whole-tail}
 
 -- ---- what was passed
 
@@ -66,6 +66,12 @@ passed c m ns bs ch z =
       room = leb-true _ _ (refuse-none 14 (roomFor g c (length ns)) (omega arith) last);
     }
 
+-- its card is settled, so that Tail is Head
+pub passed-tail : (c : List ℕ) (m : Map) (ns bs ch : List ℕ) (h : ℕ) → commitRefusal 2 c m ns bs ch ≡ 0 → h ≡ headOf c → h ≡ tailOf c
+unfolding commitRefusal
+passed-tail c m ns bs ch h z =
+    whole-tail (geometryOf c) c h (orElse-none (cardRefusal (geometryOf c) c) _ (orElse-none (fitRefusal 2 2 c) _ z .1) .0)
+
 -- and its choice and its numbers fit
 pub late-passed : (c : List ℕ) (m : Map) (ns bs ch : List ℕ) → commitRefusal 2 c m ns bs ch ≡ 0
     → (choiceFits (geometryOf c) ch ≡ true) × (numbersFit (geometryOf c) ns ≡ true)
@@ -82,7 +88,7 @@ late-passed c m ns bs ch z =
 module _ {g : Geometry} {c ns bs : List ℕ} (v : Passed g c ns bs) where
   start-below : searchStart g c < g .blocks
   unfolding searchStart
-  start-below = mod-lt (headOf c) (start-blocks g (v .fitted .good))
+  start-below = mod-lt (tailOf c) (start-blocks g (v .fitted .good))
 
   -- what a walk found is a place on its ring
   found-below : (p : ℕ → Bool) (k : ℕ) → k < length (walked p (g .blocks) (searchStart g c) (g .blocks))
@@ -109,9 +115,15 @@ module _ {g : Geometry} {c ns bs : List ℕ} (v : Passed g c ns bs) where
 
   -- "commit never lacks an entry"
   enough-unused : length (freeBlocks g c) ≤ length (unusedEntries g c)
-  unfolding freeBlocks unusedEntries isFree takenBy unusedAt
+  unfolding freeBlocks unusedEntries isFree takenBy currentIs unusedAt
   enough-unused =
-      unused-enough (usedAt g c) (λ i. entryAt g c i .current) (g .blocks) (searchStart g c) (currents-apart g c (v .distinct)) (λ i l u. current-below i l) start-below
+      let fewer =
+      walk-fewer (isFree g c) (λ p. not (anyBelow (currentIs g c p) (g .blocks))) (g .blocks) (searchStart g c)
+      (λ p h. ap not (any-none _ (g .blocks) (λ i l. or-false (currentIs g c p i) _ (any-at (takenBy g c p) (g .blocks) i (not-true _ h) l) .0))) in
+      let enough =
+      unused-enough (usedAt g c) (λ i. entryAt g c i .current) (g .blocks) (searchStart g c) (currents-apart g c (v .distinct))
+      (λ i l u. current-below i l) start-below in
+      omega (arith, fewer, enough)
 
   pub unused-room : length ns ≤ length (unusedEntries g c)
   unused-room = omega (arith, v .room, enough-unused)

@@ -26,7 +26,7 @@ each-count f k zero e = sym (zero-mul k)
 each-count f k (suc n) e = flat-length (eachBelow f n) (f n) ∙ omega (arith, each-count f k n e, e n, suc-mul n k)
 
 module _ (g : Geometry) (c ns bs : List ℕ) where
-  block-count : (i : ℕ) → length (flat (blockRuns g c ns bs i)) ≡ blockSize g / 8 + 3
+  pub block-count : (i : ℕ) → length (flat (blockRuns g c ns bs i)) ≡ blockSize g / 8 + 3
   unfolding blockRuns flat single words
   block-count i =
       length-append (units card 8 (blockSize g / 8) _ (dataOf g bs i)) _

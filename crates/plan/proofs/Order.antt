@@ -29,7 +29,7 @@ use Rattle.plan.specs.declared.Admitted.{Admitted}
 use Rattle.plan.specs.declared.Saving.{Saving}
 use Rattle.plan.specs.Request.{sizeFits, choiceRoom, roomFits, requestRefusal, sizedRefusal}
 use Rattle.plan.proofs.Request.{room-is, quiet-room, quiet-fits}
-use Rattle.plan.proofs.Bounds.{passed, unused-room}
+use Rattle.plan.proofs.Bounds.{passed, passed-tail, unused-room}
 use Rattle.plan.proofs.Housing.{housed-is}
 use Rattle.plan.proofs.Room.{enough-free, no-room, room as has-room, room-few, taken-block, taken-map, take-ready}
 use Rattle.plan.specs.Planned.{released, Homes, housedAt, Planned, Examined, Admission, Findable, Prepared}
@@ -219,7 +219,7 @@ module _ (c : List ℕ) (m : Map) (ns : List ℕ) (size room : ℕ) (xs : List �
           record {
             plannable = record {
               fitted = x .indexed y .fitted;
-              head = o .framed z .head-is;
+              tail = passed-tail c m ns bytes quiet (f .head) none (o .framed z .head-is);
               map-is = x .map-is y;
               room =
                   rw q
@@ -227,6 +227,7 @@ module _ (c : List ℕ) (m : Map) (ns : List ℕ) (size room : ℕ) (xs : List �
                   (orElse-none (refuse 11 (numbersApart ns)) _ (orElse-none (refuse 10 (numbersFit (geometryOf c) ns)) _ late .1) .1));
               unused = rw q (unused-room (passed c m ns bytes quiet none));
             };
+            head = o .framed z .head-is;
             indexed = x .indexed y;
             numbers = rw q (refuse-none 10 _ (omega arith) (orElse-none (refuse 10 (numbersFit (geometryOf c) ns)) _ late .0));
           }

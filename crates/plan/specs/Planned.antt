@@ -10,7 +10,7 @@ use Rattle.protocol.specs.declared.Map.{Map}
 use Rattle.protocol.specs.Below.{anyBelow, countBelow}
 use Rattle.protocol.specs.Entry.{FRESH, entryAt, isModified}
 use Rattle.protocol.specs.Layout.{geometryOf}
-use Rattle.protocol.specs.Ring.{headOf, findEntry, cached, currentOf}
+use Rattle.protocol.specs.Ring.{headOf, tailOf, findEntry, cached, currentOf}
 use Rattle.protocol.specs.Check.{refuse, _orElse_, cardRefusal, choiceFits}
 use Rattle.protocol.specs.Search.{unusedEntries}
 use Rattle.protocol.specs.Map.{mapBy, isMarked, sameMap}
@@ -68,17 +68,18 @@ isNowhere es j = leb 128 (getD es j 0)
 unfoldable pub housedAt : Geometry → List ℕ → List ℕ → ℕ → ℕ
 housedAt g c es j = cond (isNowhere es j) (getD (unusedEntries g c) (countBelow (isNowhere es) j) 0) (getD es j 0)
 
--- what a plan starts from: a card that passed its checks, its Head and its map, and numbers that it has room for
-pub record Plannable (g : Geometry) (c : List ℕ) (h : ℕ) (m : Map) (ns : List ℕ) : Type 0 where
+-- what a plan starts from: a card that passed its checks, its Tail and its map, and numbers that it has room for
+pub record Plannable (g : Geometry) (c : List ℕ) (t : ℕ) (m : Map) (ns : List ℕ) : Type 0 where
   pub fitted : Fitted g c
-  pub head : h ≡ headOf c
+  pub tail : t ≡ tailOf c
   pub map-is : m ≡ mapBy (isMarked g c)
   pub room : roomFor g c (length ns) ≡ true
   pub unused : length ns ≤ length (unusedEntries g c)
 
--- an admitted commit, and the index of the card's numbers
+-- an admitted commit on a card whose Tail is its Head, and the index of the card's numbers
 pub record Findable (g : Geometry) (c : List ℕ) (h : ℕ) (xs : List ℕ) (m : Map) (ns : List ℕ) : Type 0 where
   pub plannable : Plannable g c h m ns
+  pub head : h ≡ headOf c
   pub indexed : Indexed g c xs
   pub numbers : numbersFit g ns ≡ true
 

@@ -120,12 +120,12 @@ pub fn request_refusal(g: Geometry, numbers: &[u64], size: usize, room: usize) -
     0
 }
 
-// Document 01's search starts at Head mod N.
-pub fn search_start(g: Geometry, head: u64) -> usize
+// A search starts at Tail mod N. On a settled card, as document 01 has it, that is Head mod N.
+pub fn search_start(g: Geometry, tail: u64) -> usize
     requires { ⌜ goodGeometry g ≡ true ⌝ }
-    ensures { λ r. ⌜ (r ≡ head % g .blocks) × (r < g .blocks) ⌝ }
+    ensures { λ r. ⌜ (r ≡ tail % g .blocks) × (r < g .blocks) ⌝ }
 {
-    (head % g.blocks) as usize
+    (tail % g.blocks) as usize
 }
 
 // The place j places forward from `start` among the card's entries.
@@ -377,22 +377,22 @@ pub fn meet(card: &[u8], disk: &[u8], map: Map, arranged: bool, index: &mut [u8;
     }
 }
 
-// The plan of a commit that is not refused, from where its numbers are cached: for each block its entry's place, its previous and its new data
-// block, and the map once it is made.
+// The plan of a commit that is not refused, from Tail and where its numbers are cached: for each block its entry's place, its previous and its new
+// data block, and the map once it is made.
 pub fn plan_of(
     g: Geometry,
     card: &[u8],
-    head: u64,
+    tail: u64,
     map: Map,
     numbers: &[u64],
     entries: &mut [u8; 128],
     previous: &[u16; 128],
     blocks: &mut [u8; 128],
 ) -> Map
-    requires { ⌜ Plannable g (now card) head map (now numbers) × Homes g (now card) (now numbers) (now entries) (now previous) × (length (now blocks) ≡ 128) ⌝ }
+    requires { ⌜ Plannable g (now card) tail map (now numbers) × Homes g (now card) (now numbers) (now entries) (now previous) × (length (now blocks) ≡ 128) ⌝ }
     ensures { λ r. ⌜ Planned g (now (card .entry)) (now (numbers .entry)) (now (entries .exit)) (now (previous .entry)) (now (blocks .exit)) r ⌝ }
 {
-    let start = search_start(g, head);
+    let start = search_start(g, tail);
     let n = numbers.len();
     let taken = freemap::take(map, start, n, blocks);
     house(g, card, start, n, entries);

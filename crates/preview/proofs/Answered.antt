@@ -98,7 +98,7 @@ module _ (c : List ℕ) (m : Map) (ns bs out : List ℕ) (size : ℕ) (e : size 
 
     module _ (start : ℕ) (b : (start ≡ a .head % a .geometry .blocks) × (start < a .geometry .blocks)) where
       place : (start ≡ searchStart (a .geometry) c) × (start < a .geometry .blocks)
-      place = (start-is (a .geometry) c (a .head) start (ready .head) (b .0), b .1)
+      place = (start-is (a .geometry) c (a .head) start (ready .tail) (b .0), b .1)
 
       pub preview-ready : (start < 128) × (length ns ≤ 128) × ((i : ℕ) → i < length ns → takenAt m start i < 128)
       preview-ready = plan-ready (a .geometry) c ns preview-good m (ready .map-is) (ready .room) start place

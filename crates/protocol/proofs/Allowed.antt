@@ -158,25 +158,41 @@ module _ (v : ℕ) (over : Bool) (b p q : ℕ) where
       go (inl h) false = rw h
       go (inr h) o = rw h
 
-  pub kept-flag : Flag v (switched log .flags)
+-- the role switch of an entry with R
+module _ (v : ℕ) (e : Entry) (flag : Flag v (e .flags)) (role : hasLogRole e ≡ true) where
+  by-role : (F : ℕ → Type 0) → F 0x83 → (v ≡ 2 → F 0x87) → F (e .flags)
+  unfolding hasLogRole
+  by-role F x y = go flag
+    where
+      no-role : {f : ℕ} → e .flags ≡ f → eqb (f % 2) 1 ≡ false → F (e .flags)
+      no-role q h = absurd-bool role (ap (λ (f : ℕ). eqb (f % 2) 1) q ∙ h)
+
+      go : Flag v (e .flags) → F (e .flags)
+      go (clean q) = no-role q refl
+      go (modified q) = no-role q refl
+      go (logged q) = subst F (sym q) x
+      go (modifiedOver w q) = no-role q refl
+      go (loggedOver w q) = subst F (sym q) (y w)
+
+  pub switched-flag : Flag v (switched e .flags)
   unfolding switched
-  kept-flag = by-flags (λ f. Flag v (f / 2 * 2)) (modified refl) (λ w. modifiedOver w refl)
+  switched-flag = by-role (λ f. Flag v (f / 2 * 2)) (modified refl) (λ w. modifiedOver w refl)
 
-  pub kept-used : inUse (switched log) ≡ true
+  pub switched-used : inUse (switched e) ≡ true
   unfolding switched inUse
-  kept-used = by-flags (λ f. eqb (f / 2 * 2 / 0x80 % 2) 1 ≡ true) refl (λ w. refl)
+  switched-used = by-role (λ f. eqb (f / 2 * 2 / 0x80 % 2) 1 ≡ true) refl (λ w. refl)
 
-  pub kept-role : hasLogRole (switched log) ≡ false
+  pub switched-role : hasLogRole (switched e) ≡ false
   unfolding switched hasLogRole
-  kept-role = by-flags (λ f. eqb (f / 2 * 2 % 2) 1 ≡ false) refl (λ w. refl)
+  switched-role = by-role (λ f. eqb (f / 2 * 2 % 2) 1 ≡ false) refl (λ w. refl)
 
-  pub kept-modified : isModified (switched log) ≡ true
+  pub switched-modified : isModified (switched e) ≡ isModified e
   unfolding switched isModified
-  kept-modified = by-flags (λ f. eqb (f / 2 * 2 / 0x02 % 2) 1 ≡ true) refl (λ w. refl)
+  switched-modified = by-role (λ f. eqb (f / 2 * 2 / 0x02 % 2) 1 ≡ eqb (f / 0x02 % 2) 1) refl (λ w. refl)
 
-  pub kept-dirty : dirtyBefore v (switched log) ≡ dirtyBefore v log
+  pub switched-dirty : dirtyBefore v (switched e) ≡ dirtyBefore v e
   unfolding dirtyBefore switched wasModified
-  kept-dirty = ap (λ (b : Bool). not (eqb v 2) || b) (by-flags (λ f. eqb (f / 2 * 2 / 0x04 % 2) 1 ≡ eqb (f / 0x04 % 2) 1) refl (λ w. refl))
+  switched-dirty = ap (λ (b : Bool). not (eqb v 2) || b) (by-role (λ f. eqb (f / 2 * 2 / 0x04 % 2) 1 ≡ eqb (f / 0x04 % 2) 1) refl (λ w. refl))
 
 -- an undone entry
 module _ (v : ℕ) (e : Entry) (b p q : ℕ) where

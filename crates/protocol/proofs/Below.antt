@@ -2,6 +2,7 @@
 -- Assumes nothing.
 use Prim.Native.Nat.{ℕ, zero, suc, _+_, _-_, _≤_, _<_}
 use mathlib.Core.Bool.{Bool, true, false, cond, _&&_, _||_}
+use mathlib.Core.List.{List, _++_}
 use mathlib.Core.Path.{_≡_, refl, sym, subst, _∙_}
 use mathlib.Core.Logic.{_⊎_, inl, inr, ⊎-elim}
 use native.Mathlib.Nat.{eq-or-lt-of-le, le-of-suc-le-suc, not-suc-le-zero}
@@ -9,7 +10,7 @@ use native.Mathlib.Numerals.{add-one}
 use native.Mathlib.Omega.{arith}
 use lib.Dec.{ltb, eqb}
 use borrow.Author.Tests.{ltb-true, ltb-false, lt-ltb, le-ltb, eqb-true, eqb-false}
-use Rattle.protocol.specs.Below.{allBelow, anyBelow, countBelow, firstBelow, around}
+use Rattle.protocol.specs.Below.{allBelow, anyBelow, countBelow, firstBelow, eachBelow, around}
 
 -- ---- tests
 
@@ -129,6 +130,22 @@ pub any-none : (p : ℕ → Bool) (n : ℕ) → ((i : ℕ) → i < n → p i ≡
 unfolding anyBelow
 any-none p zero f = refl
 any-none p (suc n) f = rw (any-none p n (λ i l. f i (omega arith)), f n (omega arith))
+
+pub each-cong : {A : Type 0} (f h : ℕ → List A) (n : ℕ) → ((i : ℕ) → i < n → f i ≡ h i) → eachBelow f n ≡ eachBelow h n
+unfolding eachBelow
+each-cong f h zero e = refl
+each-cong f h (suc n) e = λ t. each-cong f h n (λ i l. e i (omega arith)) t ++ e n (omega arith) t
+
+pub any-or : (p q : ℕ → Bool) (n : ℕ) → anyBelow (λ i. p i || q i) n ≡ anyBelow p n || anyBelow q n
+unfolding anyBelow
+any-or p q zero = refl
+any-or p q (suc n) = go (anyBelow p n) (anyBelow q n) (p n) (q n) (any-or p q n)
+  where
+    go : (a b x y : Bool) → anyBelow (λ i. p i || q i) n ≡ a || b → anyBelow (λ i. p i || q i) n || (x || y) ≡ (a || x) || (b || y)
+    go true b x y e = rw e refl
+    go false true true y e = rw e refl
+    go false true false y e = rw e refl
+    go false false x y e = rw e refl
 
 pub any-at : (p : ℕ → Bool) (n i : ℕ) → anyBelow p n ≡ false → i < n → p i ≡ false
 any-at p n i h l = ⊎-elim (λ e. absurd-bool (any-found p n i l e) h) (λ e. e) (either (p i))

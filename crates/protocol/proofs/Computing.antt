@@ -7,7 +7,7 @@ use Rattle.protocol.specs.Ring.{headOf, tailOf, slotAt, windowLength, wi
 use Rattle.protocol.specs.Check.{refuse, _orElse_, headerFits, cardFits, diskFits, windowNumberFits, ringFits, goodEntryAt, entriesFit, alike, apart, apartBefore, entriesApart, fitRefusal, diskRefusal, damageRefusal, cardRefusal, choiceByteFits, choiceFits, choiceRefusal}
 use Rattle.protocol.specs.Store.{isOn, storedOn, madeOn, flat, chosen, landed, made, units, words, sectors, entryStore, wordStore, slotStore, headStore, tailStore, single, storesOf, answerOf, afterOn}
 use Rattle.protocol.specs.Format.{outcomeOf, formatRefusal, formatted, afterFormat, entryRefusal, decoded, encoded}
-use Rattle.protocol.specs.Search.{takenBy, isFree, unusedAt, searchStart, freeBlocks, unusedEntries}
+use Rattle.protocol.specs.Search.{currentIs, previousIs, takenBy, isFree, unusedAt, searchStart, freeBlocks, unusedEntries}
 use Rattle.protocol.specs.Map.{word, mapBy, isMarked, mapOf, sameMap, mapRefusal, makeRefusal}
 use Rattle.protocol.specs.Commit.{numberOf, uncachedAt, newBlock, entryFound, oldBlock, overModified, logEntry, dataOf, headAfter, blockRuns, switchRuns, commitRuns, countFits, dataFits, numberFits, numbersFit, numbersDiffer, newNumber, numbersApart, roomFor, saveRefusal, commitRefusal, commitWork}
 use Rattle.protocol.specs.Recency.{standsAt, standsIn, isArranged, tableRefusal, ascending, without, toFront, allToFront, turned}
@@ -15,10 +15,10 @@ use Rattle.protocol.specs.Load.{pairRefusal, blockRefusal, cleanEntry, l
 use Rattle.protocol.specs.Room.{isAmong, isVictim, fromLast, victims, missing, victimNumber, evictions, roomRuns, roomLeft, enoughVictims, roomRefusal, roomWork, tableAfterSave}
 use Rattle.protocol.specs.Recover.{sameBytes, ifChanging, undoRuns, recoverRuns, recoverRefusal, recoverWork}
 use Rattle.protocol.specs.Upgrade.{versionStore, upgradeRuns, upgradeRefusal, upgradeWork}
-use Rattle.protocol.specs.History.{workOf, answerTo, after, run, answers, fresh, placeAmong, replaced, rowStep, rowAfter}
+use Rattle.protocol.specs.History.{workOf, answerTo, after, run, answers, fresh, placeAmong, replaced, reckoned, withRow, withCut, withPuts, savedNumbers, savedBytes, finishedRow, reckon, reckonAll}
 use Rattle.protocol.specs.Table.{oneTaken}
 use Rattle.protocol.specs.Example.{firstByte}
 
 unfoldable pub computing : Unit {0}
-unfolding beFrom be bytesBE part numberAt patch allBelow anyBelow countBelow firstBelow eachBelow keep around walked between goodK goodSlots goodBlocks goodDisk goodGeometry blockSize slotPlace entryPlace blockPlace cardLength diskPlace diskLength blockAt diskBlock headerBytes geometryOf versionOf zeroFrom goodHeader entryBytes entryIn entryAt inUse isModified hasLogRole wasModified allowedFlags isUnused goodEntry logFlags switched undoneFlags undone headOf tailOf slotAt windowLength windowSlots windowOf windowNumber windowHas inWindow usedAt undoableAt settledBlock roleFreeAt isSettled entryFor findEntry cached currentOf contents refuse _orElse_ headerFits cardFits diskFits windowNumberFits ringFits goodEntryAt entriesFit alike apart apartBefore entriesApart fitRefusal diskRefusal damageRefusal cardRefusal choiceByteFits choiceFits choiceRefusal isOn storedOn madeOn flat chosen landed made units words sectors entryStore wordStore slotStore headStore tailStore single storesOf answerOf afterOn outcomeOf formatRefusal formatted afterFormat entryRefusal decoded encoded takenBy isFree unusedAt searchStart freeBlocks unusedEntries word mapBy isMarked mapOf sameMap mapRefusal makeRefusal numberOf uncachedAt newBlock entryFound oldBlock overModified logEntry dataOf headAfter blockRuns switchRuns commitRuns countFits dataFits numberFits numbersFit numbersDiffer newNumber numbersApart roomFor saveRefusal commitRefusal commitWork standsAt standsIn isArranged tableRefusal ascending without toFront allToFront turned pairRefusal blockRefusal cleanEntry loadRuns loadRefusal loadWork tableAfterLoad writeBack evictRuns evictRefusal evictWork isAmong isVictim fromLast victims missing victimNumber evictions roomRuns roomLeft enoughVictims roomRefusal roomWork tableAfterSave sameBytes ifChanging undoRuns recoverRuns recoverRefusal recoverWork versionStore upgradeRuns upgradeRefusal upgradeWork workOf answerTo after run answers fresh placeAmong replaced rowStep rowAfter oneTaken firstByte
+unfolding beFrom be bytesBE part numberAt patch allBelow anyBelow countBelow firstBelow eachBelow keep around walked between goodK goodSlots goodBlocks goodDisk goodGeometry blockSize slotPlace entryPlace blockPlace cardLength diskPlace diskLength blockAt diskBlock headerBytes geometryOf versionOf zeroFrom goodHeader entryBytes entryIn entryAt inUse isModified hasLogRole wasModified allowedFlags isUnused goodEntry logFlags switched undoneFlags undone headOf tailOf slotAt windowLength windowSlots windowOf windowNumber windowHas inWindow usedAt undoableAt settledBlock roleFreeAt isSettled entryFor findEntry cached currentOf contents refuse _orElse_ headerFits cardFits diskFits windowNumberFits ringFits goodEntryAt entriesFit alike apart apartBefore entriesApart fitRefusal diskRefusal damageRefusal cardRefusal choiceByteFits choiceFits choiceRefusal isOn storedOn madeOn flat chosen landed made units words sectors entryStore wordStore slotStore headStore tailStore single storesOf answerOf afterOn outcomeOf formatRefusal formatted afterFormat entryRefusal decoded encoded currentIs previousIs takenBy isFree unusedAt searchStart freeBlocks unusedEntries word mapBy isMarked mapOf sameMap mapRefusal makeRefusal numberOf uncachedAt newBlock entryFound oldBlock overModified logEntry dataOf headAfter blockRuns switchRuns commitRuns countFits dataFits numberFits numbersFit numbersDiffer newNumber numbersApart roomFor saveRefusal commitRefusal commitWork standsAt standsIn isArranged tableRefusal ascending without toFront allToFront turned pairRefusal blockRefusal cleanEntry loadRuns loadRefusal loadWork tableAfterLoad writeBack evictRuns evictRefusal evictWork isAmong isVictim fromLast victims missing victimNumber evictions roomRuns roomLeft enoughVictims roomRefusal roomWork tableAfterSave sameBytes ifChanging undoRuns recoverRuns recoverRefusal recoverWork versionStore upgradeRuns upgradeRefusal upgradeWork workOf answerTo after run answers fresh placeAmong replaced reckoned withRow withCut withPuts savedNumbers savedBytes finishedRow reckon reckonAll oneTaken firstByte
 computing = tt

@@ -27,23 +27,26 @@ use Rattle.protocol.specs.Load.{loadRuns, loadWork, evictRuns, evictWork
 use Rattle.protocol.specs.Room.{isAmong, victims, missing, victimNumber, roomRuns, roomLeft, roomRefusal, roomWork}
 use Rattle.protocol.specs.Recover.{recoverRuns, recoverWork}
 use Rattle.protocol.specs.Upgrade.{upgradeRuns, upgradeRefusal, upgradeWork}
-use Rattle.protocol.specs.History.{Call, commit, makeRoom, load, evict, recover, upgrade, Request, Media, workOf, answerTo, after, run, answers, fresh, Row, replaced, rowStep, rowAfter}
-use Rattle.protocol.specs.CutRule.{left, rowLeft, recovering, CutRule, Uncut, PlainRow, makingRoom, RoomKept, RoomKeeps}
+use Rattle.protocol.specs.Pending.{openWork, putRuns, putWork, finishRuns, finishWork}
+use Rattle.protocol.specs.History.{Call, commit, makeRoom, load, evict, recover, upgrade, openSave, put, finish, isPut, Request, Media, workOf, answerTo, after, run, answers, fresh, Row, replaced, Reckoned, reckoned, withRow, withCut, reckon, reckonAll}
+use Rattle.protocol.specs.CutRule.{left, rowLeft, recovering, CutRule, Uncut, Unput, PlainRow, makingRoom, RoomKept, RoomKeeps}
 use Rattle.protocol.proofs.Allowed.{unused-good, unused-used, unused-role}
 use Rattle.protocol.proofs.Below.{either, absurd-bool, any-at}
 use Rattle.protocol.proofs.Checks.{Limits, limits}
 use Rattle.protocol.proofs.Codec.{entry-of-part, good-header, geometry-of-header, header-formatted, length-formatted, zero-formatted}
-use Rattle.protocol.proofs.Committed.{row-kept, front, commit-front, commit-cut, commit-done}
+use Rattle.protocol.proofs.Blocks.{row-kept}
+use Rattle.protocol.proofs.Committed.{front, commit-front, put as filled, commit-cut, commit-done}
 use Rattle.protocol.proofs.Holds.{version-known, upgrade-refuses, geometry-is, recover-refuses, map-made, contents-hold, read-holds, look-holds, read-refuses, look-refuses, recent-holds, recent-refuses, idle-kind}
 use Rattle.protocol.proofs.Invariant.{Kind, idle, kindNumber, kindCurrent, kindPrevious}
 use Rattle.protocol.proofs.Lawful.{inv-intact, number-below}
 use Rattle.protocol.proofs.Loaded.{Rest, eviction, loading}
-use Rattle.protocol.proofs.Passed.{first-zero, second-zero, passed, CommitPassed, RoomPassed, room-passed, evict-passed, load-passed, commit-passed}
+use Rattle.protocol.proofs.Passed.{open-passed, put-passed, finish-passed, first-zero, second-zero, passed, CommitPassed, RoomPassed, room-passed, evict-passed, load-passed, commit-passed}
+use Rattle.protocol.proofs.Reckoned.{Reck, NoPuts, no-puts, rest-reck, commit-reck, recover-cut, recover-done, finish-cut, finish-reck, finish-settles, put-cut, put-reck}
 use Rattle.protocol.proofs.Recovered.{recovery, settled-by}
 use Rattle.protocol.proofs.Room.{victim-below, victim-outside, room-enough, room-commits, room-along, victim-gone}
 use Rattle.protocol.proofs.Shape.{kindAt, Shape, Inv, window-empty}
 use Rattle.protocol.proofs.Upgraded.{upgrading}
-use Rattle.protocol.proofs.Stores.{made-runs, last-cut, runs-covered, Along, both, along-next, along-none}
+use Rattle.protocol.proofs.Stores.{along-map, made-runs, last-cut, runs-covered, Along, both, along-next, along-none}
 
 -- ---- what a call leaves, by its answer
 
@@ -71,115 +74,155 @@ Left P a w m = P (afterOn card a w (m .onCard)) (afterOn disk a w (m .onDisk))
 
 -- ---- the calls
 
--- a commit's runs behind runs that keep the invariant: cut before Tail's store they leave the row, done they replace its blocks
-module _ {g : Geometry} {row : Row} {c d : List ℕ} (rs : List Run) (ns bs : List ℕ) (x : Along (Inv g row) (Inv g row) rs c d)
-    (p : CommitPassed g (madeOn card (flat rs) c) ns bs) where
+-- a commit's runs behind runs that leave the card settled: cut before Tail's store they leave the row and a pending save of the first blocks, done they
+-- replace the row's blocks
+module _ {g : Geometry} {r : Reckoned} {c d : List ℕ} (none : NoPuts r) (rs : List Run) (ns bs : List ℕ)
+    (x : Along (Rest g (r .row)) (Rest g (r .row)) rs c d) (p : CommitPassed g (madeOn card (flat rs) c) ns bs) where
   abbrev saving : List Run
   saving = rs ++ commitRuns g (madeOn card (flat rs) c) ns bs
 
-  saving-cut : (a : ℕ) (ch : List ℕ) → a < length (flat saving) → Inv g row (madeOn card (made a ch saving) c) (madeOn disk (made a ch saving) d)
+  standing : Inv g (r .row) (madeOn card (flat rs) c) (madeOn disk (flat rs) d)
+  standing = x .end .0
+
+  saving-cut : (a : ℕ) (ch : List ℕ) → a < length (flat saving) → Reck g (withCut ns bs r) (madeOn card (made a ch saving) c) (madeOn disk (made a ch saving) d)
+  unfolding withCut
   saving-cut a ch l =
-      let first = rs ++ front ns bs (x .end) p in
-      let last = tailStore (headAfter g (madeOn card (flat rs) c) (length ns)) in
+      let first = rs ++ front ns bs standing p in
+      let last = tailStore (headOf (filled ns bs standing p)) in
       let split : saving ≡ first ++ single last =
-      ap (λ (qs : List Run). rs ++ qs) (commit-front ns bs (x .end) p) ∙ sym (append-assoc rs (front ns bs (x .end) p) (single last)) in
+      ap (λ (qs : List Run). rs ++ qs) (commit-front ns bs standing p) ∙ sym (append-assoc rs (front ns bs standing p) (single last)) in
       let short : a < length (flat (first ++ single last)) = subst (λ (qs : List Run). a < length (flat qs)) split l in
-      subst (λ (ss : List Store). Inv g row (madeOn card ss c) (madeOn disk ss d))
+      let none′ : NoPuts (withCut ns bs r) = record { numbers = none .numbers; bytes = none .bytes } in
+      subst (λ (ss : List Store). Reck g (withCut ns bs r) (madeOn card ss c) (madeOn disk ss d))
       (sym (ap (made a ch) split ∙ last-cut a ch first last short))
-      (along-next rs (front ns bs (x .end) p) c d x (commit-cut ns bs (x .end) p) .during a ch)
+      (along-next rs (front ns bs standing p) c d (along-map (λ c′ d′ q. rest-reck q none′) (λ c′ d′ q. q) x)
+      (along-map (λ c′ d′ q. commit-reck ns bs standing p r refl none q) (λ c′ d′ q. q) (commit-cut ns bs standing p)) .during a ch)
 
-  saving-done : Rest g (replaced g ns bs row) (madeOn card (flat saving) c) (madeOn disk (flat saving) d)
+  saving-done : Rest g (replaced g ns bs (r .row)) (madeOn card (flat saving) c) (madeOn disk (flat saving) d)
   saving-done =
-      both (Rest g (replaced g ns bs row)) (sym (made-runs card rs _ c)) (sym (made-runs disk rs _ d)) (commit-done ns bs (x .end) p)
+      both (Rest g (replaced g ns bs (r .row))) (sym (made-runs card rs _ c)) (sym (made-runs disk rs _ d)) (commit-done ns bs standing p)
 
--- recovery keeps the invariant
-recovers : {g : Geometry} {row : Row} {c d : List ℕ} → Inv g row c d → Along (Inv g row) (Rest g row) (recoverRuns g c) c d
-recovers v = let x = recovery v in record { during = λ a ch. x .during a ch .0; end = (x .end .0 .0, x .end .1) }
+by-reckoning : {g : Geometry} {r r′ : Reckoned} {c d : List ℕ} → r′ ≡ r → Reck g r c d → Reck g r′ c d
+by-reckoning {g} {r} {r′} {c} {d} e x = subst (λ (k : Reckoned). Reck g k c d) (sym e) x
 
 -- upgrade meets a settled card
 upgrade-passed : {g : Geometry} {row : Row} {c d : List ℕ} → Inv g row c d → upgradeRefusal c ≡ 0 → isSettled g c ≡ true
 upgrade-passed {g} {row} {c} v z = passed 6 _ (second-zero (refuse 1 (eqb (versionOf c) 1)) _ (sym (upgrade-refuses v) ∙ z))
 
-module _ {g : Geometry} {row : Row} (m : Media) (w : ℕ) (s : Map) (v : Inv g row (m .onCard) (m .onDisk)) where
-  -- what a call's runs do: cut they leave the row, done they leave a row of their own, and the card settled
-  record Does (row′ : Row) (rs : List Run) : Type 0 where
-    cutting : (a : ℕ) (ch : List ℕ) → a < length (flat rs) → Inv g row (madeOn card (made a ch rs) (m .onCard)) (madeOn disk (made a ch rs) (m .onDisk))
-    finished : Rest g row′ (madeOn card (flat rs) (m .onCard)) (madeOn disk (flat rs) (m .onDisk))
+module _ {g : Geometry} {r : Reckoned} (m : Media) (w : ℕ) (s : Map) (x : Reck g r (m .onCard) (m .onDisk)) where
+  abbrev v : Inv g (r .row) (m .onCard) (m .onDisk)
+  v = x .inv
+
+  -- what a call's runs do: cut and done they leave what the reckoning says, and done, but for a put, the card settled
+  record Does (q : Call) (rs : List Run) : Type 0 where
+    cutting : (a : ℕ) (ch : List ℕ) → a < length (flat rs) → Reck g (reckon g q Cut r) (madeOn card (made a ch rs) (m .onCard)) (madeOn disk (made a ch rs) (m .onDisk))
+    finished : (n : ℕ) → Reck g (reckon g q (Done n) r) (madeOn card (flat rs) (m .onCard)) (madeOn disk (flat rs) (m .onDisk))
+    settles : isPut q ≡ false → isSettled g (madeOn card (flat rs) (m .onCard)) ≡ true
 
   -- the call's geometry is the card's
-  own : (row′ : Row) (rs : Geometry → List Run) → Does row′ (rs g) → Does row′ (rs (geometryOf (m .onCard)))
-  own row′ rs h = subst (λ (y : Geometry). Does row′ (rs y)) (sym (geometry-is v)) h
+  own : (q : Call) (rs : Geometry → List Run) → Does q (rs g) → Does q (rs (geometryOf (m .onCard)))
+  own q rs h = subst (λ (y : Geometry). Does q (rs y)) (sym (geometry-is v)) h
 
-  along-does : (rs : List Run) → Along (Inv g row) (Rest g row) rs (m .onCard) (m .onDisk) → Does row rs
-  along-does rs x = record { cutting = λ a ch l. x .during a ch; finished = x .end }
+  -- runs that leave a settled card settled all along
+  rests : (q : Call) (rs : List Run) → ((a : Answer) → reckon g q a r ≡ r) → isSettled g (m .onCard) ≡ true
+      → Along (Rest g (r .row)) (Rest g (r .row)) rs (m .onCard) (m .onDisk) → Does q rs
+  rests q rs same settled y =
+      let none = no-puts x settled in
+      record {
+        cutting = λ a ch l. by-reckoning (same Cut) (rest-reck (y .during a ch) none);
+        finished = λ n. by-reckoning (same (Done n)) (rest-reck (y .end) none);
+        settles = λ _. y .end .1;
+      }
 
-  commit-does : (rs : List Run) (ns bs : List ℕ) → Along (Inv g row) (Inv g row) rs (m .onCard) (m .onDisk)
-      → CommitPassed g (madeOn card (flat rs) (m .onCard)) ns bs
-      → Does (replaced g ns bs row) (rs ++ commitRuns g (madeOn card (flat rs) (m .onCard)) ns bs)
-  commit-does rs ns bs x p = record { cutting = saving-cut rs ns bs x p; finished = saving-done rs ns bs x p }
+  -- a commit of either kind
+  saves : (q : Call) (rs : List Run) (ns bs : List ℕ) → ((n : ℕ) → reckon g q (Done n) r ≡ withRow (replaced g ns bs (r .row)) r) → reckon g q Cut r ≡ withCut ns bs r
+      → isSettled g (m .onCard) ≡ true → Along (Rest g (r .row)) (Rest g (r .row)) rs (m .onCard) (m .onDisk)
+      → CommitPassed g (madeOn card (flat rs) (m .onCard)) ns bs → Does q (rs ++ commitRuns g (madeOn card (flat rs) (m .onCard)) ns bs)
+  unfolding withRow
+  saves q rs ns bs done′ cut′ settled y p =
+      let none = no-puts x settled in
+      record {
+        cutting = λ a ch l. by-reckoning cut′ (saving-cut none rs ns bs y p a ch l);
+        finished = λ n.
+            by-reckoning (done′ n)
+            (rest-reck (saving-done none rs ns bs y p) (record { numbers = none .numbers; bytes = none .bytes }));
+        settles = λ _. saving-done none rs ns bs y p .1;
+      }
 
-  call-does : (q : Call) (n : ℕ) → workOf w q s m .refusal ≡ 0 → Does (rowStep g q (Done n) row) (workOf w q s m .runs)
-  unfolding workOf rowStep commitWork roomWork loadWork evictWork recoverWork upgradeWork flat madeOn roomLeft
-  call-does (commit ns bs ch) n z =
-      own (replaced g ns bs row) (λ y. commitRuns y (m .onCard) ns bs)
-      (commit-does [] ns bs (along-none (m .onCard) (m .onDisk) v v) (commit-passed v w s ns bs ch z))
-  call-does (makeRoom t ns bs ch) n z =
+  call-does : (q : Call) → workOf w q s m .refusal ≡ 0 → Does q (workOf w q s m .runs)
+  unfolding workOf reckon isPut commitWork roomWork loadWork evictWork recoverWork upgradeWork openWork putWork finishWork flat madeOn roomLeft
+  call-does (commit ns bs ch) z =
+      let p = commit-passed v w s ns bs ch z in
+      own (commit ns bs ch) (λ y. commitRuns y (m .onCard) ns bs)
+      (saves (commit ns bs ch) [] ns bs (λ n. refl) refl (p .settled) (along-none (m .onCard) (m .onDisk) (v, p .settled) (v, p .settled)) p)
+  call-does (makeRoom t ns bs ch) z =
       let p = subst (λ (y : Geometry). RoomPassed w y (m .onCard) t ns bs ch) (geometry-is v) (room-passed w (m .onCard) (m .onDisk) s t ns bs ch z) in
-      let x = room-along t ns bs ch v p in
-      own (replaced g ns bs row) (λ y. roomRuns y (m .onCard) t ns ++ commitRuns y (roomLeft y (m .onCard) t ns) ns bs)
-      (commit-does (roomRuns g (m .onCard) t ns) ns bs (record { during = x .during; end = x .end .0 }) (room-commits t ns bs ch (inv-intact v) p))
-  call-does (load t b ch) n z =
-      own row (λ y. loadRuns y (m .onCard) (m .onDisk) b) (along-does _ (loading v b (load-passed v w s t b ch z)))
-  call-does (evict b ch) n z = own row (λ y. evictRuns y (m .onCard) b) (along-does _ (eviction v b (evict-passed v w s b ch z)))
-  call-does recover n z = own row (λ y. recoverRuns y (m .onCard)) (along-does _ (recovers v))
-  call-does upgrade n z = own row upgradeRuns (along-does _ (upgrading v (upgrade-passed v z)))
+      let y = room-along t ns bs ch v p in
+      own (makeRoom t ns bs ch) (λ y. roomRuns y (m .onCard) t ns ++ commitRuns y (roomLeft y (m .onCard) t ns) ns bs)
+      (saves (makeRoom t ns bs ch) (roomRuns g (m .onCard) t ns) ns bs (λ n. refl) refl (p .settled) (record { during = y .during; end = y .end .0 })
+      (room-commits t ns bs ch (inv-intact v) p))
+  call-does (load t b ch) z =
+      let p = load-passed v w s t b ch z in
+      own (load t b ch) (λ y. loadRuns y (m .onCard) (m .onDisk) b) (rests (load t b ch) _ (λ a. refl) (p .settled) (loading v b p))
+  call-does (evict b ch) z =
+      let p = evict-passed v w s b ch z in
+      own (evict b ch) (λ y. evictRuns y (m .onCard) b) (rests (evict b ch) _ (λ a. refl) (p .settled) (eviction v b p))
+  call-does recover z =
+      own recover (λ y. recoverRuns y (m .onCard))
+      (record { cutting = recover-cut x; finished = λ n. recover-done x; settles = λ _. recovery v .end .1 })
+  call-does upgrade z =
+      let settled = upgrade-passed v z in
+      own upgrade upgradeRuns (rests upgrade _ (λ a. refl) settled (upgrading v settled))
+  call-does openSave z =
+      let settled = open-passed v w z in
+      rests openSave [] (λ a. refl) settled (along-none (m .onCard) (m .onDisk) (v, settled) (v, settled))
+  call-does (put p b bs ch) z =
+      let q = put-passed g (m .onCard) (geometry-is v) w s p b bs ch z in
+      own (put p b bs ch) (λ y. putRuns y (m .onCard) b bs)
+      (record { cutting = put-cut x p b bs q; finished = λ n. put-reck x p b bs q; settles = λ e. absurd-bool refl e })
+  call-does (finish p) z =
+      let q = finish-passed g (m .onCard) (geometry-is v) w s p z .1 in
+      own (finish p) (λ y. finishRuns y (m .onCard))
+      (record { cutting = finish-cut x p q; finished = λ n. finish-reck x p q; settles = λ _. finish-settles x p q })
 
-  -- a call that is cut or refused leaves the row
-  row-cut : (q : Call) → rowStep g q Cut row ≡ row
-  unfolding rowStep
-  row-cut (commit ns bs ch) = refl
-  row-cut (makeRoom t ns bs ch) = refl
-  row-cut (load t b ch) = refl
-  row-cut (evict b ch) = refl
-  row-cut recover = refl
-  row-cut upgrade = refl
+  -- a call that is refused leaves the reckoning
+  reckon-refused : (q : Call) (k : ℕ) → reckon g q (Refused k) r ≡ r
+  unfolding reckon
+  reckon-refused (commit ns bs ch) k = refl
+  reckon-refused (makeRoom t ns bs ch) k = refl
+  reckon-refused (load t b ch) k = refl
+  reckon-refused (evict b ch) k = refl
+  reckon-refused recover k = refl
+  reckon-refused upgrade k = refl
+  reckon-refused openSave k = refl
+  reckon-refused (put p b bs ch) k = refl
+  reckon-refused (finish p) k = refl
 
-  row-refused : (q : Call) (r : ℕ) → rowStep g q (Refused r) row ≡ row
-  unfolding rowStep
-  row-refused (commit ns bs ch) r = refl
-  row-refused (makeRoom t ns bs ch) r = refl
-  row-refused (load t b ch) r = refl
-  row-refused (evict b ch) r = refl
-  row-refused recover r = refl
-  row-refused upgrade r = refl
-
-  -- every call keeps the invariant, of the row that its answer leaves
-  call-keeps : (q : Call) (a : ℕ) → Left (Inv g (rowStep g q (answerOf a (workOf w q s m)) row)) a (workOf w q s m) m
+  -- every call keeps the reckoning, by its answer
+  call-keeps : (q : Call) (a : ℕ) → Left (Reck g (reckon g q (answerOf a (workOf w q s m)) r)) a (workOf w q s m) m
   call-keeps q a = go (answered a k₀)
     where
       k₀ : Work
       k₀ = workOf w q s m
 
-      to : {c d : List ℕ} (row′ : Row) → rowStep g q (answerOf a k₀) row ≡ row′ → afterOn card a k₀ (m .onCard) ≡ c → afterOn disk a k₀ (m .onDisk) ≡ d
-          → Inv g row′ c d → Left (Inv g (rowStep g q (answerOf a k₀) row)) a k₀ m
-      to row′ e p q h = subst (λ (y : Row). Left (Inv g y) a k₀ m) (sym e) (both (Inv g row′) (sym p) (sym q) h)
+      to : {c d : List ℕ} (r′ : Reckoned) → reckon g q (answerOf a k₀) r ≡ r′ → afterOn card a k₀ (m .onCard) ≡ c → afterOn disk a k₀ (m .onDisk) ≡ d
+          → Reck g r′ c d → Left (Reck g (reckon g q (answerOf a k₀) r)) a k₀ m
+      to r′ e p q h = subst (λ (y : Reckoned). Left (Reck g y) a k₀ m) (sym e) (both (Reck g r′) (sym p) (sym q) h)
 
-      go : Answered a k₀ → Left (Inv g (rowStep g q (answerOf a k₀) row)) a k₀ m
-      go (refused z e k) = to row (ap (λ (y : Answer). rowStep g q y row) e ∙ row-refused q _) (k card (m .onCard)) (k disk (m .onDisk)) v
+      go : Answered a k₀ → Left (Reck g (reckon g q (answerOf a k₀) r)) a k₀ m
+      go (refused z e k) = to r (ap (λ (y : Answer). reckon g q y r) e ∙ reckon-refused q _) (k card (m .onCard)) (k disk (m .onDisk)) x
       go (cut z l e k) =
-          to row (ap (λ (y : Answer). rowStep g q y row) e ∙ row-cut q) (k card (m .onCard)) (k disk (m .onDisk))
-          (call-does q 0 z .cutting a (k₀ .choice) l)
-      go (done z e k) =
-          to _ (ap (λ (y : Answer). rowStep g q y row) e) (k card (m .onCard)) (k disk (m .onDisk)) (call-does q _ z .finished .0)
+          to _ (ap (λ (y : Answer). reckon g q y r) e) (k card (m .onCard)) (k disk (m .onDisk)) (call-does q z .cutting a (k₀ .choice) l)
+      go (done z e k) = to _ (ap (λ (y : Answer). reckon g q y r) e) (k card (m .onCard)) (k disk (m .onDisk)) (call-does q z .finished _)
 
-  -- every call that answers done leaves the card settled
-  call-settles : (q : Call) (a n : ℕ) → answerOf a (workOf w q s m) ≡ Done n → isSettled g (afterOn card a (workOf w q s m) (m .onCard)) ≡ true
-  call-settles q a n e = go (answered a (workOf w q s m))
+  -- every call but a put that answers done leaves the card settled
+  call-settles : (q : Call) (a n : ℕ) → isPut q ≡ false → answerOf a (workOf w q s m) ≡ Done n → isSettled g (afterOn card a (workOf w q s m) (m .onCard)) ≡ true
+  call-settles q a n f e = go (answered a (workOf w q s m))
     where
       go : Answered a (workOf w q s m) → isSettled g (afterOn card a (workOf w q s m) (m .onCard)) ≡ true
       go (refused z x k) = let y : _≡_ {A = ℕ} 0 1 = cc in absurd (omega arith)
       go (cut z l x k) = let y : _≡_ {A = ℕ} 0 1 = cc in absurd (omega arith)
-      go (done z x k) = ap (isSettled g) (k card (m .onCard)) ∙ call-does q 0 z .finished .1
+      go (done z x k) = ap (isSettled g) (k card (m .onCard)) ∙ call-does q z .settles f
 
 -- ---- the formatted card
 
@@ -269,52 +312,58 @@ module _ (v : ℕ) (g : Geometry) (c d : List ℕ) (known : between 1 2 v ≡ tr
   fresh-settled = settled-by g (formatted v g c) (head-zero ∙ sym tail-zero) (λ i l. ap hasLogRole (entry-zero i l) ∙ unused-role)
 
   -- the media before the first call
-  start-inv : Inv g (diskBlock g d) (fresh v g c d .onCard) (fresh v g c d .onDisk)
+  start-rest : Rest g (diskBlock g d) (fresh v g c d .onCard) (fresh v g c d .onDisk)
   unfolding fresh afterFormat
-  start-inv = subst (λ (z : List ℕ). Inv g (diskBlock g d) z d) (sym (ap (λ (b : Bool). cond b (formatted v g c) c) (eq-eqb _ _ ok))) fresh-inv
+  start-rest =
+      subst (λ (z : List ℕ). Rest g (diskBlock g d) z d) (sym (ap (λ (b : Bool). cond b (formatted v g c) c) (eq-eqb _ _ ok))) (fresh-inv, fresh-settled)
 
-  start-settled : isSettled g (fresh v g c d .onCard) ≡ true
-  unfolding fresh afterFormat
-  start-settled = ap (isSettled g) (ap (λ (b : Bool). cond b (formatted v g c) c) (eq-eqb _ _ ok)) ∙ fresh-settled
+  start-reck : Reck g (reckoned (diskBlock g d)) (fresh v g c d .onCard) (fresh v g c d .onDisk)
+  unfolding reckoned
+  start-reck = rest-reck start-rest (record { numbers = refl; bytes = refl })
 
 -- ---- lists of calls
 
-history : {g : Geometry} (rs : List Request) (m : Media) (row : Row) → Inv g row (m .onCard) (m .onDisk)
-    → Inv g (rowAfter g rs (answers rs m) row) (run rs m .onCard) (run rs m .onDisk)
-unfolding run answers rowAfter after answerTo
-history [] m row v = v
-history (r ∷ rs) m row v = history rs (after r m) _ (call-keeps m (r .version) (r .map) v (r .call) (r .allowance))
+history : {g : Geometry} (rs : List Request) (m : Media) (r : Reckoned) → Reck g r (m .onCard) (m .onDisk)
+    → Reck g (reckonAll g rs (answers rs m) r) (run rs m .onCard) (run rs m .onDisk)
+unfolding run answers reckonAll after answerTo
+history [] m r x = x
+history (q ∷ rs) m r x = history rs (after q m) _ (call-keeps m (q .version) (q .map) x (q .call) (q .allowance))
 
 run-append : (xs ys : List Request) (m : Media) → run (xs ++ ys) m ≡ run ys (run xs m)
 unfolding run
 run-append [] ys m = refl
 run-append (x ∷ xs) ys m = run-append xs ys (after x m)
 
--- one more call that answers done settles
-done-settles : {g : Geometry} {row : Row} (r : Request) (m : Media) (n : ℕ) → Inv g row (m .onCard) (m .onDisk) → answerTo r m ≡ Done n
-    → isSettled g (run (r ∷ []) m .onCard) ≡ true
-unfolding run after answerTo
-done-settles r m n v e = call-settles m (r .version) (r .map) v (r .call) (r .allowance) n e
+-- a recovery that answers done settles
+done-settles : {g : Geometry} {r : Reckoned} (w : ℕ) (s : Map) (a : ℕ) (m : Media) (n : ℕ) → Reck g r (m .onCard) (m .onDisk)
+    → answerTo (recovering w s a) m ≡ Done n → isSettled g (run (recovering w s a ∷ []) m .onCard) ≡ true
+unfolding run after answerTo isPut
+done-settles w s a m n x e = call-settles m w s x recover a n refl e
 
--- without cuts every call leaves the card settled
-uncut-settled : {g : Geometry} (rs : List Request) (m : Media) (row : Row) → Inv g row (m .onCard) (m .onDisk) → isSettled g (m .onCard) ≡ true
-    → Uncut (answers rs m) → isSettled g (run rs m .onCard) ≡ true
+-- without cuts and puts every call leaves the card settled
+uncut-settled : {g : Geometry} (rs : List Request) (m : Media) (r : Reckoned) → Reck g r (m .onCard) (m .onDisk) → isSettled g (m .onCard) ≡ true
+    → Uncut (answers rs m) → Unput rs → isSettled g (run rs m .onCard) ≡ true
 unfolding run answers after answerTo
-uncut-settled [] m row v s u = s
-uncut-settled {g} (r ∷ rs) m row v s u =
-    uncut-settled rs (after r m) _ (call-keeps m (r .version) (r .map) v (r .call) (r .allowance)) (next (answered (r .allowance) (workOf (r .version) (r .call) (r .map) m))) (u .1)
+uncut-settled [] m r x s u p = s
+uncut-settled {g} (q ∷ rs) m r x s u p =
+    uncut-settled rs (after q m) _ (call-keeps m (q .version) (q .map) x (q .call) (q .allowance))
+    (next (answered (q .allowance) (workOf (q .version) (q .call) (q .map) m))) (u .1) (p .1)
   where
-    next : Answered (r .allowance) (workOf (r .version) (r .call) (r .map) m) → isSettled g (afterOn card (r .allowance) (workOf (r .version) (r .call) (r .map) m) (m .onCard)) ≡ true
+    next : Answered (q .allowance) (workOf (q .version) (q .call) (q .map) m) → isSettled g (afterOn card (q .allowance) (workOf (q .version) (q .call) (q .map) m) (m .onCard)) ≡ true
     next (refused z e k) = ap (isSettled g) (k card (m .onCard)) ∙ s
     next (cut z l e k) = absurd (u .0 e)
-    next (done z e k) = call-settles m (r .version) (r .map) v (r .call) (r .allowance) _ e
+    next (done z e k) = call-settles m (q .version) (q .map) x (q .call) (q .allowance) _ (p .0) e
 
 -- ---- the theorem
 
 module _ (v : ℕ) (g : Geometry) (c d : List ℕ) (known : between 1 2 v ≡ true) (ok : outcomeOf (formatRefusal g c) ≡ FormatDone) (sized : length d ≡ diskLength g) where
+  reck-left : (rs : List Request)
+      → Reck g (reckonAll g rs (answers rs (fresh v g c d)) (reckoned (diskBlock g d))) (run rs (fresh v g c d) .onCard) (run rs (fresh v g c d) .onDisk)
+  reck-left rs = history rs (fresh v g c d) (reckoned (diskBlock g d)) (start-reck v g c d known (format-passed g c ok) sized)
+
   inv-left : (rs : List Request) → Inv g (rowLeft v g c d rs) (left v g c d rs .onCard) (left v g c d rs .onDisk)
   unfolding left rowLeft
-  inv-left rs = history rs (fresh v g c d) (diskBlock g d) (start-inv v g c d known (format-passed g c ok) sized)
+  inv-left rs = reck-left rs .inv
 
   last-settles : (rs before : List Request) (w : ℕ) (s : Map) (a n : ℕ) → rs ≡ before ++ (recovering w s a ∷ [])
       → answerTo (recovering w s a) (left v g c d before) ≡ Done n
@@ -323,7 +372,7 @@ module _ (v : ℕ) (g : Geometry) (c d : List ℕ) (known : between 1 2 v ≡ tr
   last-settles rs before w s a n e h =
       ap (λ (z : List Request). isSettled g (run z (fresh v g c d) .onCard)) e
       ∙ ap (λ (z : Media). isSettled g (z .onCard)) (run-append before (recovering w s a ∷ []) (fresh v g c d))
-      ∙ done-settles (recovering w s a) (run before (fresh v g c d)) n (inv-left before) h
+      ∙ done-settles w s a (run before (fresh v g c d)) n (reck-left before) h
 
 pub cut-rule : CutRule
 cut-rule n g c d rs known ok sized =
@@ -345,23 +394,26 @@ cut-rule n g c d rs known ok sized =
 
 pub plain-row : PlainRow
 unfolding left
-plain-row v g c d rs known ok sized uncut =
+plain-row v g c d rs known ok sized uncut unput =
     let s =
-    uncut-settled rs (fresh v g c d) (diskBlock g d) (start-inv v g c d known (format-passed g c ok) sized)
-    (start-settled v g c d known (format-passed g c ok) sized) uncut in
+    uncut-settled rs (fresh v g c d) (reckoned (diskBlock g d)) (start-reck v g c d known (format-passed g c ok) sized)
+    (start-rest v g c d known (format-passed g c ok) sized .1) uncut unput in
     (s, contents-hold (inv-left v g c d known ok sized rs) s)
 
--- a call that answers done is not refused, and has made all its stores
-pub done-passed : (a n : ℕ) (w : Work) → answerOf a w ≡ Done n → (w .refusal ≡ 0) × ((m : Medium) (xs : List ℕ) → afterOn m a w xs ≡ madeOn m (flat (w .runs)) xs)
+-- a call that answers done is not refused, has made all its stores, and tells how many
+abbrev pub DoneAll : ℕ → ℕ → Work → Type 0
+DoneAll a n w = (w .refusal ≡ 0) × ((m : Medium) (xs : List ℕ) → afterOn m a w xs ≡ madeOn m (flat (w .runs)) xs) × (length (flat (w .runs)) ≡ n)
+
+pub done-passed : (a n : ℕ) (w : Work) → answerOf a w ≡ Done n → DoneAll a n w
 done-passed a n w e = go (answered a w)
   where
-    go : Answered a w → (w .refusal ≡ 0) × ((m : Medium) (xs : List ℕ) → afterOn m a w xs ≡ madeOn m (flat (w .runs)) xs)
+    go : Answered a w → DoneAll a n w
     go (refused z x k) = let y : _≡_ {A = ℕ} 0 1 = cc in absurd (omega arith)
     go (cut z l x k) = let y : _≡_ {A = ℕ} 0 1 = cc in absurd (omega arith)
-    go (done z x k) = (z, k)
+    go (done z x k) = (z, k, cc)
 
 -- a room-making commit that answers done, on media that the invariant holds of
-module _ {g : Geometry} {row : Row} (m : Media) (v : Inv g row (m .onCard) (m .onDisk)) (w : ℕ) (s : Map) (t ns bs ch : List ℕ) (a n : ℕ)
+module _ {g : Geometry} {r : Reckoned} (m : Media) (x : Reck g r (m .onCard) (m .onDisk)) (w : ℕ) (s : Map) (t ns bs ch : List ℕ) (a n : ℕ)
     (e : answerTo (makingRoom w s t ns bs ch a) m ≡ Done n) where
   abbrev c : List ℕ
   c = m .onCard
@@ -372,29 +424,29 @@ module _ {g : Geometry} {row : Row} (m : Media) (v : Inv g row (m .onCard) (m .o
   room-done : (roomRefusal w c (m .onDisk) s t ns bs ch ≡ 0)
       × (m′ .onCard ≡ madeOn card (flat (roomRuns (geometryOf c) c t ns ++ commitRuns (geometryOf c) (roomLeft (geometryOf c) c t ns) ns bs)) c)
   unfolding answerTo after workOf roomWork
-  room-done = let x = done-passed a n (workOf w (makeRoom t ns bs ch) s m) e in (x .0, x .1 card c)
+  room-done = let y = done-passed a n (workOf w (makeRoom t ns bs ch) s m) e in (y .0, y .1 card c)
 
   room-goes : RoomPassed w g c t ns bs ch
-  room-goes = subst (λ (y : Geometry). RoomPassed w y c t ns bs ch) (geometry-is v) (room-passed w c (m .onDisk) s t ns bs ch (room-done .0))
+  room-goes = subst (λ (y : Geometry). RoomPassed w y c t ns bs ch) (geometry-is (x .inv)) (room-passed w c (m .onDisk) s t ns bs ch (room-done .0))
 
   -- the card is settled before and after, and the row keeps the blocks outside the transaction
   stay : (b : ℕ) → b < g .disk → isAmong ns b ≡ false → contents g (m′ .onCard) (m′ .onDisk) b ≡ contents g c (m .onDisk) b
-  unfolding answerTo after workOf roomWork rowStep isAmong
+  unfolding answerTo after workOf roomWork reckon withRow isPut isAmong
   stay b l o =
       let q = makeRoom t ns bs ch in
-      contents-hold (call-keeps m w s v q a) (call-settles m w s v q a n e) b l
-      ∙ ap (λ (y : Answer). rowStep g q y row b) e
-      ∙ row-kept g ns bs row b (λ j h i. absurd-bool (eq-eqb _ _ i) (any-at _ (length ns) j o h))
-      ∙ sym (contents-hold v (room-goes .settled) b l)
+      contents-hold (call-keeps m w s x q a .inv) (call-settles m w s x q a n refl e) b l
+      ∙ ap (λ (y : Answer). reckon g q y r .row b) e
+      ∙ row-kept g ns bs (r .row) b (λ j h i. absurd-bool (eq-eqb _ _ i) (any-at _ (length ns) j o h))
+      ∙ sym (contents-hold (x .inv) (room-goes .settled) b l)
 
   gone : (k : ℕ) → k < missing g c ns → cached g (m′ .onCard) (victimNumber g c t ns k) ≡ false
   unfolding roomLeft
   gone k l =
       ap (λ (z : List ℕ). cached g z (victimNumber g c t ns k))
       (room-done .1
-      ∙ ap (λ (y : Geometry). madeOn card (flat (roomRuns y c t ns ++ commitRuns y (roomLeft y c t ns) ns bs)) c) (geometry-is v)
+      ∙ ap (λ (y : Geometry). madeOn card (flat (roomRuns y c t ns ++ commitRuns y (roomLeft y c t ns) ns bs)) c) (geometry-is (x .inv))
       ∙ made-runs card (roomRuns g c t ns) _ c)
-      ∙ victim-gone t ns bs ch (inv-intact v) room-goes k l
+      ∙ victim-gone t ns bs ch (inv-intact (x .inv)) room-goes k l
 
   kept : RoomKept g m m′ t ns
   unfolding contents victimNumber
@@ -402,12 +454,12 @@ module _ {g : Geometry} {row : Row} (m : Media) (v : Inv g row (m .onCard) (m .o
       record {
         contents-stay = stay;
         evicted = λ k l.
-            let listed : k < length (victims g c t ns) = omega (arith, room-enough t ns bs ch (inv-intact v) room-goes) in
+            let listed : k < length (victims g c t ns) = omega (arith, room-enough t ns bs ch (inv-intact (x .inv)) room-goes) in
             let at = victim-below g c t ns k listed in
             let b = victimNumber g c t ns k in (
               gone k l,
               sym (ap (λ (u : Bool). cond u (blockAt g (m′ .onCard) (currentOf g (m′ .onCard) b)) (diskBlock g (m′ .onDisk) b)) (gone k l))
-                  ∙ stay b (number-below (inv-intact v) _ at) (victim-outside g c t ns k listed),
+                  ∙ stay b (number-below (inv-intact (x .inv)) _ at) (victim-outside g c t ns k listed),
             );
       }
 
@@ -415,4 +467,4 @@ pub room-keeps : RoomKeeps
 unfolding left run
 room-keeps v g c d rs w s t ns bs ch a n known ok sized e =
     subst (λ (z : Media). RoomKept g (run rs (fresh v g c d)) z t ns) (sym (run-append rs (makingRoom w s t ns bs ch a ∷ []) (fresh v g c d)))
-    (kept (run rs (fresh v g c d)) (inv-left v g c d known ok sized rs) w s t ns bs ch a n e)
+    (kept (run rs (fresh v g c d)) (reck-left v g c d known ok sized rs) w s t ns bs ch a n e)

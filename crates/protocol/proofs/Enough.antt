@@ -14,21 +14,22 @@ use Rattle.protocol.specs.declared.Geometry.{Geometry}
 use Rattle.protocol.specs.Below.{anyBelow, countBelow, firstBelow}
 use Rattle.protocol.specs.Layout.{geometryOf}
 use Rattle.protocol.specs.Entry.{entryAt}
-use Rattle.protocol.specs.Ring.{usedAt, findEntry, cached}
-use Rattle.protocol.specs.Search.{takenBy, isFree, freeBlocks}
+use Rattle.protocol.specs.Ring.{usedAt, isSettled, findEntry, cached}
+use Rattle.protocol.specs.Search.{currentIs, isFree, freeBlocks}
 use Rattle.protocol.specs.Commit.{numberOf, numbersApart}
 use Rattle.protocol.specs.Recency.{isArranged}
 use Rattle.protocol.specs.Room.{isAmong, isVictim, fromLast, victims, missing, enoughVictims}
 use Rattle.protocol.specs.CutRule.{cachedAmong, RoomEnough}
 use Rattle.protocol.proofs.Below.{either, absurd-bool, and-left, and-right, and-both, any-found, any-witness, below-or-above, first-found, first-missed}
 use Rattle.protocol.proofs.Checks.{Limits, limits}
-use Rattle.protocol.proofs.Committed.{apart-numbers}
+use Rattle.protocol.proofs.Blocks.{apart-numbers}
 use Rattle.protocol.proofs.Lawful.{Intact, current-below, numbers-apart, currents-apart, entry-cached}
 use Rattle.protocol.proofs.Left.{pair-sound}
 use Rattle.protocol.proofs.Loaded.{cached-entry}
 use Rattle.protocol.proofs.Recency.{arranged-place, arranged-once}
 use Rattle.protocol.proofs.Room.{free-count, number-among}
-use Rattle.protocol.proofs.Searches.{length-sift, count-not, inj-count}
+use Rattle.protocol.proofs.Maps.{settled-free}
+use Rattle.protocol.proofs.Searches.{length-sift, count-cong, count-not, inj-count}
 
 -- ---- counting
 
@@ -56,40 +57,39 @@ first-of p n i l e =
 
 -- ---- the card, the table and the transaction
 
-module _ {g : Geometry} {c : List ℕ} (w : Intact g c) where
+module _ {g : Geometry} {c : List ℕ} (w : Intact g c) (settled : isSettled g c ≡ true) where
   -- as many blocks are taken as entries are in use
   abbrev taken : ℕ → Bool
-  taken d = anyBelow (takenBy g c d) (g .blocks)
+  taken d = anyBelow (currentIs g c d) (g .blocks)
 
   taken-used : countBelow taken (g .blocks) ≤ countBelow (usedAt g c) (g .blocks)
-  unfolding takenBy
+  unfolding currentIs
   taken-used =
-      inj-count taken (usedAt g c) (λ d. firstBelow (takenBy g c d) (g .blocks)) (g .blocks) (g .blocks)
+      inj-count taken (usedAt g c) (λ d. firstBelow (currentIs g c d) (g .blocks)) (g .blocks) (g .blocks)
       (λ d l h. let x = found d h in (x .0, and-left (usedAt g c (at d)) _ (x .1)))
       (λ d e l m h k same.
       sym (holds d h) ∙ ap (λ (i : ℕ). entryAt g c i .current) same ∙ holds e k)
     where
       at : ℕ → ℕ
-      at d = firstBelow (takenBy g c d) (g .blocks)
+      at d = firstBelow (currentIs g c d) (g .blocks)
 
-      found : (d : ℕ) → taken d ≡ true → (at d < g .blocks) × (takenBy g c d (at d) ≡ true)
-      found d h = let (i, l, e) = any-witness (takenBy g c d) (g .blocks) h in first-of (takenBy g c d) (g .blocks) i l e
+      found : (d : ℕ) → taken d ≡ true → (at d < g .blocks) × (currentIs g c d (at d) ≡ true)
+      found d h = let (i, l, e) = any-witness (currentIs g c d) (g .blocks) h in first-of (currentIs g c d) (g .blocks) i l e
 
       holds : (d : ℕ) → taken d ≡ true → entryAt g c (at d) .current ≡ d
       holds d h = eqb-true _ _ (and-right (usedAt g c (at d)) _ (found d h .1))
 
   used-taken : countBelow (usedAt g c) (g .blocks) ≤ countBelow taken (g .blocks)
-  unfolding takenBy
+  unfolding currentIs
   used-taken =
       inj-count (usedAt g c) taken (λ i. entryAt g c i .current) (g .blocks) (g .blocks)
-      (λ i l u. (current-below w i l, any-found (takenBy g c (entryAt g c i .current)) (g .blocks) i l (and-both u (eq-eqb (entryAt g c i .current) (entryAt g c i .current) refl))))
+      (λ i l u. (current-below w i l, any-found (currentIs g c (entryAt g c i .current)) (g .blocks) i l (and-both u (eq-eqb (entryAt g c i .current) (entryAt g c i .current) refl))))
       (λ i j l m u v e. currents-apart g c (w .distinct) i j l m u v e)
 
   free-used : length (freeBlocks g c) + countBelow (usedAt g c) (g .blocks) ≡ g .blocks
-  unfolding isFree
   free-used =
       let few : Limits g = limits g (w .good) in
-      omega (arith, free-count g c (omega arith), count-not taken (g .blocks), taken-used, used-taken)
+      omega (arith, free-count g c (omega arith), count-cong (isFree g c) (λ d. not (taken d)) (g .blocks) (λ d l. settled-free g c settled d), count-not taken (g .blocks), taken-used, used-taken)
 
   module _ (t ns : List ℕ) (a : isArranged t ≡ true) where
     -- in use, and outside the transaction
@@ -178,12 +178,12 @@ pub room-enough-when : RoomEnough
 unfolding enoughVictims missing cachedAmong
 room-enough-when c d t ns z a o =
     let g = geometryOf c in
-    let w = pair-sound c d z .0 in
-    let free = free-used w in
+    let (w, s) = pair-sound c d z in
+    let free = free-used w s in
     let parts = count-parts (usedAt g c) (λ i. isAmong ns (entryAt g c i .number)) (g .blocks) in
-    let out = victims-outer w t ns a in
-    let out′ = outer-victims w t ns a in
-    let own = inner-hit w ns o in
-    let own′ = hit-inner w ns o in
+    let out = victims-outer w s t ns a in
+    let out′ = outer-victims w s t ns a in
+    let own = inner-hit w s ns o in
+    let own′ = hit-inner w s ns o in
     same-leb (length ns - length (freeBlocks g c)) (length (victims g c t ns)) (length ns + countBelow (λ i. cached g c (numberOf ns i)) (length ns)) (g .blocks)
     (λ h. omega arith) (λ h. omega arith)

@@ -15,13 +15,14 @@ use Rattle.protocol.specs.declared.Geometry.{Geometry}
 use Rattle.protocol.specs.Below.{eachBelow}
 use Rattle.protocol.specs.Layout.{versionOf, blockSize, blockAt}
 use Rattle.protocol.specs.Entry.{entryAt, isModified, undone}
-use Rattle.protocol.specs.Ring.{undoableAt, findEntry, currentOf}
+use Rattle.protocol.specs.Ring.{windowOf, undoableAt, findEntry, currentOf}
 use Rattle.protocol.specs.Check.{choiceByteFits, choiceFits}
 use Rattle.protocol.specs.Store.{Store, Run, flat, chosen, landed, made, words, sectors, single, entryStore}
 use Rattle.protocol.specs.Commit.{blockRuns, switchRuns, commitRuns}
 use Rattle.protocol.specs.Load.{loadRuns, writeBack, evictRuns}
 use Rattle.protocol.specs.Room.{missing, victimNumber, evictions, roomRuns, roomLeft}
 use Rattle.protocol.specs.Upgrade.{upgradeRuns}
+use Rattle.protocol.specs.Pending.{putRuns, finishSwitch, finishRuns}
 use Rattle.protocol.specs.Recover.{sameBytes, ifChanging, undoRuns, recoverRuns}
 use Rattle.protocol.specs.Fence.{firstMade, cutRun, reach, inOrder, Fenced, AgreesWhere, ZerosAgree, PrefixLaw, PrefixAccepted, CallsFenced}
 use Rattle.protocol.proofs.Below.{absurd-bool, below-or-above, and-both, all-of}
@@ -204,12 +205,15 @@ fenced-changing : (c : List ℕ) (s : Store) → Fenced (ifChanging c s)
 unfolding ifChanging
 fenced-changing c s = fenced-if (sameBytes (part c (s .place) (length (s .bytes))) (s .bytes)) [] (single s) tt (fenced-single s)
 
+fenced-block : (g : Geometry) (c ns bs : List ℕ) (i : ℕ) → Fenced (blockRuns g c ns bs i)
+unfolding blockRuns words
+fenced-block g c ns bs i = (inl refl, fenced-append (single _) _ (fenced-single _) (fenced-append (single _) _ (fenced-single _) (fenced-single _)))
+
 fenced-commit : (g : Geometry) (c ns bs : List ℕ) → Fenced (commitRuns g c ns bs)
-unfolding commitRuns blockRuns switchRuns words
+unfolding commitRuns switchRuns
 fenced-commit g c ns bs =
     fenced-append (eachBelow (blockRuns g c ns bs) (length ns)) _
-    (fenced-each (blockRuns g c ns bs) (length ns)
-    (λ i. (inl refl, fenced-append (single _) _ (fenced-single _) (fenced-append (single _) _ (fenced-single _) (fenced-single _)))))
+    (fenced-each (blockRuns g c ns bs) (length ns) (fenced-block g c ns bs))
     (fenced-append (eachBelow (switchRuns g c ns) (length ns)) _
     (fenced-each (switchRuns g c ns) (length ns) (λ i. fenced-single _))
     (fenced-single _))
@@ -222,7 +226,7 @@ fenced-evict g c b =
     (fenced-single _)
 
 pub calls-fenced : (g : Geometry) (c d t ns bs : List ℕ) (b : ℕ) → CallsFenced g c d t ns bs b
-unfolding roomRuns evictions loadRuns recoverRuns undoRuns upgradeRuns words
+unfolding roomRuns evictions loadRuns recoverRuns undoRuns upgradeRuns putRuns finishRuns finishSwitch words
 calls-fenced g c d t ns bs b =
     record {
       commit = fenced-commit g c ns bs;
@@ -236,4 +240,8 @@ calls-fenced g c d t ns bs b =
           (fenced-each (undoRuns g c) (g .blocks) (λ i. fenced-if (undoableAt g c i) (ifChanging c (entryStore g i (undone (versionOf c) (entryAt g c i)))) [] (fenced-changing c _) tt))
           (fenced-changing c _);
       upgrade = fenced-single _;
+      put = fenced-block g c (b ∷ []) bs 0;
+      finish =
+          fenced-append (eachBelow (finishSwitch g c) (windowOf g c)) _ (fenced-each (finishSwitch g c) (windowOf g c) (λ j. fenced-single _))
+          (fenced-single _);
     }

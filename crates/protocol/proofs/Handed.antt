@@ -11,6 +11,7 @@ use Rattle.protocol.specs.declared.Answer.{Answer}
 use Rattle.protocol.specs.declared.Answer.the-variants.{Done, Cut, Refused}
 use Rattle.protocol.specs.declared.Geometry.{Geometry}
 use Rattle.protocol.specs.declared.Map.{Map}
+use Rattle.protocol.specs.declared.Pending.{Pending}
 use Rattle.protocol.specs.declared.Mapped.{Mapped}
 use Rattle.protocol.specs.declared.Mapped.the-variants.{Is, Refused as RefusedMap}
 use Rattle.protocol.specs.Layout.{geometryOf}
@@ -22,12 +23,13 @@ use Rattle.protocol.specs.Recency.{tableRefusal}
 use Rattle.protocol.specs.Load.{pairRefusal, blockRefusal, loadRefusal, loadWork, evictRefusal, evictWork}
 use Rattle.protocol.specs.Room.{roomRefusal, roomWork}
 use Rattle.protocol.specs.Recover.{recoverRefusal, recoverWork}
+use Rattle.protocol.specs.Pending.{openRefusal, openWork, putRefusal, putWork, finishRefusal, finishWork}
 use Rattle.protocol.specs.Upgrade.{upgradeRuns, upgradeRefusal, upgradeWork}
-use Rattle.protocol.specs.History.{Call, commit, makeRoom, load, evict, recover, upgrade, Media, workOf, answerTo, after, Asked, lent, takesMap, mapTo, served}
+use Rattle.protocol.specs.History.{Call, commit, makeRoom, load, evict, recover, upgrade, openSave, put, finish, Media, workOf, answerTo, after, Asked, lent, takesMap, mapTo, served}
 use Rattle.protocol.specs.CutRule.{Kept, MapKept}
 use Rattle.protocol.proofs.CutRule.{Answered, refused, cut, done, answered}
 use Rattle.protocol.proofs.Below.{either, absurd-bool}
-use Rattle.protocol.proofs.Checks.{orElse-none}
+use Rattle.protocol.proofs.Checks.{orElse-none, refuse-none}
 use Rattle.protocol.proofs.Maps.{own-map}
 use Rattle.protocol.proofs.Upgraded.{map-upgraded}
 
@@ -118,32 +120,60 @@ module _ (c : List ℕ) where
   unfolding recoverRefusal makeRefusal
   other-recover = other-else _ _ (other-else _ _ (other-fit 1 2) (other-damage (geometryOf c))) other-map
 
+  other-put : (r : Pending) (b : ℕ) (bs ch : List ℕ) → Other (putRefusal 2 c (mapOf c) r b bs ch)
+  unfolding putRefusal
+  other-put r b bs ch =
+      other-else _ _ (other-fit 2 2)
+      (other-else _ _ (other-damage (geometryOf c))
+      (other-else _ _ (other-refuse 18 _ (λ e. omega arith))
+      (other-else _ _ other-map
+      (other-else _ _ (other-refuse 8 _ (λ e. omega arith))
+      (other-else _ _ (other-refuse 9 _ (λ e. omega arith))
+      (other-else _ _ (other-choice ch)
+      (other-else _ _ (other-block b) (other-else _ _ (other-refuse 11 _ (λ e. omega arith)) (other-refuse 14 _ (λ e. omega arith))))))))))
+
+  other-finish : (r : Pending) → Other (finishRefusal 2 c (mapOf c) r)
+  unfolding finishRefusal
+  other-finish r =
+      other-else _ _ (other-fit 2 2)
+      (other-else _ _ (other-damage (geometryOf c))
+      (other-else _ _ (other-refuse 18 _ (λ e. omega arith)) (other-else _ _ other-map (other-refuse 8 _ (λ e. omega arith)))))
+
+  other-open : Other (openRefusal 2 c)
+  unfolding openRefusal
+  other-open = other-else _ _ (other-fit 2 2) (other-card (geometryOf c))
+
   other-upgrade : Other (upgradeRefusal c)
   unfolding upgradeRefusal
   other-upgrade = other-else _ _ (other-fit 1 1) (other-card (geometryOf c))
 
 other-call : (q : Call) (m : Media) → Other (workOf 2 q (mapOf (m .onCard)) m .refusal)
-unfolding workOf commitWork roomWork loadWork evictWork recoverWork upgradeWork
+unfolding workOf commitWork roomWork loadWork evictWork recoverWork upgradeWork openWork putWork finishWork
 other-call (commit ns bs ch) m = other-commit (m .onCard) ns bs ch
 other-call (makeRoom t ns bs ch) m = other-room (m .onCard) (m .onDisk) t ns bs ch
 other-call (load t b ch) m = other-load (m .onCard) (m .onDisk) t b ch
 other-call (evict b ch) m = other-evict (m .onCard) (m .onDisk) b ch
 other-call recover m = other-recover (m .onCard)
 other-call upgrade m = other-upgrade (m .onCard)
+other-call openSave m = other-open (m .onCard)
+other-call (put r b bs ch) m = other-put (m .onCard) r b bs ch
+other-call (finish r) m = other-finish (m .onCard) r
 
--- upgrade is the call without a map
-only-upgrade : (q : Call) → takesMap q ≡ false → q ≡ upgrade
-unfolding takesMap
-only-upgrade (commit ns bs ch) e = absurd-bool refl e
-only-upgrade (makeRoom t ns bs ch) e = absurd-bool refl e
-only-upgrade (load t b ch) e = absurd-bool refl e
-only-upgrade (evict b ch) e = absurd-bool refl e
-only-upgrade recover e = absurd-bool refl e
-only-upgrade upgrade e = refl
-
-upgrade-map : (m : Media) (s : Map) → workOf 2 upgrade s m .refusal ≡ 0 → mapOf (madeOn card (flat (workOf 2 upgrade s m .runs)) (m .onCard)) ≡ mapOf (m .onCard)
-unfolding workOf upgradeWork upgradeRefusal upgradeRuns single flat madeOn
-upgrade-map m s z = map-upgraded (m .onCard) (orElse-none (fitRefusal 1 1 (m .onCard)) _ z .0)
+-- upgrade and open, the calls without a map, leave it
+quiet-map : (q : Call) (m : Media) (s : Map) → takesMap q ≡ false → workOf 2 q s m .refusal ≡ 0
+    → mapOf (madeOn card (flat (workOf 2 q s m .runs)) (m .onCard)) ≡ mapOf (m .onCard)
+unfolding takesMap workOf upgradeWork upgradeRefusal cardRefusal upgradeRuns openWork single flat madeOn
+quiet-map (commit ns bs ch) m s e z = absurd-bool refl e
+quiet-map (makeRoom t ns bs ch) m s e z = absurd-bool refl e
+quiet-map (load t b ch) m s e z = absurd-bool refl e
+quiet-map (evict b ch) m s e z = absurd-bool refl e
+quiet-map recover m s e z = absurd-bool refl e
+quiet-map upgrade m s e z =
+    let (fit, more) = orElse-none (fitRefusal 1 1 (m .onCard)) _ z in
+    map-upgraded (m .onCard) fit (refuse-none 7 _ (omega arith) (orElse-none (damageRefusal (geometryOf (m .onCard)) (m .onCard)) _ more .1))
+quiet-map openSave m s e z = refl
+quiet-map (put r b bs ch) m s e z = absurd-bool refl e
+quiet-map (finish r) m s e z = absurd-bool refl e
 
 -- ---- the station's calls
 
@@ -162,10 +192,10 @@ module _ (q : Asked) (m : Media) (s : Map) (own : s ≡ mapOf (m .onCard)) where
       go (cut z l x k) = let y : _≡_ {A = ℕ} 0 1 = cc in omega arith
       go (done z x k) = let y : _≡_ {A = ℕ} 0 1 = cc in omega arith
 
-  -- what the station holds then is the map of the card that is left: the call hands it on, or it is upgrade, which leaves the map
+  -- what the station holds then is the map of the card that is left: the call hands it on, or is one that leaves the map
   still-own : (answerTo (lent s q) m ≡ Cut → ⊥) → mapTo (lent s q) m ≡ mapOf (after (lent s q) m .onCard)
   unfolding answerTo lent mapTo mapAfter after handedOn
-  still-own h = ⊎-elim (λ e. rw e (go (answered (q .allowance) work))) (λ e. rw e (stays (answered (q .allowance) work) (only-upgrade (q .call) e))) (either (takesMap (q .call)))
+  still-own h = ⊎-elim (λ e. rw e (go (answered (q .allowance) work))) (λ e. rw e (stays (answered (q .allowance) work) e)) (either (takesMap (q .call)))
     where
       go : Answered (q .allowance) work
           → handedOn (answerOf (q .allowance) work) s (mapOf (afterOn card (q .allowance) work (m .onCard)))
@@ -175,14 +205,10 @@ module _ (q : Asked) (m : Media) (s : Map) (own : s ≡ mapOf (m .onCard)) where
       go (cut z l x k) = absurd (h x)
       go (done z x k) = ap (λ (a : Answer). handedOn a s (mapOf (afterOn card (q .allowance) work (m .onCard)))) x
 
-      stays : Answered (q .allowance) work → q .call ≡ upgrade → s ≡ mapOf (afterOn card (q .allowance) work (m .onCard))
+      stays : Answered (q .allowance) work → takesMap (q .call) ≡ false → s ≡ mapOf (afterOn card (q .allowance) work (m .onCard))
       stays (refused z x k) e = own ∙ ap mapOf (sym (k card (m .onCard)))
       stays (cut z l x k) e = absurd (h x)
-      stays (done z x k) e =
-          own
-          ∙ sym (upgrade-map m s (ap (λ (y : Call). workOf 2 y s m .refusal) (sym e) ∙ z))
-          ∙ ap (λ (y : Call). mapOf (madeOn card (flat (workOf 2 y s m .runs)) (m .onCard))) (sym e)
-          ∙ ap mapOf (sym (k card (m .onCard)))
+      stays (done z x k) e = own ∙ sym (quiet-map (q .call) m s e z) ∙ ap mapOf (sym (k card (m .onCard)))
 
 kept : (qs : List Asked) (m : Media) (s : Map) → s ≡ mapOf (m .onCard) → Kept (served qs m s)
 unfolding served

@@ -5,10 +5,10 @@ use mathlib.Core.List.{List, [], _∷_, _++_}
 use mathlib.Core.Bool.{Bool, true, false, cond, not, _&&_, _||_}
 use mathlib.Core.Option.{none, some}
 use mathlib.Core.Path.{_≡_, refl, sym, ap, subst, _∙_}
-use mathlib.Core.Logic.{_⊎_, inr, ⊎-elim}
+use mathlib.Core.Logic.{_⊎_, inl, inr, ⊎-elim}
 use native.Mathlib.Omega.{arith}
 use lib.ListN.{length, getD}
-use lib.Dec.{eqb, leb}
+use lib.Dec.{eqb, ltb, leb}
 use borrow.Author.Tests.{eq-eqb, eqb-true, eqb-false, leb-true, ltb-true}
 use Rattle.numbers.specs.Bytes.{part}
 use Rattle.protocol.specs.declared.Entry.{Entry}
@@ -16,32 +16,33 @@ use Rattle.protocol.specs.declared.Geometry.{Geometry}
 use Rattle.protocol.specs.declared.Map.{Map}
 use Rattle.protocol.specs.Below.{anyBelow, eachBelow}
 use Rattle.protocol.specs.Layout.{geometryOf, versionOf, blockAt, diskBlock, entryPlace}
-use Rattle.protocol.specs.Entry.{FRESH, entryOf, unused, entryBytes, entryIn, entryAt, inUse, isModified, goodEntry, switched, undone}
-use Rattle.protocol.specs.Ring.{headOf, usedAt, undoableAt, isSettled, findEntry, cached, currentOf}
+use Rattle.protocol.specs.Entry.{FRESH, entryOf, unused, entryBytes, entryIn, entryAt, inUse, isModified, hasLogRole, goodEntry, switched, undone}
+use Rattle.protocol.specs.Ring.{headOf, tailOf, inWindow, usedAt, undoableAt, isSettled, findEntry, cached, currentOf}
 use Rattle.protocol.specs.Check.{refuse, _orElse_, goodEntryAt, entriesFit, fitRefusal, diskRefusal, damageRefusal, cardRefusal, choiceRefusal}
 use Rattle.protocol.specs.Store.{card, storedOn, madeOn, flat, single, words, sectors, entryStore, tailStore}
-use Rattle.protocol.specs.Search.{freeBlocks, unusedEntries}
-use Rattle.protocol.specs.Map.{mapBy, isMarked, mapOf, mapRefusal, makeRefusal}
+use Rattle.protocol.specs.Search.{currentIs, previousIs, freeBlocks, unusedEntries}
+use Rattle.protocol.specs.Map.{mapBy, isMarked, currentMarked, mapOf, mapRefusal, makeRefusal}
 use Rattle.protocol.specs.Commit.{newBlock, entryFound, oldBlock, logEntry, roomFor, commitRuns, commitRefusal}
 use Rattle.protocol.specs.Recency.{tableRefusal}
 use Rattle.protocol.specs.Load.{pairRefusal, blockRefusal, cleanEntry, loadRuns, loadRefusal, writeBack, evictRuns, evictRefusal}
 use Rattle.protocol.specs.Recover.{sameBytes, ifChanging, undoRuns, recoverRuns, recoverRefusal}
-use Rattle.protocol.proofs.Allowed.{UsedEntry, clean, used-good, used-entry, unused-good, unused-used, clean-used, back-used}
-use Rattle.protocol.proofs.Below.{either, absurd-bool, last-or-before, and-left, and-right, and-both, and-true, or-none, all-at, any-found, any-witness}
+use Rattle.protocol.proofs.Allowed.{UsedEntry, clean, used-good, used-entry, unused-good, unused-used, unused-role, clean-used, clean-role, not-used-blank, back-used}
+use Rattle.protocol.proofs.Below.{either, absurd-bool, last-or-before, and-left, and-right, and-both, and-true, or-left, or-right, or-none, or-false, all-at, any-found, any-witness}
 use Rattle.protocol.proofs.Checks.{Limits, limits, orElse-none, refuse-none}
 use Rattle.protocol.proofs.Codec.{EntryFits, geometry-same, entry-of-part, entry-of-bytes, length-entry}
-use Rattle.protocol.proofs.Committed.{Entered, fresh, again, entered, e-below, q-free, Entries, kept-used-of, commit-entries, commit-done}
+use Rattle.protocol.proofs.Blocks.{Entered, fresh, again, entered, e-below, q-free}
+use Rattle.protocol.proofs.Committed.{Entries, kept-used-of, commit-entries, commit-done, puts}
 use Rattle.protocol.proofs.Holds.{used-current, geometry-is}
 use Rattle.protocol.proofs.Invariant.{kindCurrent}
 use Rattle.protocol.proofs.Lawful.{Intact, intact, lawful}
-use Rattle.protocol.proofs.Loaded.{cached-entry}
-use Rattle.protocol.proofs.Made.{entry-changed, entry-stored, tail-changed, words-changed-all, sectors-elsewhere}
-use Rattle.protocol.proofs.Maps.{Moves, marked-is, map-moves}
+use Rattle.protocol.proofs.Loaded.{settled-entry, settled-block, cached-entry}
+use Rattle.protocol.proofs.Made.{entry-changed, entry-stored, tail-changed, tail-stored, words-changed-all, sectors-elsewhere}
+use Rattle.protocol.proofs.Maps.{current-marked, marked-either, settled-marked, Moves, marked-is, marked-moves, map-moves}
 use Rattle.protocol.proofs.Passed.{CommitPassed, commit-passed}
 use Rattle.protocol.proofs.Planned.{new-below, unused-below, unused-is, enough-unused}
-use Rattle.protocol.proofs.Recovered.{entry-fits, same-bytes, Undone, emptied, restored, undo-cases, undone-good}
+use Rattle.protocol.proofs.Recovered.{entry-fits, same-bytes, Undone, emptied, restored, undo-cases, undone-good, undone-role, tail-stands, settled-by}
 use Rattle.protocol.proofs.Region.{entry, block}
-use Rattle.protocol.proofs.Shape.{Changed, header-kept, entry-kept, Inv}
+use Rattle.protocol.proofs.Shape.{Changed, header-kept, head-kept, tail-kept, entry-kept, Inv}
 use Rattle.protocol.proofs.Stores.{made-append, made-runs}
 use Rattle.protocol.proofs.Words.{map-cong}
 
@@ -49,7 +50,8 @@ use Rattle.protocol.proofs.Words.{map-cong}
 
 -- c′ is c but for entry i, which is x now
 module _ {g : Geometry} {c : List ℕ} (c′ : List ℕ) (w : Intact g c) (i : ℕ) (x : Entry) (l : i < g .blocks) (header : part c′ 0 64 ≡ part c 0 64)
-    (others : (j : ℕ) → j < g .blocks → (j ≡ i → ⊥) → entryAt g c′ j ≡ entryAt g c j) (now : entryAt g c′ i ≡ x) where
+    (others : (j : ℕ) → j < g .blocks → (j ≡ i → ⊥) → entryAt g c′ j ≡ entryAt g c j) (now : entryAt g c′ i ≡ x)
+    (before : isSettled g c ≡ true) (then : isSettled g c′ ≡ true) where
   one-moves : Moves g c c′ (λ j. eqb j i) (λ d. usedAt g c i && eqb (entryAt g c i .current) d) (λ d. inUse x && eqb (x .current) d)
   unfolding usedAt
   one-moves =
@@ -78,11 +80,11 @@ module _ {g : Geometry} {c : List ℕ} (c′ : List ℕ) (w : Intact g c) (i : �
 
   pub one-entry : mapOf c′
       ≡ mapBy (λ d. (isMarked g c d && not (usedAt g c i && eqb (entryAt g c i .current) d)) || (inUse x && eqb (x .current) d))
-  one-entry = map-moves w one-moves
+  one-entry = map-moves w one-moves before then
 
   one-marked : (d : ℕ) → d < 128
       → isMarked g c′ d ≡ (isMarked g c d && not (usedAt g c i && eqb (entryAt g c i .current) d)) || (inUse x && eqb (x .current) d)
-  one-marked = marked-is w one-moves
+  one-marked = marked-moves w one-moves before then
 
 -- ---- what the checks have passed
 
@@ -119,9 +121,12 @@ made-evict g fit c b = go (isModified (entryAt g c (findEntry g c b)))
     go false = refl
 
 -- an entry in use is cleared: its block's bit is too, and no other
-module _ {g : Geometry} {c : List ℕ} (w : Intact g c) (i : ℕ) (l : i < g .blocks) (u : usedAt g c i ≡ true) where
+module _ {g : Geometry} {c : List ℕ} (w : Intact g c) (s : isSettled g c ≡ true) (i : ℕ) (l : i < g .blocks) (u : usedAt g c i ≡ true) where
   ch : Changed g (entry i) c (storedOn card (entryStore g i unused) c)
   ch = entry-changed g c i unused l
+
+  cleared-entry : entryAt g (storedOn card (entryStore g i unused) c) i ≡ unused
+  cleared-entry = entry-stored g c i unused l (w .sized) (entry-fits 2 g (w .good) unused (unused-good 2 (g .blocks) (g .disk)))
 
   pub clear-own : geometryOf (storedOn card (entryStore g i unused) c) ≡ g
   clear-own = geometry-same c _ (header-kept ch (λ p q. omega arith)) ∙ w .own
@@ -129,7 +134,7 @@ module _ {g : Geometry} {c : List ℕ} (w : Intact g c) (i : ℕ) (l : i < g .bl
   pub clear-marked : (d : ℕ) → d < 128 → isMarked g (storedOn card (entryStore g i unused) c) d ≡ isMarked g c d && not (eqb (entryAt g c i .current) d)
   clear-marked d h =
       one-marked _ w i unused l (header-kept ch (λ p q. omega arith)) (λ j k n. entry-kept ch j k (λ p q. n (sym q)))
-      (entry-stored g c i unused l (w .sized) (entry-fits 2 g (w .good) unused (unused-good 2 (g .blocks) (g .disk)))) d h
+      cleared-entry s (settled-entry i s ch (ap hasLogRole cleared-entry ∙ unused-role)) d h
       ∙ ap (λ (t : Bool). (isMarked g c d && not (usedAt g c i && eqb (entryAt g c i .current) d)) || (t && eqb 0 d)) unused-used
       ∙ cleared (isMarked g c d) (usedAt g c i) (eqb (entryAt g c i .current) d) u
     where
@@ -144,12 +149,12 @@ evict-map c d m b ch z =
     let g = geometryOf c in
     let (pair, more) = orElse-none (pairRefusal 2 c d) _ z in
     let own = orElse-none (blockRefusal g b) _ (orElse-none (choiceRefusal g ch) _ (orElse-none (mapRefusal c m) _ more .1) .1) .1 in
-    let w = pair-sound c d pair .0 in
+    let (w, s) = pair-sound c d pair in
     let k = cached-entry g c b (refuse-none 13 _ (omega arith) own) in
     let i = findEntry g c b in
     ap mapOf (made-evict g (limits g (w .good)) c b)
-    ∙ ap (λ (y : Geometry). mapBy (isMarked y (storedOn card (entryStore g i unused) c))) (clear-own w i (k .below) (k .used))
-    ∙ map-cong _ _ (clear-marked w i (k .below) (k .used))
+    ∙ ap (λ (y : Geometry). mapBy (isMarked y (storedOn card (entryStore g i unused) c))) (clear-own w s i (k .below) (k .used))
+    ∙ map-cong _ _ (clear-marked w s i (k .below) (k .used))
 
 -- ---- load
 
@@ -188,7 +193,7 @@ load-map c d m t b ch z =
     ∙ one-entry _ w i e spare
     (header-kept ch (λ x y. omega arith) ∙ header-kept ch₁ (λ x y. omega arith))
     (λ j h n. entry-kept ch j h (λ x y. n (sym y)) ∙ entry-kept ch₁ j h (λ x y. omega arith))
-    now
+    now s (settled-entry i (settled-block q s ch₁) ch (ap hasLogRole now ∙ clean-role b FRESH q))
     ∙ map-cong _ _
     (λ x l. put (isMarked g c x) (usedAt g c i) (eqb (entryAt g c i .current) x) (eqb q x) (inUse e) (unused-is v 0 few) (clean-used b FRESH q))
 
@@ -215,16 +220,16 @@ module _ {g : Geometry} {row : ℕ → List ℕ} {c d : List ℕ} (ns bs : List 
 
   -- the old block of a number whose entry was in use was that entry's current one
   old-current : (j : ℕ) → j < length ns → usedAt g c (entryFound g c ns j) ≡ true → oldBlock g c ns j ≡ entryAt g c (entryFound g c ns j) .current
-  old-current j l u = go (entered ns bs v p j l)
+  old-current j l u = go (entered ns bs v (puts ns bs v p) j l)
     where
-      go : Entered ns bs v p j → oldBlock g c ns j ≡ entryAt g c (entryFound g c ns j) .current
+      go : Entered ns bs v (puts ns bs v p) j → oldBlock g c ns j ≡ entryAt g c (entryFound g c ns j) .current
       go (fresh h n e o) = absurd-bool u n
       go (again h e k q) = let r = ap kindCurrent q in let t = used-current g c (entryFound g c ns j) u in cc
 
   old-used : (j x : ℕ) → j < length ns → x < 128 → oldBlock g c ns j ≡ x → usedAt g c (entryFound g c ns j) ≡ true
-  old-used j x l b e = go (entered ns bs v p j l)
+  old-used j x l b e = go (entered ns bs v (puts ns bs v p) j l)
     where
-      go : Entered ns bs v p j → usedAt g c (entryFound g c ns j) ≡ true
+      go : Entered ns bs v (puts ns bs v p) j → usedAt g c (entryFound g c ns j) ≡ true
       go (fresh h n q o) = absurd (omega arith)
       go (again h q k r) = k .used
 
@@ -252,14 +257,14 @@ module _ {g : Geometry} {row : ℕ → List ℕ} {c d : List ℕ} (ns bs : List 
         given = λ x b e.
             let (j, h, q) = among-is (oldBlock g c ns) (length ns) x e in
             let u = old-used j x h b q in
-            (entryFound g c ns j, e-below ns bs v p j h, is-among (entryFound g c ns) (length ns) j _ h refl, (u, sym (old-current j h u) ∙ q));
+            (entryFound g c ns j, e-below ns bs v (puts ns bs v p) j h, is-among (entryFound g c ns) (length ns) j _ h refl, (u, sym (old-current j h u) ∙ q));
         took = λ i l e u.
             let (j, h, q) = among-is (entryFound g c ns) (length ns) i e in
             is-among (newBlock g c) (length ns) j _ h (sym (new-used j h .1) ∙ ap (λ (z : ℕ). entryAt g after z .current) q);
         taken = λ x b e.
             let (j, h, q) = among-is (newBlock g c) (length ns) x e in
             let (u, k) = new-used j h in
-            (entryFound g c ns j, e-below ns bs v p j h, is-among (entryFound g c ns) (length ns) j _ h refl, (u, k ∙ q));
+            (entryFound g c ns j, e-below ns bs v (puts ns bs v p) j h, is-among (entryFound g c ns) (length ns) j _ h refl, (u, k ∙ q));
       }
 
   -- no new block is an old one: that was an entry's, and this was free
@@ -271,7 +276,7 @@ module _ {g : Geometry} {row : ℕ → List ℕ} {c d : List ℕ} (ns bs : List 
       let (k, l, r) = among-is (oldBlock g c ns) (length ns) x o in
       let u = old-used k x l b r in
       absurd
-      (q-free ns bs v p j h (entryFound g c ns k) (e-below ns bs v p k l)
+      (q-free ns bs v (puts ns bs v p) j h (entryFound g c ns k) (e-below ns bs v (puts ns bs v p) k l)
       (used-current g c (entryFound g c ns k) u ∙ ap some (sym (old-current k l u) ∙ r ∙ sym q))))
       (λ o. o)
       (either (among (oldBlock g c ns) (length ns) x))
@@ -291,7 +296,7 @@ module _ {g : Geometry} {row : ℕ → List ℕ} {c d : List ℕ} (ns bs : List 
       ≡ mapBy (λ x. (isMarked g c x || anyBelow (λ j. eqb (newBlock g c j) x) (length ns)) && not (anyBelow (λ j. eqb (oldBlock g c ns j) x) (length ns)))
   unfolding among
   commit-leaves =
-      map-moves w commit-moves
+      map-moves w commit-moves (p .settled) (commit-done ns bs v p .1)
       ∙ map-cong _ _ (λ x l. either-way (isMarked g c x) (among (oldBlock g c ns) (length ns) x) (among (newBlock g c) (length ns) x) (apart x l))
 
 pub commit-map : (c : List ℕ) (m : Map) (ns bs ch : List ℕ) → commitRefusal 2 c m ns bs ch ≡ 0
@@ -318,6 +323,8 @@ module _ {g : Geometry} {c : List ℕ} (w : Intact g c) where
   record Undoing (i : ℕ) (c′ : List ℕ) : Type 0 where
     sized : length c′ ≡ length c
     header : part c′ 0 64 ≡ part c 0 64
+    heads : headOf c′ ≡ headOf c
+    tails : tailOf c′ ≡ tailOf c
     done : (j : ℕ) → j < i → j < g .blocks → entryAt g c′ j ≡ recovered g c j
     ahead : (j : ℕ) → i ≤ j → j < g .blocks → entryAt g c′ j ≡ entryAt g c j
 
@@ -345,6 +352,8 @@ module _ {g : Geometry} {c : List ℕ} (w : Intact g c) where
       record {
         sized = x .sized;
         header = x .header;
+        heads = x .heads;
+        tails = x .tails;
         done = λ j h l.
             ⊎-elim
             (λ q. ap (entryAt g c′) q ∙ x .ahead i (omega arith) (omega arith) ∙ e (omega arith) ∙ ap (recovered g c) (sym q))
@@ -363,6 +372,8 @@ module _ {g : Geometry} {c : List ℕ} (w : Intact g c) where
       record {
         sized = ch .sized ∙ x .sized;
         header = header-kept ch (λ p q. omega arith) ∙ x .header;
+        heads = head-kept ch (λ p q. omega arith) ∙ x .heads;
+        tails = tail-kept ch (λ p q. omega arith) ∙ x .tails;
         done = λ j h k.
             ⊎-elim
             (λ q. ap (entryAt g _) q ∙ now ∙ sym (ap (λ (b : Bool). cond b e (entryAt g c i)) u) ∙ ap (recovered g c) (sym q))
@@ -395,33 +406,69 @@ module _ {g : Geometry} {c : List ℕ} (w : Intact g c) where
 
   turns : (i : ℕ) → i ≤ g .blocks → Undoing i (madeOn card (flat (eachBelow (undoRuns g c) i)) c)
   unfolding eachBelow flat madeOn
-  turns zero l = record { sized = refl; header = refl; done = λ j h k. absurd (omega arith); ahead = λ j h k. refl }
+  turns zero l = record { sized = refl; header = refl; heads = refl; tails = refl; done = λ j h k. absurd (omega arith); ahead = λ j h k. refl }
   turns (suc i) l =
       subst (Undoing (suc i))
       (sym (made-runs card (eachBelow (undoRuns g c) i) (undoRuns g c i) c))
       (turn i _ (omega arith) (turns i (omega arith)))
 
+  -- all entries are recovered, and Tail stands at Head
+  record Ended (c′ : List ℕ) : Type 0 where
+    header : part c′ 0 64 ≡ part c 0 64
+    ring : headOf c′ ≡ tailOf c′
+    done : (j : ℕ) → j < g .blocks → entryAt g c′ j ≡ recovered g c j
+
   -- Tail's store, made or left out, touches no entry
-  tail-too : (c′ : List ℕ) → Undoing (g .blocks) c′ → Undoing (g .blocks) (madeOn card (flat (ifChanging c (tailStore (headOf c)))) c′)
+  tail-too : (c′ : List ℕ) → Undoing (g .blocks) c′ → Ended (madeOn card (flat (ifChanging c (tailStore (headOf c)))) c′)
   unfolding ifChanging flat single madeOn
-  tail-too c′ x = go (sameBytes (part c (tailStore (headOf c) .place) (length (tailStore (headOf c) .bytes))) (tailStore (headOf c) .bytes))
+  tail-too c′ x = go (sameBytes (part c (tailStore (headOf c) .place) (length (tailStore (headOf c) .bytes))) (tailStore (headOf c) .bytes)) refl
     where
-      go : (t : Bool) → Undoing (g .blocks) (madeOn card (flat (cond t [] (single (tailStore (headOf c))))) c′)
-      go true = x
-      go false =
+      small : headOf c < 65536 + 65536
+      small = let f : Limits g = limits g (w .good) in omega (arith, w .head)
+
+      go : (t : Bool) → sameBytes (part c (tailStore (headOf c) .place) (length (tailStore (headOf c) .bytes))) (tailStore (headOf c) .bytes) ≡ t
+          → Ended (madeOn card (flat (cond t [] (single (tailStore (headOf c))))) c′)
+      go true e =
+          record {
+            header = x .header;
+            ring = x .heads ∙ sym (x .tails ∙ tail-stands c (headOf c) small (same-bytes _ _ e));
+            done = λ j k. x .done j k k;
+          }
+      go false e =
           let ch = tail-changed g c′ (headOf c) in
           record {
-            sized = ch .sized ∙ x .sized;
             header = header-kept ch (λ p q. omega arith) ∙ x .header;
-            done = λ j h k. entry-kept ch j k (λ p q. omega arith) ∙ x .done j h k;
-            ahead = λ j h k. entry-kept ch j k (λ p q. omega arith) ∙ x .ahead j h k;
+            ring = head-kept ch (λ p q. omega arith) ∙ x .heads ∙ sym (tail-stored g c′ (headOf c) (x .sized ∙ w .sized) small);
+            done = λ j k. entry-kept ch j k (λ p q. omega arith) ∙ x .done j k k;
           }
 
-  all-done : Undoing (g .blocks) (madeOn card (flat (recoverRuns g c)) c)
+  all-done : Ended (madeOn card (flat (recoverRuns g c)) c)
   unfolding recoverRuns
   all-done =
-      subst (Undoing (g .blocks)) (sym (made-runs card (eachBelow (undoRuns g c) (g .blocks)) (ifChanging c (tailStore (headOf c))) c))
+      subst Ended (sym (made-runs card (eachBelow (undoRuns g c) (g .blocks)) (ifChanging c (tailStore (headOf c))) c))
       (tail-too _ (turns (g .blocks) (omega arith)))
+
+  -- no entry has R then
+  quiet : (i : ℕ) → i < g .blocks → hasLogRole (recovered g c i) ≡ false
+  unfolding recovered undoableAt usedAt
+  quiet i l = go (either (undoableAt g c i))
+    where
+      e : Entry
+      e = entryAt g c i
+
+      none : undoableAt g c i ≡ false → hasLogRole e ≡ false
+      none u =
+          ⊎-elim
+          (λ n. or-false (hasLogRole e) (inWindow g c (e .number)) (sym (ap (λ (b : Bool). b && (hasLogRole e || inWindow g c (e .number))) n) ∙ u) .0)
+          (λ n. ap hasLogRole (not-used-blank (versionOf c) (g .blocks) (g .disk) e (good-at i l) n) ∙ unused-role)
+          (either (inUse e))
+
+      go : (undoableAt g c i ≡ true) ⊎ (undoableAt g c i ≡ false) → hasLogRole (cond (undoableAt g c i) (undone (versionOf c) e) e) ≡ false
+      go (inl u) = ap (λ (b : Bool). hasLogRole (cond b (undone (versionOf c) e) e)) u ∙ undone-role e (cases i l u)
+      go (inr u) = ap (λ (b : Bool). hasLogRole (cond b (undone (versionOf c) e) e)) u ∙ none u
+
+  pub recovered-settled : isSettled g (madeOn card (flat (recoverRuns g c)) c) ≡ true
+  recovered-settled = settled-by g _ (all-done .ring) (λ i l. ap hasLogRole (all-done .done i l) ∙ quiet i l)
 
   -- an undoable entry's previous block is its current one then, if it has one
   undone-has : (i : ℕ) (e : Entry) → i < g .blocks → undoableAt g c i ≡ true → e ≡ undone (versionOf c) (entryAt g c i)
@@ -464,24 +511,57 @@ module _ {g : Geometry} {c : List ℕ} (w : Intact g c) where
         let x = all-done in
         record {
           own = geometry-same c _ (x .header) ∙ w .own;
-          others = λ i l n. x .done i l l ∙ stays i l n;
+          others = λ i l n. x .done i l ∙ stays i l n;
           gave = λ i l h n. any-found _ (g .blocks) i l (and-both h (eq-eqb (entryAt g c i .current) (entryAt g c i .current) refl));
           given = λ d b e.
               let (i, l, h) = any-witness (λ i. changed i && eqb (entryAt g c i .current) d) (g .blocks) e in
               let k = and-left (changed i) _ h in
               (i, l, k, (undoable-used i (only i l k), eqb-true _ _ (and-right (changed i) _ h)));
           took = λ i l h n.
-              let q = becomes i _ l h (x .done i l l) in
+              let q = becomes i _ l h (x .done i l) in
               any-found _ (g .blocks) i l (and-both h (eq-eqb _ _ (sym (undone-has i _ l (only i l h) q .0 n))));
           taken = λ d b e.
               let (i, l, h) = any-witness (λ i. changed i && eqb (entryAt g c i .previous) d) (g .blocks) e in
               let k = and-left (changed i) _ h in
-              let q = becomes i _ l k (x .done i l l) in
+              let q = becomes i _ l k (x .done i l) in
               (i, l, k, undone-has i _ l (only i l k) q .1 d b (eqb-true _ _ (and-right (changed i) _ h)));
         }
 
     recover-leaves : mapOf (madeOn card (flat (recoverRuns g c)) c) ≡ mapBy (λ x. (isMarked g c x && not (gone x)) || come x)
-    recover-leaves = map-moves w recover-moves
+    unfolding mapOf previousIs currentIs usedAt
+    recover-leaves =
+        ap (λ (y : Geometry). mapBy (isMarked y (madeOn card (flat (recoverRuns g c)) c))) (recover-moves .own)
+        ∙ map-cong _ _ (λ x l. settled-marked g _ recovered-settled x ∙ marked-is w recover-moves x l ∙ more x l)
+      where
+        -- an undoable entry's previous block is taken by a changed one, or it is its current block already
+        kept : (x i : ℕ) → x < g .blocks → i < g .blocks → previousIs g c x i ≡ true → currentMarked g c x || come x ≡ true
+        kept x i lx l h =
+            let u = and-left (undoableAt g c i) _ h in
+            let p : entryAt g c i .previous ≡ x = eqb-true _ _ (and-right (undoableAt g c i) _ h) in
+            let f : Limits g = limits g (w .good) in
+            ⊎-elim
+            (λ k. or-right (currentMarked g c x) _ (any-found _ (g .blocks) i l (and-both k (eq-eqb _ _ p))))
+            (λ k.
+            let (n, q) = undone-has i _ l u (sym (all i l k u)) .1 x (omega arith) p in
+            or-left (currentMarked g c x) _ (current-marked g c x lx ∙ any-found (currentIs g c x) (g .blocks) i l (has-current n q)))
+            (either (changed i))
+          where
+            has-current : inUse (entryAt g c i) ≡ true → entryAt g c i .current ≡ x → currentIs g c x i ≡ true
+            has-current n q = and-both n (eq-eqb _ _ q)
+
+        -- one bit more, where it is set anyway
+        one-more : (a p g k : Bool) → (p ≡ true → a || k ≡ true) → (a && not g) || k ≡ ((a || p) && not g) || k
+        one-more true p g k f = refl
+        one-more false true g k f = f refl ∙ sym (or-right (not g) _ (f refl))
+        one-more false false g k f = refl
+
+        more : (x : ℕ) → x < 128 → (currentMarked g c x && not (gone x)) || come x ≡ (isMarked g c x && not (gone x)) || come x
+        more x l =
+            one-more (currentMarked g c x) (ltb x (g .blocks) && anyBelow (previousIs g c x) (g .blocks)) (gone x) (come x)
+            (λ h.
+            let (i, li, e) = any-witness (previousIs g c x) (g .blocks) (and-right (ltb x (g .blocks)) _ h) in
+            kept x i (ltb-true _ _ (and-left (ltb x (g .blocks)) _ h)) li e)
+            ∙ ap (λ (b : Bool). (b && not (gone x)) || come x) (sym (marked-either g c x))
 
 module _ (c : List ℕ) (m : Map) (z : recoverRefusal 2 c m ≡ 0) (changed : ℕ → Bool)
     (only : (i : ℕ) → i < geometryOf c .blocks → changed i ≡ true → undoableAt (geometryOf c) c i ≡ true)

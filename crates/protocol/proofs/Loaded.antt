@@ -125,7 +125,7 @@ module _ {g : Geometry} {row : ℕ → List ℕ} {c d : List ℕ} (v : Inv g row
       length-part c (blockPlace g (e .current)) (blockSize g)
       (omega (arith, v .shape .cardSized, in-card g (block (e .current)) (omega arith) l, place-block g (e .current)))
 
-  written : Along (Inv g row) Written (writeBack g c b) c d
+  written : Along (Rest g row) Written (writeBack g c b) c d
   unfolding writeBack currentOf e i
   written = go (isModified e) refl
     where
@@ -133,9 +133,9 @@ module _ {g : Geometry} {row : ℕ → List ℕ} {c d : List ℕ} (v : Inv g row
       fit = limits g (v .shape .good)
 
       go : (m : Bool) → isModified e ≡ m
-          → Along (Inv g row) Written (cond m (sectors g b (blockAt g c (e .current)) ∷ []) []) c d
+          → Along (Rest g row) Written (cond m (sectors g b (blockAt g c (e .current)) ∷ []) []) c d
       go false h =
-          along-none c d v
+          along-none c d (v, p .settled)
           (record { inv = v; same = refl; home = sym (v .safe .clean i b (e .current) (at .below) (ap isClean live-at ∙ ap not h) (ap kindNumber live-at) (ap kindCurrent live-at)) ∙ held-at })
       go true h =
           along-run (sectors g b (blockAt g c (e .current))) c d cut end
@@ -143,24 +143,26 @@ module _ {g : Geometry} {row : ℕ → List ℕ} {c d : List ℕ} (v : Inv g row
           bs : List ℕ
           bs = blockAt g c (e .current)
 
-          cut : (ts : List Store) → Some ts (sectors g b bs .stores) → Inv g row (madeOn card ts c) (madeOn disk ts d)
+          cut : (ts : List Store) → Some ts (sectors g b bs .stores) → Rest g row (madeOn card ts c) (madeOn disk ts d)
           cut ts w =
-              subst (λ (z : List ℕ). Inv g row z (madeOn disk ts d)) (sym (sectors-elsewhere g fit b bs ts w c))
-              (run-in-home b i (e .current) v (length-made disk ts d)
-              (λ x l k. sectors-others g fit b bs ts w d x k)
-              (at .below) (live-at ∙ ap (λ (m : Bool). live m b (e .current)) h))
+              subst (λ (z : List ℕ). Rest g row z (madeOn disk ts d)) (sym (sectors-elsewhere g fit b bs ts w c)) (
+                run-in-home b i (e .current) v (length-made disk ts d)
+                    (λ x l k. sectors-others g fit b bs ts w d x k)
+                    (at .below) (live-at ∙ ap (λ (m : Bool). live m b (e .current)) h),
+                p .settled,
+              )
 
-          end : Inv g row (madeOn card (sectors g b bs .stores) c) (madeOn disk (sectors g b bs .stores) d)
+          end : Rest g row (madeOn card (sectors g b bs .stores) c) (madeOn disk (sectors g b bs .stores) d)
               → Written (madeOn card (sectors g b bs .stores) c) (madeOn disk (sectors g b bs .stores) d)
           end w =
               record {
-                inv = w;
+                inv = w .0;
                 same = sectors-elsewhere g fit b bs (sectors g b bs .stores) (λ m at n h. h) c;
                 home = sectors-stored g fit b bs d block-length (v .shape .diskSized) (p .inDisk) ∙ held-at;
               }
 
-  cleared : (c′ d′ : List ℕ) → Written c′ d′ → Along (Inv g row) (Rest g row) (single (entryStore g i unused)) c′ d′
-  cleared c′ d′ w = along-one (entryStore g i unused) c′ d′ (w .inv) after (after, settled-entry i settled′ ch (ap hasLogRole new ∙ unused-role))
+  cleared : (c′ d′ : List ℕ) → Written c′ d′ → Along (Rest g row) (Rest g row) (single (entryStore g i unused)) c′ d′
+  cleared c′ d′ w = along-one (entryStore g i unused) c′ d′ (w .inv, settled′) rests rests
     where
       ch : Changed g (entry i) c′ (storedOn card (entryStore g i unused) c′)
       ch = entry-changed g c′ i unused (at .below)
@@ -193,7 +195,10 @@ module _ {g : Geometry} {row : ℕ → List ℕ} {c d : List ℕ} (v : Inv g row
           (entry-changes i unused (w .inv) (at .below) ch new (unused-good (versionOf c′) (g .blocks) (g .disk))
           (subst (Owes (g .blocks) (g .disk) row (viewOf g c′ d′) i) (sym (kind-idle (see _ _ unused))) (idle-owes i bare)))
 
-  pub eviction : Along (Inv g row) (Rest g row) (evictRuns g c b) c d
+      rests : Rest g row (storedOn card (entryStore g i unused) c′) (storedOn disk (entryStore g i unused) d′)
+      rests = (after, settled-entry i settled′ ch (ap hasLogRole new ∙ unused-role))
+
+  pub eviction : Along (Rest g row) (Rest g row) (evictRuns g c b) c d
   unfolding evictRuns i
   eviction = along-then (writeBack g c b) (single (entryStore g i unused)) c d written cleared
 
@@ -251,7 +256,7 @@ module _ {g : Geometry} {row : ℕ → List ℕ} {c d : List ℕ} (v : Inv g row
     same : d′ ≡ d
     copy : blockAt g c′ q ≡ diskBlock g d b
 
-  copied : Along (Inv g row) Copied (words g q (diskBlock g d b) ∷ []) c d
+  copied : Along (Rest g row) Copied (words g q (diskBlock g d b) ∷ []) c d
   copied = along-run (words g q (diskBlock g d b)) c d cut end
     where
       fit : Limits g
@@ -263,26 +268,26 @@ module _ {g : Geometry} {row : ℕ → List ℕ} {c d : List ℕ} (v : Inv g row
       bs-length : length (diskBlock g d b) ≡ blockSize g
       bs-length = disk-block-length g d b (v .shape .diskSized) (p .inDisk)
 
-      cut : (ts : List Store) → Some ts (words g q bs .stores) → Inv g row (madeOn card ts c) (madeOn disk ts d)
+      cut : (ts : List Store) → Some ts (words g q bs .stores) → Rest g row (madeOn card ts c) (madeOn disk ts d)
       cut ts w =
-          subst (Inv g row (madeOn card ts c)) (sym (words-elsewhere g fit q bs q-below ts w d))
-          (run-in-block q v (words-changed g fit q bs q-below ts w c) no-current (λ i l e. never-previous i q l e))
+          let x = words-changed g fit q bs q-below ts w c in
+          subst (Rest g row (madeOn card ts c)) (sym (words-elsewhere g fit q bs q-below ts w d))
+          (run-in-block q v x no-current (λ i l e. never-previous i q l e), settled-block q (p .settled) x)
 
-      end : Inv g row (madeOn card (words g q bs .stores) c) (madeOn disk (words g q bs .stores) d)
+      end : Rest g row (madeOn card (words g q bs .stores) c) (madeOn disk (words g q bs .stores) d)
           → Copied (madeOn card (words g q bs .stores) c) (madeOn disk (words g q bs .stores) d)
       end w =
           record {
-            inv = w;
+            inv = w .0;
             changed = words-changed-all g fit q bs q-below c;
             same = words-elsewhere g fit q bs q-below (words g q bs .stores) (λ m at n h. h) d;
             copy = words-stored g fit q bs q-below c bs-length (v .shape .cardSized);
           }
 
-  entered : (c′ d′ : List ℕ) → Copied c′ d′ → Along (Inv g row) (Rest g row) (single (entryStore g place-of new-entry)) c′ d′
+  entered : (c′ d′ : List ℕ) → Copied c′ d′ → Along (Rest g row) (Rest g row) (single (entryStore g place-of new-entry)) c′ d′
   unfolding new-entry
   entered c′ d′ w =
-      along-one (entryStore g place-of new-entry) c′ d′ (w .inv) after
-      (after, settled-entry place-of settled′ ch (ap hasLogRole new ∙ clean-role b FRESH q))
+      along-one (entryStore g place-of new-entry) c′ d′ (w .inv, settled′) rests rests
     where
       ch : Changed g (entry place-of) c′ (storedOn card (entryStore g place-of new-entry) c′)
       ch = entry-changed g c′ place-of new-entry place-below
@@ -337,6 +342,9 @@ module _ {g : Geometry} {row : ℕ → List ℕ} {c d : List ℕ} (v : Inv g row
           (entry-changes place-of new-entry (w .inv) place-below ch new (new-good (versionOf c′))
           (subst (Owes (g .blocks) (g .disk) row (viewOf g c′ d′) place-of) (sym (kind-live (see (versionOf c′) (inWindow g c′ b) new-entry))) owes))
 
-  pub loading : Along (Inv g row) (Rest g row) (loadRuns g c d b) c d
+      rests : Rest g row (storedOn card (entryStore g place-of new-entry) c′) (storedOn disk (entryStore g place-of new-entry) d′)
+      rests = (after, settled-entry place-of settled′ ch (ap hasLogRole new ∙ clean-role b FRESH q))
+
+  pub loading : Along (Rest g row) (Rest g row) (loadRuns g c d b) c d
   unfolding loadRuns cleanEntry q place-of new-entry
   loading = along-then (words g q (diskBlock g d b) ∷ []) (single (entryStore g place-of new-entry)) c d copied entered

@@ -1,21 +1,23 @@
 -- What a call that is not refused has passed: a sum of refusals that is 0 has no refusal in it. Assumes nothing.
-use Prim.Native.Nat.{ℕ, zero, suc, _<_}
+use Prim.Native.Nat.{ℕ, zero, suc, _-_, _<_}
 use mathlib.Core.List.{List}
 use lib.ListN.{length}
 use mathlib.Core.Bool.{Bool, true, false, not}
 use mathlib.Core.Path.{_≡_, refl, sym, ap, _∙_}
 use native.Mathlib.Omega.{arith}
 use lib.Dec.{eqb, ltb}
-use borrow.Author.Tests.{ltb-true, not-true}
+use borrow.Author.Tests.{eqb-true, eqb-false, ltb-true, not-true}
 use Rattle.protocol.specs.declared.Geometry.{Geometry}
 use Rattle.protocol.specs.declared.Map.{Map}
-use Rattle.protocol.specs.Layout.{geometryOf, versionOf}
-use Rattle.protocol.specs.Ring.{isSettled, cached}
+use Rattle.protocol.specs.declared.Pending.{Pending}
+use Rattle.protocol.specs.Layout.{geometryOf, versionOf, blockSize}
+use Rattle.protocol.specs.Ring.{inWindow, isSettled, cached}
 use Rattle.protocol.specs.Check.{refuse, _orElse_, fitRefusal, diskRefusal, damageRefusal, cardRefusal, choiceFits, choiceRefusal}
 use Rattle.protocol.specs.Map.{mapRefusal}
 use Rattle.protocol.specs.Commit.{countFits, dataFits, numbersFit, numbersApart, roomFor, saveRefusal, commitRefusal}
 use Rattle.protocol.specs.Recency.{isArranged, tableRefusal}
 use Rattle.protocol.specs.Load.{pairRefusal, blockRefusal, loadRefusal, evictRefusal}
+use Rattle.protocol.specs.Pending.{isPending, openRefusal, putRefusal, finishRefusal}
 use Rattle.protocol.specs.Room.{enoughVictims, roomRefusal}
 use Rattle.protocol.proofs.Holds.{pass, none-first, geometry-is, card-refuses, pair-refuses}
 use Rattle.protocol.proofs.Shape.{Inv}
@@ -69,6 +71,15 @@ pub record RoomPassed (w : ℕ) (g : Geometry) (c t ns bs ch : List ℕ) : Type 
   pub settled : isSettled g c ≡ true
   pub arranged : isArranged t ≡ true
   pub saves : SavePassed g ns bs ch (enoughVictims g c t ns)
+
+pub record PutPassed (g : Geometry) (c : List ℕ) (r : Pending) (b : ℕ) (bs : List ℕ) : Type 0 where
+  pub undamaged : damageRefusal g c ≡ 0
+  pub pending : isPending g c r ≡ true
+  pub counted : r .count ≡ g .slots - 1 → ⊥
+  pub sized : length bs ≡ blockSize g
+  pub inDisk : b < g .disk
+  pub outside : inWindow g c b ≡ false
+  pub room : roomFor g c 1 ≡ true
 
 module _ (g : Geometry) (ns bs ch : List ℕ) (room : Bool) where
   pub save-passed : saveRefusal g ns bs ch room ≡ 0 → SavePassed g ns bs ch room
@@ -169,3 +180,56 @@ module _ {g : Geometry} {row : ℕ → List ℕ} {c d : List ℕ} (v : Inv g row
       let card = second-zero (fitRefusal w w c) _ e in
       save-commit (passed 6 _ (sym (card-refuses v) ∙ first-zero (cardRefusal g c) _ card))
       (save-passed g ns bs ch _ (second-zero (mapRefusal c s) _ (second-zero (cardRefusal g c) _ card)))
+
+  pub open-passed : (w : ℕ) → openRefusal w c ≡ 0 → isSettled g c ≡ true
+  unfolding openRefusal
+  open-passed w z =
+      let e = ap (λ (y : Geometry). fitRefusal w w c orElse cardRefusal y c) (sym (geometry-is v)) ∙ z in
+      passed 6 _ (sym (card-refuses v) ∙ second-zero (fitRefusal w w c) _ e)
+
+-- what put and finish have passed
+module _ (g : Geometry) (c : List ℕ) (own : geometryOf c ≡ g) where
+  pub put-passed : (w : ℕ) (s : Map) (r : Pending) (b : ℕ) (bs ch : List ℕ) → putRefusal w c s r b bs ch ≡ 0 → PutPassed g c r b bs
+  unfolding putRefusal blockRefusal
+  put-passed w s r b bs ch z =
+      let e =
+      ap
+      (λ (y : Geometry).
+      fitRefusal w w c
+      orElse damageRefusal y c
+      orElse refuse 18 (isPending y c r)
+      orElse mapRefusal c s
+      orElse refuse 8 (not (eqb (r .count) (y .slots - 1)))
+      orElse refuse 9 (eqb (length bs) (blockSize y))
+      orElse choiceRefusal y ch
+      orElse refuse 10 (ltb b (y .disk))
+      orElse refuse 11 (not (inWindow y c b))
+      orElse refuse 14 (roomFor y c 1))
+      (sym own)
+      ∙ z in
+      let asked = second-zero (damageRefusal g c) _ (second-zero (fitRefusal w w c) _ e) in
+      let own = second-zero (mapRefusal c s) _ (second-zero (refuse 18 (isPending g c r)) _ asked) in
+      let nine = second-zero (refuse 8 (not (eqb (r .count) (g .slots - 1)))) _ own in
+      let ten = second-zero (choiceRefusal g ch) _ (second-zero (refuse 9 (eqb (length bs) (blockSize g))) _ nine) in
+      let more = second-zero (refuse 10 (ltb b (g .disk))) _ ten in
+      record {
+        undamaged = first-zero (damageRefusal g c) _ (second-zero (fitRefusal w w c) _ e);
+        pending = passed 17 _ (first-zero (refuse 18 (isPending g c r)) _ asked);
+        counted = eqb-false _ _ (not-true _ (passed 7 _ (first-zero (refuse 8 (not (eqb (r .count) (g .slots - 1)))) _ own)));
+        sized = eqb-true _ _ (passed 8 _ (first-zero (refuse 9 (eqb (length bs) (blockSize g))) _ nine));
+        inDisk = ltb-true _ _ (passed 9 _ (first-zero (refuse 10 (ltb b (g .disk))) _ ten));
+        outside = not-true _ (passed 10 _ (first-zero (refuse 11 (not (inWindow g c b))) _ more));
+        room = passed 13 _ (second-zero (refuse 11 (not (inWindow g c b))) _ more);
+      }
+
+  pub finish-passed : (w : ℕ) (s : Map) (r : Pending) → finishRefusal w c s r ≡ 0 → (damageRefusal g c ≡ 0) × (isPending g c r ≡ true)
+  unfolding finishRefusal
+  finish-passed w s r z =
+      let e =
+      ap
+      (λ (y : Geometry).
+      fitRefusal w w c orElse damageRefusal y c orElse refuse 18 (isPending y c r) orElse mapRefusal c s orElse refuse 8 (not (eqb (r .count) 0)))
+      (sym own)
+      ∙ z in
+      let more = second-zero (fitRefusal w w c) _ e in
+      (first-zero (damageRefusal g c) _ more, passed 17 _ (first-zero (refuse 18 (isPending g c r)) _ (second-zero (damageRefusal g c) _ more)))

@@ -27,7 +27,8 @@ use Rattle.protocol.specs.Commit.{numberOf, newBlock, entryFound, logEnt
 use Rattle.protocol.specs.Preview.{lengthsFit, previewRefusal, previewAnswer, blocksOf, blocksAfter, AnswersAlike, MisfitAlike, Stands, Foretold}
 use Rattle.protocol.proofs.Below.{either, absurd-bool, and-left, and-right, last-or-before}
 use Rattle.protocol.proofs.Checks.{orElse-none, refuse-none}
-use Rattle.protocol.proofs.Committed.{e-below, commit-entries, commit-done}
+use Rattle.protocol.proofs.Blocks.{e-below}
+use Rattle.protocol.proofs.Committed.{commit-entries, commit-done, puts}
 use Rattle.protocol.proofs.CutRule.{Answered, refused, cut, done, answered}
 use Rattle.protocol.proofs.Holds.{used-number, geometry-is}
 use Rattle.protocol.proofs.Lawful.{lawful}
@@ -180,7 +181,7 @@ module _ {g : Geometry} {row : ℕ → List ℕ} {c d : List ℕ} (ns bs : List 
       let x = commit-entries ns bs v p in
       let i = entryFound g c ns j in
       let b = numberOf ns j in
-      let low = e-below ns bs v p j l in
+      let low = e-below ns bs v (puts ns bs v p) j l in
       let n : entryAt g after i .number ≡ b = ap (λ (y : Entry). y .number) (x .planned j l) in
       let own = used-number g after i u ∙ ap some n in
       let h : cached g after b ≡ true = ⊎-elim (λ t. t) (λ t. absurd (not-cached g after b t i low own)) (either (cached g after b)) in

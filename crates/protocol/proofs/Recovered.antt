@@ -1,7 +1,7 @@
 -- Recovery, cut anywhere, keeps the invariant and the row; once all its stores are made the card is settled. Turn i has undone the entries
 -- below i; the ring and the entries from i on are as at the start. Assumes nothing.
 use Prim.Native.Nat.{ℕ, suc, _+_, _≤_, _<_}
-use mathlib.Core.List.{List, [], _∷_}
+use mathlib.Core.List.{List, [], _∷_, _++_, append-nil}
 use mathlib.Core.Bool.{Bool, true, false, cond, not, _&&_, _||_}
 use mathlib.Core.Option.{Option, none, some}
 use mathlib.Core.Path.{_≡_, refl, sym, ap, subst, _∙_}
@@ -17,20 +17,21 @@ use Rattle.protocol.specs.declared.Geometry.{Geometry}
 use Rattle.protocol.specs.Below.{eachBelow}
 use Rattle.protocol.specs.Layout.{goodGeometry, goodK, goodSlots, goodBlocks, goodDisk, versionOf, entryPlace, blockAt}
 use Rattle.protocol.specs.Entry.{FRESH, entryOf, unused, entryBytes, entryIn, entryAt, inUse, isModified, hasLogRole, goodEntry, undoneFlags, undone}
-use Rattle.protocol.specs.Ring.{headOf, tailOf, inWindow, usedAt, undoableAt, roleFreeAt, isSettled}
-use Rattle.protocol.specs.Store.{card, disk, Store, storedOn, single, entryStore, wordStore, tailStore}
+use Rattle.protocol.specs.Ring.{headOf, tailOf, windowOf, windowNumber, inWindow, usedAt, undoableAt, roleFreeAt, isSettled}
+use Rattle.protocol.specs.Store.{card, disk, Store, Run, storedOn, madeOn, flat, made, single, entryStore, wordStore, tailStore}
 use Rattle.protocol.specs.Recover.{sameBytes, ifChanging, undoRuns, recoverRuns}
 use Rattle.protocol.proofs.Allowed.{UsedEntry, used-good, unused-good, used-entry, not-used-blank, dirtyBefore, back-flag, back-used, back-role, back-modified, back-dirty, unused-used, unused-role}
-use Rattle.protocol.proofs.Below.{either, same-or-other, absurd-bool, and-left, and-right, and-both, or-false, all-of, last-or-before}
+use Rattle.protocol.proofs.Below.{either, same-or-other, absurd-bool, and-left, and-right, and-both, or-false, all-of, last-or-before, below-or-above}
 use Rattle.protocol.proofs.Checks.{Limits, limits}
 use Rattle.protocol.proofs.Codec.{EntryFits, good-fits, length-entry, entry-of-part, entry-read-back}
-use Rattle.protocol.proofs.Holds.{idle-kind, pending-kind, live-kind}
+use Rattle.protocol.proofs.Holds.{used-current, idle-kind, pending-kind, live-kind}
 use Rattle.protocol.proofs.Invariant.{Kind, idle, live, pending, kindNumber, kindCurrent, kindPrevious, kindHome, settledKind, undoneKind, isClean, wasClean, View, Safe, Owes}
 use Rattle.protocol.proofs.Made.{entry-changed, entry-stored, entry-elsewhere, tail-changed, tail-stored, tail-elsewhere}
 use Rattle.protocol.proofs.Region.{entry, tail}
-use Rattle.protocol.proofs.Shape.{Changed, version-kept, head-kept, tail-kept, entry-kept, pendingOf, kindOf, kindAt, Seen, seen-idle, seen-live, seen-pending, see, previousOf, previous-some, previous-none, Shape, Inv, Back}
-use Rattle.protocol.proofs.Steps.{undoable-same, kind-same, calm-entry, window-calm, kind-new, entry-changes, settled-kinds, tail-settled, tail-moves}
-use Rattle.protocol.proofs.Stores.{Along, along-then, along-none, along-one, along-each}
+use Rattle.protocol.proofs.Shape.{Changed, version-kept, head-kept, tail-kept, entry-kept, block-kept, window-kept, in-window-kept, pendingOf, kindOf, kindAt, Seen, seen-idle, seen-live, seen-pending, see, previousOf, previous-some, previous-none, Shape, Inv, Back}
+use Rattle.protocol.proofs.Steps.{undoable-same, kind-same, calm-entry, number-calm, kind-new, entry-changes, settled-kinds, tail-settled, tail-moves}
+use Rattle.protocol.proofs.Stores.{last-cut, Along, along-map, along-then, along-none, along-one, along-each}
+use Rattle.protocol.proofs.Told.{Told, told-kept}
 
 -- ---- stores that change no byte
 
@@ -89,7 +90,7 @@ module _ {v n d : ℕ} (e : Entry) where
       ∙ used-good v n d (entryOf (undoneFlags v e) (e .number) (e .previous) (e .previous))
       (record { flag = back-flag v e (e .number) (e .previous) (e .previous); numberBelow = u .numberBelow; currentBelow = l; previousBelow = inl l })
 
-  undone-role : Undone v n d e → hasLogRole (undone v e) ≡ false
+  pub undone-role : Undone v n d e → hasLogRole (undone v e) ≡ false
   undone-role (emptied p q) = ap hasLogRole q ∙ unused-role
   undone-role (restored l f q) = ap hasLogRole q ∙ back-role v e (e .number) (e .previous) (e .previous)
 
@@ -225,7 +226,7 @@ stands-there g c i x f e =
     ∙ ap (λ (z : List ℕ). entryIn z 0) e
     ∙ entry-bytes x f
 
-tail-stands : (c : List ℕ) (v : ℕ) → v < 65536 + 65536
+pub tail-stands : (c : List ℕ) (v : ℕ) → v < 65536 + 65536
     → part c (tailStore v .place) (length (tailStore v .bytes)) ≡ tailStore v .bytes → tailOf c ≡ v
 unfolding tailStore wordStore tailOf numberAt
 tail-stands c v l e =
@@ -288,17 +289,21 @@ module _ (g : Geometry) (row : ℕ → List ℕ) (c : List ℕ) where
     tails : tailOf c′ ≡ tailOf c
     versions : versionOf c′ ≡ versionOf c
     windows : (b : ℕ) → inWindow g c′ b ≡ inWindow g c b
+    numbers : (j : ℕ) → j < windowOf g c → windowNumber g c′ j ≡ windowNumber g c j
+    blocks : (q : ℕ) → q < g .blocks → blockAt g c′ q ≡ blockAt g c q
     ahead : (j : ℕ) → i ≤ j → j < g .blocks → entryAt g c′ j ≡ entryAt g c j
     free : (j : ℕ) → j < i → j < g .blocks → hasLogRole (entryAt g c′ j) ≡ false
     rests : (j : ℕ) → j < i → j < g .blocks → Rested (kindAt g c′ j)
 
   -- one entry more is done with
   advance : (i : ℕ) (c′ d′ c″ d″ : List ℕ) → i < g .blocks → Turn i c′ d′ → Inv g row c″ d″
-      → headOf c″ ≡ headOf c′ → tailOf c″ ≡ tailOf c′ → versionOf c″ ≡ versionOf c′ → ((b : ℕ) → inWindow g c″ b ≡ inWindow g c′ b)
+      → headOf c″ ≡ headOf c′ → tailOf c″ ≡ tailOf c′ → versionOf c″ ≡ versionOf c′
+      → ((j : ℕ) → j < windowOf g c → windowNumber g c″ j ≡ windowNumber g c′ j)
+      → ((q : ℕ) → q < g .blocks → blockAt g c″ q ≡ blockAt g c′ q)
       → ((j : ℕ) → j < g .blocks → (j ≡ i → ⊥) → entryAt g c″ j ≡ entryAt g c′ j)
       → hasLogRole (entryAt g c″ i) ≡ false → undoneKind (kindAt g c″ i) ≡ undoneKind (kindAt g c′ i) → Rested (kindAt g c″ i)
       → Turn (suc i) c″ d″
-  advance i c′ d′ c″ d″ l t v eh et ev ew others role same rest =
+  advance i c′ d′ c″ d″ l t v eh et ev en eb others role same rest =
       record {
         inv = v;
         backs = λ j m.
@@ -310,6 +315,8 @@ module _ (g : Geometry) (row : ℕ → List ℕ) (c : List ℕ) where
         tails = et ∙ t .tails;
         versions = ev ∙ t .versions;
         windows = λ b. ew b ∙ t .windows b;
+        numbers = λ j h. en j h ∙ t .numbers j h;
+        blocks = λ q h. eb q h ∙ t .blocks q h;
         ahead = λ j h m. others j m (λ e. omega arith) ∙ t .ahead j (omega arith) m;
         free = λ j h m.
             ⊎-elim
@@ -323,10 +330,17 @@ module _ (g : Geometry) (row : ℕ → List ℕ) (c : List ℕ) where
             (last-or-before j i h);
       }
     where
+      ew : (b : ℕ) → inWindow g c″ b ≡ inWindow g c′ b
+      ew = in-window-kept g c′ c″ eh et (λ j h. en j (subst (λ (z : ℕ). j < z) (window-kept g c c′ (t .heads) (t .tails)) h))
+
       kind-other : (j : ℕ) → j < g .blocks → (j ≡ i → ⊥) → kindAt g c″ j ≡ kindAt g c′ j
       kind-other j m h = kind-same g c′ c″ j ev (others j m h) ew
 
-  turn : (i : ℕ) (c′ d′ : List ℕ) → i < g .blocks → Turn i c′ d′ → Along Kept (Turn (suc i)) (undoRuns g c i) c′ d′
+  -- after some turns
+  abbrev Turning : List ℕ → List ℕ → Type 0
+  Turning c′ d′ = (i : ℕ) × Turn i c′ d′
+
+  turn : (i : ℕ) (c′ d′ : List ℕ) → i < g .blocks → Turn i c′ d′ → Along Turning (Turn (suc i)) (undoRuns g c i) c′ d′
   unfolding undoRuns
   turn i c′ d′ l t = go (undoableAt g c i) refl
     where
@@ -347,7 +361,7 @@ module _ (g : Geometry) (row : ℕ → List ℕ) (c : List ℕ) where
 
       idle-turn : undoableAt g c i ≡ false → Turn (suc i) c′ d′
       idle-turn h =
-          advance i c′ d′ c′ d′ l t (t .inv) refl refl refl (λ b. refl) (λ j m k. refl)
+          advance i c′ d′ c′ d′ l t (t .inv) refl refl refl (λ j h. refl) (λ q h. refl) (λ j m k. refl)
           (ap hasLogRole same ∙ quiet (either (inUse e))) refl
           (calm-rests g c′ i (u-same ∙ h))
         where
@@ -357,9 +371,9 @@ module _ (g : Geometry) (row : ℕ → List ℕ) (c : List ℕ) where
               or-false (hasLogRole e) (inWindow g c (e .number)) (sym (ap (λ (b : Bool). b && (hasLogRole e || inWindow g c (e .number))) a) ∙ w) .0
           quiet (inr a) = ap hasLogRole (not-used-blank v (g .blocks) (g .disk) e goodE a) ∙ unused-role
 
-      go : (b : Bool) → undoableAt g c i ≡ b → Along Kept (Turn (suc i)) (cond b (ifChanging c (entryStore g i (undone v e))) []) c′ d′
-      go false h = along-none c′ d′ (t .inv, t .backs) (idle-turn h)
-      go true h = along-changing c c′ d′ (entryStore g i x) (t .inv, t .backs) skipped (after .inv, after .backs) after
+      go : (b : Bool) → undoableAt g c i ≡ b → Along Turning (Turn (suc i)) (cond b (ifChanging c (entryStore g i (undone v e))) []) c′ d′
+      go false h = along-none c′ d′ (i, t) (idle-turn h)
+      go true h = along-changing c c′ d′ (entryStore g i x) (i, t) skipped (suc i, after) after
         where
           x : Entry
           x = undone v e
@@ -403,10 +417,12 @@ module _ (g : Geometry) (row : ℕ → List ℕ) (c : List ℕ) where
 
           -- the entry has its new kind on the card c₁
           done : (c₁ d₁ : List ℕ) → Inv g row c₁ d₁ → headOf c₁ ≡ headOf c′ → tailOf c₁ ≡ tailOf c′ → versionOf c₁ ≡ versionOf c′
-              → ((b : ℕ) → inWindow g c₁ b ≡ inWindow g c′ b) → ((j : ℕ) → j < g .blocks → (j ≡ i → ⊥) → entryAt g c₁ j ≡ entryAt g c′ j)
+              → ((j : ℕ) → j < windowOf g c → windowNumber g c₁ j ≡ windowNumber g c′ j)
+              → ((q : ℕ) → q < g .blocks → blockAt g c₁ q ≡ blockAt g c′ q)
+              → ((j : ℕ) → j < g .blocks → (j ≡ i → ⊥) → entryAt g c₁ j ≡ entryAt g c′ j)
               → entryAt g c₁ i ≡ x → kindAt g c₁ i ≡ kindOf (versionOf c′) (inWindow g c′ (x .number)) x → Turn (suc i) c₁ d₁
-          done c₁ d₁ w eh et ev ew others is k =
-              advance i c′ d′ c₁ d₁ l t w eh et ev ew others (ap hasLogRole is ∙ undone-role e cases)
+          done c₁ d₁ w eh et ev en eb others is k =
+              advance i c′ d′ c₁ d₁ l t w eh et ev en eb others (ap hasLogRole is ∙ undone-role e cases)
               (ap undoneKind k ∙ undone-again _ becomes ∙ sym (ap undoneKind old))
               (subst Rested (sym k) (undone-rests _ becomes))
 
@@ -414,13 +430,22 @@ module _ (g : Geometry) (row : ℕ → List ℕ) (c : List ℕ) where
           after =
               done c″ _ (subst (Inv g row c″) (sym (entry-elsewhere g i x d′)) kept)
               (head-kept ch (λ p q. omega arith)) (tail-kept ch (λ p q. omega arith)) (version-kept ch (λ p q. omega arith))
-              (window-calm (t .inv .shape) ch (calm-entry g i)) (λ j m k. entry-kept ch j m (λ p q. k (sym q))) new
+              (λ j h.
+              number-calm (t .inv .shape) ch (calm-entry g i) j (subst (λ (z : ℕ). j < z) (sym (window-kept g c c′ (t .heads) (t .tails))) h))
+              (λ q h. block-kept ch q h (λ p e. omega arith)) (λ j m k. entry-kept ch j m (λ p q. k (sym q))) new
               (kind-new i x (t .inv) l ch new fit′)
 
           skipped : part c (entryStore g i x .place) (length (entryStore g i x .bytes)) ≡ entryStore g i x .bytes → Turn (suc i) c′ d′
           skipped eq =
               let now : entryAt g c′ i ≡ x = same ∙ stands-there g c i x fits eq in
-              done c′ d′ (t .inv) refl refl refl (λ b. refl) (λ j m k. refl) now (kind-here g c′ i now)
+              done c′ d′ (t .inv) refl refl refl (λ j h. refl) (λ q h. refl) (λ j m k. refl) now (kind-here g c′ i now)
+
+  -- what the window tells stays up to Tail's store: an entry that still has R is as it was
+  turn-told : {i : ℕ} {d c′ d′ ns bs : List ℕ} → Inv g row c d → Turn i c′ d′ → Told g ns bs c → Told g ns bs c′
+  turn-told {i} {d} {c′} v t s =
+      told-kept c′ s (window-kept g c c′ (t .heads) (t .tails)) (t .numbers)
+      (λ j l r. ⊎-elim (λ h. absurd-bool r (t .free j h l)) (λ h. t .ahead j h l) (below-or-above j i))
+      (λ j l u. t .blocks (entryAt g c j .current) (v .safe .currentUnder j _ l (used-current g c j u)))
 
   -- Tail's store, or none where Tail stands at Head already
   settle : (c′ d′ : List ℕ) → Turn (g .blocks) c′ d′ → Along Kept (λ c″ d″. Kept c″ d″ × (isSettled g c″ ≡ true)) (ifChanging c (tailStore (headOf c))) c′ d′
@@ -461,25 +486,54 @@ module _ (g : Geometry) (row : ℕ → List ℕ) (c : List ℕ) where
             ∙ settled-undone (kindAt g c′ i) ∙ t .rests i l l ∙ t .backs i l,
       )
 
--- recovery of a card that the invariant holds of
-pub recovery : {g : Geometry} {row : ℕ → List ℕ} {c d : List ℕ} → Inv g row c d
-    → Along (Kept g row c) (λ c′ d′. Kept g row c c′ d′ × (isSettled g c′ ≡ true)) (recoverRuns g c) c d
-unfolding recoverRuns
-recovery {g} {row} {c} {d} v =
-    along-then (eachBelow (undoRuns g c) (g .blocks)) (ifChanging c (tailStore (headOf c))) c d
-    (along-each (Turn g row c) (undoRuns g c) (g .blocks) c d (v, λ i l. refl) start (turn g row c))
-    (settle g row c)
-  where
-    start : Turn g row c 0 c d
-    start =
-        record {
-          inv = v;
-          backs = λ i l. refl;
-          heads = refl;
-          tails = refl;
-          versions = refl;
-          windows = λ b. refl;
-          ahead = λ j h l. refl;
-          free = λ j h l. absurd (omega arith);
-          rests = λ j h l. absurd (omega arith);
-        }
+module _ {g : Geometry} {row : ℕ → List ℕ} {c d : List ℕ} (v : Inv g row c d) where
+  undos-along : Along (Turning g row c) (Turn g row c (g .blocks)) (eachBelow (undoRuns g c) (g .blocks)) c d
+  undos-along = along-each (Turn g row c) (undoRuns g c) (g .blocks) c d (0, start) start (turn g row c)
+    where
+      start : Turn g row c 0 c d
+      start =
+          record {
+            inv = v;
+            backs = λ i l. refl;
+            heads = refl;
+            tails = refl;
+            versions = refl;
+            windows = λ b. refl;
+            numbers = λ j h. refl;
+            blocks = λ q h. refl;
+            ahead = λ j h l. refl;
+            free = λ j h l. absurd (omega arith);
+            rests = λ j h l. absurd (omega arith);
+          }
+
+  -- recovery of a card that the invariant holds of
+  pub recovery : Along (Kept g row c) (λ c′ d′. Kept g row c c′ d′ × (isSettled g c′ ≡ true)) (recoverRuns g c) c d
+  unfolding recoverRuns
+  recovery =
+      along-then (eachBelow (undoRuns g c) (g .blocks)) (ifChanging c (tailStore (headOf c))) c d
+      (along-map (λ c′ d′ t. (t .1 .inv, t .1 .backs)) (λ c′ d′ t. t) undos-along)
+      (settle g row c)
+
+  -- cut before its last store it keeps what the window tells
+  pub recovery-cut : (a : ℕ) (ch : List ℕ) → a < length (flat (recoverRuns g c)) → {ns bs : List ℕ} → Told g ns bs c
+      → Inv g row (madeOn card (made a ch (recoverRuns g c)) c) (madeOn disk (made a ch (recoverRuns g c)) d)
+      × Told g ns bs (madeOn card (made a ch (recoverRuns g c)) c)
+  unfolding recoverRuns ifChanging
+  recovery-cut a ch l {ns} {bs} s =
+      go (sameBytes (part c (tailStore (headOf c) .place) (length (tailStore (headOf c) .bytes))) (tailStore (headOf c) .bytes)) l
+    where
+      undos : List Run
+      undos = eachBelow (undoRuns g c) (g .blocks)
+
+      kept : (ss : List Store) → ss ≡ made a ch undos → Inv g row (madeOn card ss c) (madeOn disk ss d) × Told g ns bs (madeOn card ss c)
+      kept ss e =
+          let (i, t) = undos-along .during a ch in
+          subst (λ (ts : List Store). Inv g row (madeOn card ts c) (madeOn disk ts d) × Told g ns bs (madeOn card ts c)) (sym e)
+          (t .inv, turn-told g row c v t s)
+
+      go : (b : Bool) → a < length (flat (undos ++ cond b [] (single (tailStore (headOf c)))))
+          → Inv g row (madeOn card (made a ch (undos ++ cond b [] (single (tailStore (headOf c))))) c)
+          (madeOn disk (made a ch (undos ++ cond b [] (single (tailStore (headOf c))))) d)
+          × Told g ns bs (madeOn card (made a ch (undos ++ cond b [] (single (tailStore (headOf c))))) c)
+      go true h = kept _ (ap (made a ch) (append-nil undos))
+      go false h = kept _ (last-cut a ch undos (tailStore (headOf c)) h)

@@ -21,21 +21,22 @@ use Rattle.protocol.specs.Entry.{unused, entryOf, switched, entryAt, inU
 use Rattle.protocol.specs.Ring.{headOf, tailOf, usedAt, isSettled, entryFor, findEntry, cached, currentOf}
 use Rattle.protocol.specs.Check.{_orElse_, cardRefusal}
 use Rattle.protocol.specs.Store.{card, Run, storedOn, madeOn, flat, single, sectors, entryStore}
-use Rattle.protocol.specs.Search.{takenBy, isFree, searchStart, freeBlocks}
+use Rattle.protocol.specs.Search.{currentIs, takenBy, isFree, searchStart, freeBlocks}
 use Rattle.protocol.specs.Map.{mapBy, isMarked, mapOf, mapRefusal}
 use Rattle.protocol.specs.Commit.{numberOf, entryFound, logEntry, roomFor, commitRuns, saveRefusal, commitRefusal}
 use Rattle.protocol.specs.Recency.{isArranged}
 use Rattle.protocol.specs.Load.{writeBack, evictRuns}
 use Rattle.protocol.specs.Room.{isAmong, isVictim, fromLast, victims, missing, victimNumber, evictions, roomRuns, roomLeft, enoughVictims, roomRefusal}
 use Rattle.protocol.proofs.Allowed.{unused-good, unused-used}
-use Rattle.protocol.proofs.Below.{absurd-bool, either, last-or-before, and-left, and-right, and-both, and-true, and-fails, any-found, first-cong, count-le}
+use Rattle.protocol.proofs.Below.{absurd-bool, either, last-or-before, and-left, and-right, and-both, and-true, and-fails, or-left, any-found, first-cong, count-le}
 use Rattle.protocol.proofs.Checks.{limits}
-use Rattle.protocol.proofs.Committed.{among, e-below, Entries, commit-entries}
+use Rattle.protocol.proofs.Blocks.{among, e-below}
+use Rattle.protocol.proofs.Committed.{Entries, commit-entries, puts}
 use Rattle.protocol.proofs.Codec.{version-same}
 use Rattle.protocol.proofs.Holds.{pass, none-first, header-version, fit-header, fit-passes, card-refuses}
 use Rattle.protocol.proofs.Lawful.{Intact, intact, inv-intact, current-below, number-below, entry-found, entry-cached, held, home, lawful}
 use Rattle.protocol.proofs.Left.{made-evict, clear-marked}
-use Rattle.protocol.proofs.Loaded.{cached-entry, eviction}
+use Rattle.protocol.proofs.Loaded.{Rest, cached-entry, eviction}
 use Rattle.protocol.proofs.Made.{entry-changed, entry-stored}
 use Rattle.protocol.proofs.Maps.{own-map, marked-below}
 use Rattle.protocol.proofs.Passed.{EvictPassed, CommitPassed, SavePassed, RoomPassed, save-passes, save-commit, room-passed}
@@ -200,13 +201,13 @@ module _ {g : Geometry} {row : ℕ → List ℕ} {c d : List ℕ} (t ns : List �
       }
 
   turn : (k : ℕ) (c′ d′ : List ℕ) → k < length (victims g c t ns) → Evicting k c′ d′
-      → Along (Inv g row) (Evicting (suc k)) (evictRuns g c (victimNumber g c t ns k)) c′ d′
+      → Along (Rest g row) (Evicting (suc k)) (evictRuns g c (victimNumber g c t ns k)) c′ d′
   turn k c′ d′ l q =
       let w = inv-intact v in
       let x = q .1 in
       let e = eviction (q .0) (victimNumber g c t ns k) (passes t ns w a k l x) in
       let is = next-is t ns w a k l x in
-      subst (λ (rs : List Run). Along (Inv g row) (Evicting (suc k)) rs c′ d′) (in-turn t ns w a k l x)
+      subst (λ (rs : List Run). Along (Rest g row) (Evicting (suc k)) rs c′ d′) (in-turn t ns w a k l x)
       (record {
         during = e .during;
         end = (
@@ -216,10 +217,10 @@ module _ {g : Geometry} {row : ℕ → List ℕ} {c d : List ℕ} (t ns : List �
         );
       })
 
-  pub evicting : (k : ℕ) → k ≤ length (victims g c t ns) → Along (Inv g row) (Evicting k) (evictions g c t ns k) c d
+  pub evicting : (k : ℕ) → k ≤ length (victims g c t ns) → Along (Rest g row) (Evicting k) (evictions g c t ns k) c d
   unfolding evictions
   evicting k l =
-      along-each Evicting (λ i. evictRuns g c (victimNumber g c t ns i)) k c d v (v, start)
+      along-each Evicting (λ i. evictRuns g c (victimNumber g c t ns i)) k c d (v, s) (v, start)
       (λ i c′ d′ h q. turn i c′ d′ (omega arith) q)
 
 -- of every card that passes its checks
@@ -256,7 +257,7 @@ free-marked g c d l = ap not (sym (marked-below g c d l))
 pub free-count : (g : Geometry) (c : List ℕ) → 0 < g .blocks → length (freeBlocks g c) ≡ countBelow (isFree g c) (g .blocks)
 unfolding freeBlocks searchStart
 free-count g c l =
-    length-walk (isFree g c) (g .blocks) (headOf c % g .blocks) (g .blocks) ∙ count-round (isFree g c) (g .blocks) (headOf c % g .blocks) (mod-lt (headOf c) l)
+    length-walk (isFree g c) (g .blocks) (tailOf c % g .blocks) (g .blocks) ∙ count-round (isFree g c) (g .blocks) (tailOf c % g .blocks) (mod-lt (tailOf c) l)
 
 -- one bit cleared after others
 clear-both : (m x y : Bool) → (m && not x) && not y ≡ m && not (x || y)
@@ -310,15 +311,15 @@ module _ {g : Geometry} {c : List ℕ} (t ns : List ℕ) (w : Intact g c) (s : i
     next-marked : (d : ℕ) → d < 128 → isMarked g (roomAfter g c t ns (suc k)) d ≡ isMarked g (roomAfter g c t ns k) d && not (eqb (block k) d)
     next-marked d h =
         ap (λ (z : List ℕ). isMarked g z d) after-next
-        ∙ clear-marked (so-far t ns w s a k l .intact) (victim g c t ns k) (victim-below g c t ns k l) at-used d h
+        ∙ clear-marked (so-far t ns w s a k l .intact) (so-far t ns w s a k l .settled) (victim g c t ns k) (victim-below g c t ns k l) at-used d h
         ∙ ap (λ (e : Entry). isMarked g (roomAfter g c t ns k) d && not (eqb (e .current) d)) (victim-stays t ns w s a k l)
 
     taken : isMarked g (roomAfter g c t ns k) (block k) ≡ true
-    unfolding takenBy
+    unfolding takenBy currentIs
     taken =
         marked-below g _ (block k) (current-below w (victim g c t ns k) (victim-below g c t ns k l))
         ∙ any-found _ (g .blocks) (victim g c t ns k) (victim-below g c t ns k l)
-        (and-both at-used (eq-eqb _ _ (ap (λ (e : Entry). e .current) (victim-stays t ns w s a k l))))
+        (or-left _ _ (and-both at-used (eq-eqb _ _ (ap (λ (e : Entry). e .current) (victim-stays t ns w s a k l)))))
 
     -- its block was taken, and is free now; the others are as before
     next-free : countBelow (isFree g (roomAfter g c t ns (suc k))) (g .blocks) ≡ countBelow (isFree g (roomAfter g c t ns k)) (g .blocks) + 1
@@ -408,7 +409,7 @@ module _ {v : ℕ} {g : Geometry} {c : List ℕ} (t ns bs ch : List ℕ) (w : In
   room-lawful = lawful (room-left .intact) (room-left .settled)
 
   pub room-place : (i : ℕ) → i < length ns → entryFound g (roomLeft g c t ns) ns i < g .blocks
-  room-place i l = e-below ns bs room-lawful room-commits i l
+  room-place i l = e-below ns bs room-lawful (puts ns bs room-lawful room-commits) i l
 
   -- the card that the commit leaves
   abbrev pub roomDone : List ℕ
@@ -455,11 +456,11 @@ module _ {v : ℕ} {g : Geometry} {c : List ℕ} (t ns bs ch : List ℕ) (w : In
 
 -- making room, cut anywhere, keeps the invariant and the row, and leaves the card that the commit's searches see
 pub room-along : {n : ℕ} {g : Geometry} {row : ℕ → List ℕ} {c d : List ℕ} (t ns bs ch : List ℕ) → Inv g row c d → RoomPassed n g c t ns bs ch
-    → Along (Inv g row) (λ c′ d′. Inv g row c′ d′ × (c′ ≡ roomLeft g c t ns)) (roomRuns g c t ns) c d
+    → Along (Rest g row) (λ c′ d′. Rest g row c′ d′ × (c′ ≡ roomLeft g c t ns)) (roomRuns g c t ns) c d
 unfolding roomLeft roomRuns
 room-along {n} {g} {row} {c} {d} t ns bs ch v p =
     let x = evicting t ns v (p .settled) (p .arranged) (missing g c ns) (room-enough t ns bs ch (inv-intact v) p) in
-    record { during = x .during; end = (x .end .0, refl) }
+    record { during = x .during; end = ((x .end .0, x .end .1 .settled), refl) }
 
 -- of every room-making commit that is not refused
 module _ (c d : List ℕ) (m : Map) (t ns bs ch : List ℕ) (z : roomRefusal 2 c d m t ns bs ch ≡ 0) where

@@ -1,18 +1,18 @@
 -- What is sifted out of a sequence has the property and stands there once, as what the searches round the ring find; and by counting, a card
 -- that passes check 6 has an unused entry for each free data block. Assumes nothing.
 use Prim.Native.Nat.{ℕ, zero, suc, _+_, _-_, _≤_, _<_}
-use mathlib.Core.List.{List, [], _∷_, _++_}
+use mathlib.Core.List.{List, [], _∷_, _++_, append-nil}
 use mathlib.Core.Bool.{Bool, true, false, cond, not, _&&_}
 use mathlib.Core.Path.{_≡_, refl, sym, ap, _∙_}
 use mathlib.Core.Logic.{_⊎_, inl, inr, ⊎-elim}
 use native.Mathlib.Nat.{add-zero, add-suc}
 use native.Mathlib.Omega.{arith}
-use lib.ListN.{length, getD, length-append, List·getD-append}
-use lib.Seq.{getD-append-add}
-use lib.Dec.{eqb}
-use borrow.Author.Tests.{eq-eqb, ne-eqb, lt-ltb, le-ltb}
+use lib.ListN.{length, getD, drop, length-append, drop-of-length-le, List·getD-append}
+use lib.Seq.{drop-nil, drop-append-le, getD-append-add}
+use lib.Dec.{eqb, leb}
+use borrow.Author.Tests.{eq-eqb, ne-eqb, lt-ltb, le-ltb, leb-true, le-leb, lt-leb}
 use Rattle.protocol.specs.Below.{anyBelow, countBelow, eachBelow, keep, around, walked}
-use Rattle.protocol.proofs.Below.{below-cong, either, absurd-bool, below-or-above, last-or-before, around-apart, any-found, and-both, and-true, and-fails}
+use Rattle.protocol.proofs.Below.{below-cong, either, absurd-bool, bool-same, below-or-above, last-or-before, around-below, around-apart, any-found, and-left, and-right, and-both, and-true, and-fails}
 
 -- ---- what is sifted out
 
@@ -131,6 +131,78 @@ module _ (p : ℕ → Bool) (nth : ℕ → ℕ) where
           omega (arith, ap length e, length-append (sifted p nth j) []) in
           m ∙ sym (ap (λ (b : Bool). cond b (suc (countBelow (λ i. p (nth i)) j)) (countBelow (λ i. p (nth i)) j)) h)
 
+  -- a value that has p stands behind those sifted out before it
+  sift-at : (n j : ℕ) → j < n → p (nth j) ≡ true
+      → (length (sifted p nth j) < length (sifted p nth n)) × (getD (sifted p nth n) (length (sifted p nth j)) 0 ≡ nth j)
+  unfolding eachBelow
+  sift-at zero j l h = absurd (omega arith)
+  sift-at (suc n) j l h = go (longer n) (last-or-before j n l) (λ m. sift-at n j m h)
+    where
+      At : ℕ → Type 0
+      At n = (length (sifted p nth j) < length (sifted p nth n)) × (getD (sifted p nth n) (length (sifted p nth j)) 0 ≡ nth j)
+
+      old : (ys : List ℕ) → sifted p nth (suc n) ≡ sifted p nth n ++ ys → At n → At (suc n)
+      old ys e a = (
+        omega (arith, a .0, ap length e, length-append (sifted p nth n) ys),
+        ap (λ (z : List ℕ). getD z (length (sifted p nth j)) 0) e ∙ List·getD-append (sifted p nth n) ys 0 _ (a .0) ∙ a .1,
+      )
+
+      go : Longer n → (j ≡ n) ⊎ (j < n) → (j < n → At n) → At (suc n)
+      go (more t e) (inr m) ih = old (nth n ∷ []) e (ih m)
+      go (same t e) (inr m) ih = old [] e (ih m)
+      go (same t e) (inl q) ih = absurd-bool h (ap (λ (z : ℕ). p (nth z)) q ∙ t)
+      go (more t e) (inl q) ih =
+          let k : length (sifted p nth j) ≡ length (sifted p nth n) = ap (λ (z : ℕ). length (sifted p nth z)) q in
+          let long = length-append (sifted p nth n) (nth n ∷ []) in (
+            omega (arith, k, ap length e, long),
+            ap (λ (z : List ℕ). getD z (length (sifted p nth j)) 0) e
+                ∙ at-end (sifted p nth n) (nth n) (length (sifted p nth j)) (omega arith) (omega arith) ∙ ap nth (sym q),
+          )
+
+  -- sifting by p, but not before i are found, gives all but the first i
+  sift-rest : (q : ℕ → Bool) (i n : ℕ) → ((j : ℕ) → j < n → q (nth j) ≡ p (nth j) && leb i (length (sifted p nth j)))
+      → sifted q nth n ≡ drop i (sifted p nth n)
+  unfolding eachBelow keep
+  sift-rest q i zero f = sym (drop-nil i)
+  sift-rest q i (suc n) f =
+      (λ t. sift-rest q i n (λ j l. f j (omega arith)) t ++ keep (f n (omega arith) t) (nth n))
+      ∙ go (p (nth n)) (below-or-above (length (sifted p nth n)) i)
+    where
+      xs : List ℕ
+      xs = sifted p nth n
+
+      go : (b : Bool) → (length xs < i) ⊎ (i ≤ length xs) → drop i xs ++ keep (b && leb i (length xs)) (nth n) ≡ drop i (xs ++ keep b (nth n))
+      go false s = append-nil (drop i xs) ∙ ap (drop i) (sym (append-nil xs))
+      go true (inl s) =
+          let short : length xs ≤ i = omega arith in
+          let long : length (xs ++ (nth n ∷ [])) ≤ i = omega (arith, length-append xs (nth n ∷ [])) in
+          ap (λ (b : Bool). drop i xs ++ keep b (nth n)) (lt-leb i (length xs) s)
+          ∙ append-nil (drop i xs)
+          ∙ drop-of-length-le xs short
+          ∙ sym (drop-of-length-le (xs ++ (nth n ∷ [])) long)
+      go true (inr s) =
+          ap (λ (b : Bool). drop i xs ++ keep b (nth n)) (le-leb i (length xs) s) ∙ sym (drop-append-le i xs (nth n ∷ []) s)
+
+  -- what has p but is none of the first i that have it: the others, in their order
+  sift-without : (q : ℕ → Bool) (i n : ℕ) → ((a b : ℕ) → a < n → b < n → nth a ≡ nth b → a ≡ b) → i ≤ length (sifted p nth n)
+      → ((j : ℕ) → j < n → q (nth j) ≡ true → p (nth j) ≡ true)
+      → ((k : ℕ) → k < i → q (getD (sifted p nth n) k 0) ≡ false)
+      → ((j : ℕ) → j < n → p (nth j) ≡ true → ((k : ℕ) → k < i → getD (sifted p nth n) k 0 ≡ nth j → ⊥) → q (nth j) ≡ true)
+      → sifted q nth n ≡ drop i (sifted p nth n)
+  sift-without q i n once few had gone stays =
+      sift-rest q i n
+      (λ j l. bool-same _ _
+      (λ e.
+      let h = had j l e in
+      let (b, at) = sift-at n j l h in
+      and-both h
+      (⊎-elim (λ s. absurd-bool e (ap q (sym at) ∙ gone _ s)) (λ s. le-leb _ _ s) (below-or-above (length (sifted p nth j)) i)))
+      (λ e.
+      let h = and-left (p (nth j)) _ e in
+      let s : i ≤ length (sifted p nth j) = leb-true _ _ (and-right (p (nth j)) _ e) in
+      let (b, at) = sift-at n j l h in
+      stays j l h (λ k lk same. let z : k ≡ length (sifted p nth j) = sift-apart n k _ once (omega arith) b (same ∙ sym at) in omega arith)))
+
 -- ---- what a walk finds
 
 abbrev pub Found : (ℕ → Bool) → ℕ → ℕ → ℕ → ℕ → Type 0
@@ -150,7 +222,31 @@ module _ (p : ℕ → Bool) (n start : ℕ) where
   unfolding walked
   length-walk = length-sift p (around n start)
 
+-- a walk for what has p but is none of the first i that have it finds the others, in their order
+pub walk-without : (p q : ℕ → Bool) (n start i : ℕ) → start < n → i ≤ length (walked p n start n) → ((x : ℕ) → x < n → q x ≡ true → p x ≡ true)
+    → ((k : ℕ) → k < i → q (getD (walked p n start n) k 0) ≡ false)
+    → ((x : ℕ) → x < n → p x ≡ true → ((k : ℕ) → k < i → getD (walked p n start n) k 0 ≡ x → ⊥) → q x ≡ true)
+    → walked q n start n ≡ drop i (walked p n start n)
+unfolding walked
+walk-without p q n start i s few had gone stays =
+    sift-without p (around n start) q i n (λ a b la lb. around-apart n start a b s la lb) few
+    (λ j l. had (around n start j) (around-below n start j s (omega arith))) gone
+    (λ j l. stays (around n start j) (around-below n start j s (omega arith)))
+
 -- ---- counting
+
+-- each count below that of all is reached at an index that has p
+pub count-reached : (p : ℕ → Bool) (n k : ℕ) → k < countBelow p n → (j : ℕ) × (j < n) × (p j ≡ true) × (countBelow p j ≡ k)
+unfolding countBelow
+count-reached p zero k l = absurd (omega arith)
+count-reached p (suc n) k l = go (p n) refl l (count-reached p n k)
+  where
+    go : (b : Bool) → p n ≡ b → k < cond b (suc (countBelow p n)) (countBelow p n)
+        → (k < countBelow p n → (j : ℕ) × (j < n) × (p j ≡ true) × (countBelow p j ≡ k))
+        → (j : ℕ) × (j < suc n) × (p j ≡ true) × (countBelow p j ≡ k)
+    go false e l ih = let (j, m, h, q) = ih l in (j, omega arith, h, q)
+    go true e l ih =
+        ⊎-elim (λ q. (n, omega arith, e, sym q)) (λ m. let (j, m, h, q) = ih m in (j, omega arith, h, q)) (last-or-before k (countBelow p n) l)
 
 pub count-cong : (p q : ℕ → Bool) (n : ℕ) → ((i : ℕ) → i < n → p i ≡ q i) → countBelow p n ≡ countBelow q n
 unfolding countBelow
@@ -246,6 +342,13 @@ inj-count p q f (suc m) n to inj =
         let at = to i (omega arith) h in
         (at .0, and-both (at .1) (ap not (ne-eqb (f i) (f m) (λ x. let same = inj i m (omega arith) (omega arith) h e x in omega arith))))) in
         omega (arith, more, few)
+
+-- a walk finds no more of what has more to it
+pub walk-fewer : (p q : ℕ → Bool) (n start : ℕ) → ((x : ℕ) → p x ≡ true → q x ≡ true) → length (walked p n start n) ≤ length (walked q n start n)
+walk-fewer p q n start f =
+    let few =
+    inj-count (λ i. p (around n start i)) (λ i. q (around n start i)) (λ i. i) n n (λ i l h. (l, f (around n start i) h)) (λ i j l m h k e. e) in
+    omega (arith, length-walk p n start n, length-walk q n start n, few)
 
 -- as many unused entries as free blocks, or more; in the order of a walk too
 pub unused-enough : (used : ℕ → Bool) (at : ℕ → ℕ) (n s : ℕ)

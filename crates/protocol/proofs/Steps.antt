@@ -64,7 +64,7 @@ calm-block g i =
 
 module _ {g : Geometry} {c c′ d : List ℕ} (s : Shape g c d) where
   -- a change outside the ring leaves the window
-  number-calm : {r : Region} → Changed g r c c′ → Calm g r → (j : ℕ) → j < windowOf g c → windowNumber g c′ j ≡ windowNumber g c j
+  pub number-calm : {r : Region} → Changed g r c c′ → Calm g r → (j : ℕ) → j < windowOf g c → windowNumber g c′ j ≡ windowNumber g c j
   unfolding windowOf
   number-calm {r} x k j l =
       let short : windowLength (g .slots) (tailOf c) (headOf c) < g .slots = window-short (g .slots) (tailOf c) (headOf c) (s .tailBelow) (s .headBelow) in
@@ -251,39 +251,46 @@ slot-changes {g} {row} {c} {c′} {d} v x =
     win : (b : ℕ) → inWindow g c′ b ≡ inWindow g c b
     win = in-window-kept g c c′ eh et nums
 
--- Head forward by one, over a slot whose number's entry has R: the window takes the number in, and no kind changes
-module _ {g : Geometry} {row : ℕ → List ℕ} {c c′ d : List ℕ} (v : Inv g row c d) (x : Changed g head c c′)
-    (moved : headOf c′ ≡ around (g .slots) (headOf c) 1) (room : windowOf g c + 1 < g .slots)
-    (fits : slotAt c (headOf c) < g .disk)
-    (logged : (i : ℕ) → i < g .blocks → inUse (entryAt g c i) ≡ true → entryAt g c i .number ≡ slotAt c (headOf c) → hasLogRole (entryAt g c i) ≡ true) where
+-- Head forward by one: the window takes in the number in the slot there
+module _ {g : Geometry} {c c′ : List ℕ} (tb : tailOf c < g .slots) (hb : headOf c < g .slots) (x : Changed g head c c′)
+    (moved : headOf c′ ≡ around (g .slots) (headOf c) 1) (room : windowOf g c + 1 < g .slots) where
   et : tailOf c′ ≡ tailOf c
   et = tail-kept x (λ p h. omega arith)
 
-  same : (i : ℕ) → i < g .blocks → entryAt g c′ i ≡ entryAt g c i
-  same i l = entry-kept x i l (λ p h. omega arith)
-
   pub window-longer : windowOf g c′ ≡ windowOf g c + 1
   unfolding windowOf
-  window-longer =
-      (λ t. windowLength (g .slots) (et t) (moved t))
-      ∙ window-grows (g .slots) (tailOf c) (headOf c) (v .shape .tailBelow) (v .shape .headBelow) room
+  window-longer = (λ t. windowLength (g .slots) (et t) (moved t)) ∙ window-grows (g .slots) (tailOf c) (headOf c) tb hb room
 
   pub number-stays : (j : ℕ) → j ≤ windowOf g c → windowNumber g c′ j ≡ windowNumber g c j
   unfolding windowNumber
   number-stays j l =
       ap (λ (t : ℕ). slotAt c′ (around (g .slots) t j)) et
-      ∙ slot-kept x (around (g .slots) (tailOf c) j) (around-below (g .slots) (tailOf c) j (v .shape .tailBelow) (omega arith)) (λ p h. omega arith)
+      ∙ slot-kept x (around (g .slots) (tailOf c) j) (around-below (g .slots) (tailOf c) j tb (omega arith)) (λ p h. omega arith)
 
   pub number-last : windowNumber g c (windowOf g c) ≡ slotAt c (headOf c)
-  unfolding windowNumber
-  number-last = ap (slotAt c) (head-after v)
+  unfolding windowNumber windowOf
+  number-last = ap (slotAt c) (window-end (g .slots) (tailOf c) (headOf c) tb hb)
 
-  longer : (b : ℕ) → inWindow g c′ b ≡ inWindow g c b || eqb (slotAt c (headOf c)) b
+  pub longer : (b : ℕ) → inWindow g c′ b ≡ inWindow g c b || eqb (slotAt c (headOf c)) b
   unfolding inWindow windowHas anyBelow
   longer b =
       ap (anyBelow (windowHas g c′ b)) (window-longer ∙ add-one (windowOf g c))
       ∙ (λ t. any-cong (windowHas g c′ b) (windowHas g c b) (windowOf g c) (λ j l. ap (λ (y : ℕ). eqb y b) (number-stays j (omega arith))) t
       || eqb ((number-stays (windowOf g c) (omega arith) ∙ number-last) t) b)
+
+-- and where the entry of that number has R, no kind changes
+module _ {g : Geometry} {row : ℕ → List ℕ} {c c′ d : List ℕ} (v : Inv g row c d) (x : Changed g head c c′)
+    (moved : headOf c′ ≡ around (g .slots) (headOf c) 1) (room : windowOf g c + 1 < g .slots)
+    (fits : slotAt c (headOf c) < g .disk)
+    (logged : (i : ℕ) → i < g .blocks → inUse (entryAt g c i) ≡ true → entryAt g c i .number ≡ slotAt c (headOf c) → hasLogRole (entryAt g c i) ≡ true) where
+  abbrev tb : tailOf c < g .slots
+  tb = v .shape .tailBelow
+
+  abbrev hb : headOf c < g .slots
+  hb = v .shape .headBelow
+
+  same : (i : ℕ) → i < g .blocks → entryAt g c′ i ≡ entryAt g c i
+  same i l = entry-kept x i l (λ p h. omega arith)
 
   -- the test that tells an undoable entry from a live one is as before
   role-stays : (i : ℕ) → i < g .blocks → inUse (entryAt g c i) ≡ true
@@ -291,7 +298,7 @@ module _ {g : Geometry} {row : ℕ → List ℕ} {c c′ d : List ℕ} (v : Inv 
   role-stays i l u =
       ⊎-elim
       (λ h. let r : hasLogRole (entryAt g c i) ≡ true = logged i l u (sym (eqb-true _ _ h)) in rw r)
-      (λ h. ap (λ (b : Bool). hasLogRole (entryAt g c i) || b) (longer (entryAt g c i .number) ∙ rw h (or-none (inWindow g c (entryAt g c i .number)))))
+      (λ h. ap (λ (b : Bool). hasLogRole (entryAt g c i) || b) (longer tb hb x moved room (entryAt g c i .number) ∙ rw h (or-none (inWindow g c (entryAt g c i .number)))))
       (either (eqb (slotAt c (headOf c)) (entryAt g c i .number)))
     where
       or-none : (b : Bool) → b || false ≡ b
@@ -323,7 +330,7 @@ module _ {g : Geometry} {row : ℕ → List ℕ} {c c′ d : List ℕ} (v : Inv 
           cardSized = x .sized ∙ v .shape .cardSized;
           diskSized = v .shape .diskSized;
           headBelow = subst (λ (z : ℕ). z < g .slots) (sym moved) (around-below (g .slots) (headOf c) 1 (v .shape .headBelow) (omega arith));
-          tailBelow = subst (λ (z : ℕ). z < g .slots) (sym et) (v .shape .tailBelow);
+          tailBelow = subst (λ (z : ℕ). z < g .slots) (sym (tail-kept x (λ p h. omega arith))) (v .shape .tailBelow);
           window = numbers;
           entries = good-entries;
         };
@@ -339,12 +346,12 @@ module _ {g : Geometry} {row : ℕ → List ℕ} {c c′ d : List ℕ} (v : Inv 
 
       numbers : (j : ℕ) → j < windowOf g c′ → windowNumber g c′ j < g .disk
       numbers j l =
-          let m : j < windowOf g c + 1 = subst (λ (z : ℕ). j < z) window-longer l in
-          subst (λ (z : ℕ). z < g .disk) (sym (number-stays j (omega arith)))
+          let m : j < windowOf g c + 1 = subst (λ (z : ℕ). j < z) (window-longer tb hb x moved room) l in
+          subst (λ (z : ℕ). z < g .disk) (sym (number-stays tb hb x moved room j (omega arith)))
           (⊎-elim
           (λ k. v .shape .window j k)
           (λ k. let e : j ≡ windowOf g c = omega arith in
-          subst (λ (z : ℕ). z < g .disk) (sym (ap (windowNumber g c) e ∙ number-last)) fits)
+          subst (λ (z : ℕ). z < g .disk) (sym (ap (windowNumber g c) e ∙ number-last tb hb x moved room)) fits)
           (below-or-above j (windowOf g c)))
 
 -- Tail set to Head where no entry has R: the window is empty, every entry live or unused, and the card settled

@@ -296,6 +296,10 @@ pub along-then : {P Q R : List ℕ → List ℕ → Type 0} (rs qs : List Run) (
     → ((c′ d′ : List ℕ) → Q c′ d′ → Along P R qs c′ d′) → Along P R (rs ++ qs) c d
 along-then rs qs c d x f = along-next rs qs c d x (f (madeOn card (flat rs) c) (madeOn disk (flat rs) d) (x .end))
 
+pub along-map : {P Q P′ Q′ : List ℕ → List ℕ → Type 0} {rs : List Run} {c d : List ℕ} → ((c′ d′ : List ℕ) → P c′ d′ → P′ c′ d′)
+    → ((c′ d′ : List ℕ) → Q c′ d′ → Q′ c′ d′) → Along P Q rs c d → Along P′ Q′ rs c d
+along-map p q x = record { during = λ a ch. p _ _ (x .during a ch); end = q _ _ (x .end) }
+
 pub along-none : {P Q : List ℕ → List ℕ → Type 0} (c d : List ℕ) → P c d → Q c d → Along P Q [] c d
 unfolding madeOn made flat
 along-none {P} {Q} c d p q = record { during = λ a ch. p; end = q }

@@ -28,7 +28,7 @@ use Rattle.protocol.specs.History.{Call, commit, makeRoom, recover, Requ
 use Rattle.protocol.specs.Undone.{AsBefore, Restored, Recoveries, today, CommitUndone, finishedEvictions, evictedCard, RoomUndone}
 use Rattle.protocol.proofs.Below.{absurd-bool, either, below-or-above, count-le}
 use Rattle.protocol.proofs.Checks.{Limits, limits, orElse-none}
-use Rattle.protocol.proofs.Committed.{at-rest, front, commit-front, commit-back}
+use Rattle.protocol.proofs.Committed.{front, commit-front, commit-cut}
 use Rattle.protocol.proofs.CutRule.{Answered, refused, cut, done, answered, done-passed}
 use Rattle.protocol.proofs.Holds.{idle-kind, live-kind, settled-undoable, header-version, fit-header, between-one, geometry-is}
 use Rattle.protocol.proofs.Invariant.{undoneKind}
@@ -171,11 +171,11 @@ module _ (c : List ℕ) (s : Map) (ns bs ch : List ℕ) (z : commitRefusal 2 c s
       let (w, settled, two) = sound in
       let v = lawful w settled in
       let p = commit-passed v 2 s ns bs ch z in
-      let x = commit-back ns bs v p two .during a ch in
+      let x = commit-cut ns bs v p .during a ch in
       let e = commit-front ns bs v p in
       let short = subst (λ (rs : List Run). a < length (flat rs)) e l in
       subst (λ (ss : List Store). Backed (geometryOf c) c (madeOn card ss c)) (sym (ap (made a ch) e ∙ last-cut a ch (front ns bs v p) _ short))
-      (record { row = _; home = _; kept = (x .0, λ i h. x .1 two i h ∙ sym (at-rest ns bs v p i h)) })
+      (record { row = _; home = _; kept = (x .inv, x .back two) })
 
 pub commit-undone : CommitUndone
 unfolding answerTo after workOf commitWork

@@ -18,8 +18,8 @@ use Rattle.protocol.specs.Entry.{entryAt, inUse, isModified, hasLogRole,
 use Rattle.protocol.specs.Ring.{headOf, tailOf, windowOf, usedAt, isSettled}
 use Rattle.protocol.specs.Check.{refuse, headerFits, fitRefusal}
 use Rattle.protocol.specs.Store.{card, disk, isOn, storedOn}
-use Rattle.protocol.specs.Search.{takenBy, isFree}
-use Rattle.protocol.specs.Map.{mapBy, isMarked, mapOf}
+use Rattle.protocol.specs.Search.{currentIs}
+use Rattle.protocol.specs.Map.{mapBy, isMarked, currentMarked, mapOf}
 use Rattle.protocol.specs.Upgrade.{versionStore, upgradeRuns}
 use Rattle.protocol.proofs.Allowed.{Flag, clean, modified, logged, modifiedOver, loggedOver, good-cases, used-good, unused-good}
 use Rattle.protocol.proofs.Below.{either, and-both, and-left, and-right, all-of, all-at, any-cong}
@@ -31,6 +31,7 @@ use Rattle.protocol.proofs.Recovered.{settled-by}
 use Rattle.protocol.proofs.Region.{header, entry, place, cell-other}
 use Rattle.protocol.proofs.Shape.{Changed, head-kept, tail-kept, entry-kept, block-kept, kindAt, Shape, Inv}
 use Rattle.protocol.proofs.Stores.{Along, along-one}
+use Rattle.protocol.proofs.Maps.{settled-marked}
 use Rattle.protocol.proofs.Words.{map-cong}
 
 -- ---- the header
@@ -219,23 +220,29 @@ module _ {g : Geometry} {row : ℕ → List ℕ} {c d : List ℕ} (v : Inv g row
       }
 
 pub upgrading : {g : Geometry} {row : ℕ → List ℕ} {c d : List ℕ} → Inv g row c d → isSettled g c ≡ true
-    → Along (Inv g row) (Rest g row) (upgradeRuns g) c d
+    → Along (Rest g row) (Rest g row) (upgradeRuns g) c d
 unfolding upgradeRuns
 upgrading {g} {row} {c} {d} v s =
     let after = subst (Inv g row (storedOn card (versionStore g) c)) (sym (version-elsewhere g d)) (upgraded v s) in
-    along-one (versionStore g) c d v after (after, upgraded-settled v s)
+    along-one (versionStore g) c d (v, s) (after, upgraded-settled v s) (after, upgraded-settled v s)
 
 -- and the map stays, whatever the card's history
-pub map-upgraded : (c : List ℕ) → fitRefusal 1 1 c ≡ 0 → mapOf (storedOn card (versionStore (geometryOf c)) c) ≡ mapOf c
-unfolding mapOf isMarked isFree takenBy usedAt fitRefusal headerFits
-map-upgraded c fit =
+pub map-upgraded : (c : List ℕ) → fitRefusal 1 1 c ≡ 0 → isSettled (geometryOf c) c ≡ true → mapOf (storedOn card (versionStore (geometryOf c)) c) ≡ mapOf c
+unfolding mapOf currentMarked currentIs usedAt fitRefusal headerFits
+map-upgraded c fit s =
     let g = geometryOf c in
     let header = fit-header c 1 1 fit in
     let one = refuse-none 1 (headerFits 1 1 c) (omega arith) (orElse-none (refuse 1 (headerFits 1 1 c)) _ fit .0) in
     let big : 128 ≤ length c = ltb-false _ _ (not-true _ (and-left (not (ltb (length c) 128)) _ one)) in
     let ch = version-changed g c in
+    let same : (i : ℕ) → i < g .blocks → entryAt g (storedOn card (versionStore g) c) i ≡ entryAt g c i = λ i l. entry-kept ch i l (λ p q. omega arith) in
+    let still =
+    settled-by g _ (head-kept ch (λ p q. omega arith) ∙ settled-ring g c s ∙ sym (tail-kept ch (λ p q. omega arith)))
+    (λ i l. ap hasLogRole (same i l) ∙ settled-role g c s i l) in
     ap (λ (y : Geometry). mapBy (isMarked y (storedOn card (versionStore g) c))) (upgraded-geometry c 1 1 header big)
     ∙ map-cong _ _
     (λ x l.
-    ap (λ (b : Bool). not (ltb x (g .blocks) && not b))
-    (any-cong _ _ (g .blocks) (λ i h. ap (λ (e : Entry). inUse e && eqb (e .current) x) (entry-kept ch i h (λ p q. omega arith)))))
+    settled-marked g _ still x
+    ∙ ap (λ (b : Bool). not (ltb x (g .blocks) && not b))
+    (any-cong _ _ (g .blocks) (λ i h. ap (λ (e : Entry). inUse e && eqb (e .current) x) (same i h)))
+    ∙ sym (settled-marked g c s x))

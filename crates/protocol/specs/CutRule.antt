@@ -26,7 +26,7 @@ use Rattle.protocol.specs.Room.{isAmong, missing, victimNumber, enoughVi
 use Rattle.protocol.specs.Recover.{recoverRefusal}
 use Rattle.protocol.specs.Upgrade.{upgradeRefusal}
 use Rattle.protocol.specs.Read.{readRefusal, outputAfter, recentRefusal, recentOutput, recentTable, lookRefusal, lookedAt}
-use Rattle.protocol.specs.History.{Request, makeRoom, recover, Media, answerTo, run, answers, fresh, Row, rowAfter, Asked, served}
+use Rattle.protocol.specs.History.{isPut, Request, makeRoom, recover, Media, answerTo, run, answers, fresh, Row, reckoned, reckonAll, Asked, served}
 
 -- the media that a list of calls leaves, from a card c formatted with the version v, over the disk d
 unfoldable pub left : ℕ → Geometry → List ℕ → List ℕ → List Request → Media
@@ -34,7 +34,7 @@ left v g c d rs = run rs (fresh v g c d)
 
 -- "The row is D blocks, at first those of the disk. It is then fed each call's other arguments and its answer"
 unfoldable pub rowLeft : ℕ → Geometry → List ℕ → List ℕ → List Request → Row
-rowLeft v g c d rs = rowAfter g rs (answers rs (fresh v g c d)) (diskBlock g d)
+rowLeft v g c d rs = reckonAll g rs (answers rs (fresh v g c d)) (reckoned (diskBlock g d)) .row
 
 -- a recovery by a library of the version w that gets the map s, under the allowance a
 abbrev pub recovering : ℕ → Map → ℕ → Request
@@ -95,13 +95,20 @@ abbrev pub Uncut : List Answer → Type 0
 Uncut [] = Unit
 Uncut (a ∷ ans) = (a ≡ Cut → ⊥) × Uncut ans
 
--- demand 2: without cuts the card is settled after every call and reads as one plain row, in which a commit replaces its blocks at once
+-- no call of the list is a put
+abbrev pub Unput : List Request → Type 0
+Unput [] = Unit
+Unput (r ∷ rs) = (isPut (r .call) ≡ false) × Unput rs
+
+-- demand 2: without cuts, and without a save that is put block by block, the card is settled after every call and reads as one plain row, in which a
+-- commit replaces its blocks at once
 abbrev pub PlainRow : Type 0
 PlainRow = (v : ℕ) (g : Geometry) (c d : List ℕ) (rs : List Request)
     → between 1 2 v ≡ true
     → outcomeOf (formatRefusal g c) ≡ FormatDone
     → length d ≡ diskLength g
     → Uncut (answers rs (fresh v g c d))
+    → Unput rs
     → (isSettled g (left v g c d rs .onCard) ≡ true)
     × ((b : ℕ) → b < g .disk → contents g (left v g c d rs .onCard) (left v g c d rs .onDisk) b ≡ rowLeft v g c d rs b)
 

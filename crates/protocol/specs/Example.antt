@@ -46,11 +46,11 @@ saved = ask (save 7) 0 ample ∷ []
 
 -- a save cut between its two blocks, and recovered
 abbrev pub halfway : List Request
-halfway = saved ++ (ask (save 8) 3 68 ∷ ask recover 6 ample ∷ [])
+halfway = saved ++ (ask (save 8) 3 68 ∷ ask recover 7 ample ∷ [])
 
 -- a save cut at its last role switch, a recovery cut after its first store, and recovered again
 abbrev pub twice : List Request
-twice = halfway ++ (ask (save 9) 3 136 ∷ ask recover 12 1 ∷ ask recover 5 ample ∷ [])
+twice = halfway ++ (ask (save 9) 3 136 ∷ ask recover 15 1 ∷ ask recover 7 ample ∷ [])
 
 -- an evict, a load of the same block, a refused load of a cached block, and one with the map of before
 abbrev pub moved : List Request
@@ -71,7 +71,7 @@ busy = saved ++ (ask (makeRoom ascending (0 ∷ 1 ∷ []) (replicate 1024 8) qui
 
 -- block 0 loaded, a save of it cut behind its entry, and recovered: by version 2's rule it comes back clean, and its eviction is one store
 abbrev pub tidy : List Request
-tidy = ask (load ascending 0 quiet) 0 ample ∷ ask (commit (0 ∷ []) (replicate 512 9) quiet) 1 65 ∷ ask recover 2 ample ∷ ask (evict 0 quiet) 1 ample ∷ []
+tidy = ask (load ascending 0 quiet) 0 ample ∷ ask (commit (0 ∷ []) (replicate 512 9) quiet) 1 65 ∷ ask recover 3 ample ∷ ask (evict 0 quiet) 1 ample ∷ []
 
 -- the same by a library of version 1 on its own card up to the cut; then today's calls: one that is refused, recovery by the old rule, upgrade, and the
 -- eviction, which writes the sector
@@ -83,7 +83,7 @@ older =
     earlier (load ascending 0 quiet) 0 ample
     ∷ earlier (commit (0 ∷ []) (replicate 512 9) quiet) 1 65
     ∷ ask (evict 0 quiet) 2 ample
-    ∷ ask recover 2 ample
+    ∷ ask recover 3 ample
     ∷ ask upgrade 0 0
     ∷ ask upgrade 0 ample
     ∷ ask (evict 0 quiet) 1 ample

@@ -15,6 +15,7 @@ use Rattle.protocol.specs.Load.{loadRuns, evictRuns}
 use Rattle.protocol.specs.Room.{roomRuns, roomLeft}
 use Rattle.protocol.specs.Recover.{recoverRuns}
 use Rattle.protocol.specs.Upgrade.{upgradeRuns}
+use Rattle.protocol.specs.Pending.{putRuns, finishRuns}
 
 -- document 01's rule: "exactly the first ones are made, as many as the allowance"
 unfoldable pub firstMade : ℕ → List Run → List Store
@@ -66,3 +67,5 @@ pub record CallsFenced (g : Geometry) (c d t ns bs : List ℕ) (b : ℕ) : Type 
   pub evict : Fenced (evictRuns g c b)
   pub recover : Fenced (recoverRuns g c)
   pub upgrade : Fenced (upgradeRuns g)
+  pub put : Fenced (putRuns g c b bs)
+  pub finish : Fenced (finishRuns g c)

@@ -13,12 +13,14 @@ pub mod Preview
 pub mod Recency
 pub mod Load
 pub mod Room
+pub mod Pending
 pub mod Recover
 pub mod Upgrade
 pub mod Fence
 pub mod Read
 pub mod Table
 pub mod History
+pub mod InRow
 pub mod CutRule
 pub mod Undone
 pub mod Example

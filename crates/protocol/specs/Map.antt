@@ -13,7 +13,8 @@ use Rattle.protocol.specs.declared.Mapped.the-variants.{Is, Refused as R
 use Rattle.protocol.specs.Layout.{geometryOf}
 use Rattle.protocol.specs.Check.{refuse, _orElse_, fitRefusal, damageRefusal}
 use Rattle.protocol.specs.Store.{card, Work, answerOf, afterOn}
-use Rattle.protocol.specs.Search.{isFree}
+use Rattle.protocol.specs.Search.{currentIs, isFree}
+use Rattle.protocol.specs.Below.{anyBelow}
 
 -- a word of k bits: bit i, from the lowest, is set where p holds of i
 unfoldable pub word : (ℕ → Bool) → ℕ → ℕ
@@ -27,6 +28,10 @@ mapBy p = record { low = word p 64; high = word (λ i. p (64 + i)) 64 }
 -- "set unless d is below N and data block d is free"
 unfoldable pub isMarked : Geometry → List ℕ → ℕ → Bool
 isMarked g c d = not (ltb d (g .blocks) && isFree g c d)
+
+-- the marks by current blocks alone, as before document 02's ask 6; of a settled card the map's
+unfoldable pub currentMarked : Geometry → List ℕ → ℕ → Bool
+currentMarked g c d = not (ltb d (g .blocks) && not (anyBelow (currentIs g c d) (g .blocks)))
 
 -- the map that the card c gives
 unfoldable pub mapOf : List ℕ → Map

@@ -38,6 +38,18 @@ pub enum Mapped {
     Refused(u8),
 }
 
+// The record of a pending save: Tail's position and how many blocks were put.
+pub struct Pending {
+    pub tail: u64,
+    pub count: u64,
+}
+
+// The record of a save that was opened, or a refusal's number.
+pub enum Opened {
+    Is(Pending),
+    Refused(u8),
+}
+
 // What a storing call hands back: its answer, and the map.
 pub struct Stored {
     pub answer: Answer,

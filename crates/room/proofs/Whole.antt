@@ -28,7 +28,8 @@ use Rattle.protocol.specs.Load.{pairRefusal}
 use Rattle.protocol.specs.Room.{victims, missing, roomRuns, roomLeft, roomRefusal, roomWork, tableAfterSave}
 use Rattle.protocol.proofs.Below.{and-left, below-or-above, any-cong}
 use Rattle.protocol.proofs.Checks.{Limits, limits, orElse-none, refuse-none}
-use Rattle.protocol.proofs.Committed.{e-apart}
+use Rattle.protocol.proofs.Blocks.{e-apart}
+use Rattle.protocol.proofs.Committed.{puts}
 use Rattle.protocol.proofs.Lawful.{Intact, intact, lawful}
 use Rattle.protocol.proofs.Passed.{RoomPassed, room-passed}
 use Rattle.protocol.proofs.Room.{room-enough, room-left, room-commits, room-geometry, room-head, room-finds, room-entry, room-commit, room-map}
@@ -364,7 +365,7 @@ module _ (c d : List ℕ) (m : Map) (t ns bs ch es ps vs : List ℕ) (p : Making
                       let b : Limits g = limits g (whole .good) in
                       omega (arith, entries-are i h, entry-below fine i h);
                   apart = λ i j h k e.
-                      e-apart ns bs (lawful lies rests) (room-commits t ns bs ch whole past) i j h k (sym (entries-are i h) ∙ e ∙ entries-are j k);
+                      e-apart ns bs (lawful lies rests) (puts ns bs (lawful lies rests) (room-commits t ns bs ch whole past)) i j h k (sym (entries-are i h) ∙ e ∙ entries-are j k);
                 }
 
                 small : (k : ℕ) → s .answer ≡ Done k → n + k < 18446744073709551616

@@ -1,10 +1,11 @@
 -- Each slip loses a saved block: computed. Assumes nothing.
 use mathlib.Core.Path.{refl}
 use Rattle.protocol.proofs.Computing.{computing}
-use Rattle.slips.specs.Slips.{Lost, stepped, saving, recovering, then, thenAll, recoveryBy, inWindowOnly, undoneModified, undoneFresh, undoneClean, emptied, switchingFresh, reusing, zeroingFirst, evicting, unfencedLoad, fencedLoad, lastAlone, loaded, savingClean, evictedAfter}
+use Rattle.protocol.specs.Pending.{putRuns}
+use Rattle.slips.specs.Slips.{Lost, stepped, saving, recovering, then, thenAll, recoveryBy, inWindowOnly, undoneModified, undoneFresh, undoneClean, emptied, switchingFresh, reusing, zeroingFirst, evicting, unfencedLoad, fencedLoad, lastAlone, loaded, savingClean, evictedAfter, putting, pending, notCurrent, puttingOver}
 
 pub lost : Lost
-unfolding computing stepped saving recovering then thenAll recoveryBy inWindowOnly undoneModified undoneFresh undoneClean emptied switchingFresh reusing zeroingFirst evicting unfencedLoad fencedLoad lastAlone loaded savingClean evictedAfter
+unfolding computing stepped saving recovering then thenAll recoveryBy inWindowOnly undoneModified undoneFresh undoneClean emptied switchingFresh reusing zeroingFirst evicting unfencedLoad fencedLoad lastAlone loaded savingClean evictedAfter putRuns putting pending notCurrent puttingOver
 lost =
     record {
       windowOnly = refl;
@@ -17,5 +18,6 @@ lost =
       emptiedAll = refl;
       unfenced = refl;
       fenced = refl;
+      givenAgain = refl;
       right = refl;
     }

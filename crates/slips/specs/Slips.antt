@@ -1,19 +1,21 @@
 -- Document 01, "Slips this design invites": each slip as a definition of its own, a short history with it, and the block that is lost.
 -- In each the card holds 7 in blocks 2 and 3 before the slip, and nothing but 7 may be read after it: the save of 8 is never finished. The disk holds
--- ones in the others. One slip more is of document 02, ask 5: a fence left out.
+-- ones in the others. Two slips more are of document 02: ask 5's, a fence left out, and ask 6's, a pending save's previous block given out again.
 use Prim.Native.Nat.{ℕ, _+_}
 use mathlib.Core.List.{List, [], _∷_, _++_}
-use mathlib.Core.Bool.{Bool, true, cond, _&&_}
+use mathlib.Core.Bool.{Bool, true, cond, not, _&&_}
 use mathlib.Core.Path.{_≡_}
-use lib.ListN.{length, replicate}
+use lib.ListN.{length, getD, replicate}
 use lib.Dec.{eqb}
 use Rattle.protocol.specs.declared.Entry.{Entry}
 use Rattle.protocol.specs.declared.Geometry.{Geometry}
-use Rattle.protocol.specs.Below.{eachBelow}
+use Rattle.protocol.specs.Below.{anyBelow, eachBelow, walked}
 use Rattle.protocol.specs.Entry.{FRESH, entryOf, unused, entryAt}
-use Rattle.protocol.specs.Ring.{headOf, inWindow, usedAt, undoableAt, findEntry}
-use Rattle.protocol.specs.Store.{card, disk, Run, madeOn, flat, made, words, entryStore, tailStore, single}
+use Rattle.protocol.specs.Ring.{headOf, inWindow, usedAt, undoableAt, findEntry, currentOf}
+use Rattle.protocol.specs.Store.{card, disk, Run, madeOn, flat, made, words, entryStore, slotStore, headStore, tailStore, single}
+use Rattle.protocol.specs.Search.{currentIs, searchStart}
 use Rattle.protocol.specs.Commit.{newBlock, entryFound, oldBlock, blockRuns, commitRuns}
+use Rattle.protocol.specs.Pending.{putRuns}
 use Rattle.protocol.specs.Load.{loadRuns, writeBack, evictRuns}
 use Rattle.protocol.specs.Recover.{ifChanging, recoverRuns}
 use Rattle.protocol.specs.History.{Media, run}
@@ -113,6 +115,25 @@ savingClean m = commitRuns tiny (m .onCard) (0 ∷ []) (replicate 512 8)
 unfoldable pub evictedAfter : (Media → List Run) → ℕ
 evictedAfter f = length (flat (evictRuns tiny (then ample f (then 65 savingClean loaded) .onCard) 0))
 
+-- a put of 8
+unfoldable pub putting : ℕ → Media → List Run
+putting b m = putRuns tiny (m .onCard) b (replicate 512 8)
+
+-- a pending save that has put block 2, after one that did and was abandoned: Tail is 3, and from there block 2's previous block comes before a free one
+unfoldable pub pending : Media
+pending = then ample (putting 2) (then ample recovering (then ample (putting 2) before))
+
+-- "A data block is free if it is no in-use entry's current block", and no more: the first one from Tail
+unfoldable pub notCurrent : List ℕ → ℕ
+notCurrent c = getD (walked (λ p. not (anyBelow (currentIs tiny c p) 4)) 4 (searchStart tiny c) 4) 0 0
+
+-- "a previous version in the pending save is not free" forgotten: the put of block 3 gets that one
+unfoldable pub puttingOver : Media → List Run
+puttingOver m =
+    words tiny (notCurrent (m .onCard)) (replicate 512 8)
+    ∷ (single (entryStore tiny (findEntry tiny (m .onCard) 3) (entryOf 0x87 3 (currentOf tiny (m .onCard) 3) (notCurrent (m .onCard))))
+    ++ (single (slotStore (headOf (m .onCard)) 3) ++ single (headStore (headOf (m .onCard) + 1))))
+
 -- what is read of a block afterwards is not the 7 that was saved
 pub record Lost : Type 0 where
   -- cut after the second block's entry: the window has only the first number, and 8 is read of block 3
@@ -135,6 +156,11 @@ pub record Lost : Type 0 where
   -- cut in the run of words and entry: the block is cached, and what the data block held before is read instead of the disk's 1
   pub unfenced : firstByte (lastAlone unfencedLoad before) 0 ≡ 0
   pub fenced : firstByte (lastAlone fencedLoad before) 0 ≡ 1
+  -- the second put is done, and the power fails: block 2 is undone to a block that was written over; by the card's own rule it holds the 7
+  pub givenAgain : firstByte (then ample recovering (then ample puttingOver pending)) 2
+      ∷ firstByte (then ample recovering (then ample (putting 3) pending)) 2
+      ∷ []
+      ≡ 8 ∷ 7 ∷ []
   -- and what document 01 asks for: 7 in each case
   pub right : firstByte (then ample recovering (then 133 saving before)) 3
       ∷ firstByte (then ample recovering (then 1 recovering (then 136 saving before))) 2

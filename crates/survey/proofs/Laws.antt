@@ -13,11 +13,11 @@ use Rattle.protocol.specs.declared.Geometry.{Geometry}
 use Rattle.protocol.specs.declared.Entry.{Entry}
 use Rattle.protocol.specs.Below.{anyBelow, around}
 use Rattle.protocol.specs.Layout.{geometryOf, versionOf, entryPlace}
-use Rattle.protocol.specs.Entry.{entryIn, entryAt, isUnused, goodEntry}
+use Rattle.protocol.specs.Entry.{entryIn, entryAt, inUse, isUnused, goodEntry}
 use Rattle.protocol.specs.Ring.{headOf, tailOf, windowOf, windowNumber, usedAt, undoableAt, settledBlock}
 use Rattle.protocol.specs.Check.{headerFits, goodEntryAt, fitRefusal}
-use Rattle.protocol.specs.Search.{takenBy, isFree}
-use Rattle.protocol.proofs.Below.{and-left, and-right, and-both, and-fails}
+use Rattle.protocol.specs.Search.{currentIs, previousIs, takenBy, isFree}
+use Rattle.protocol.proofs.Below.{and-left, and-right, and-both, and-true, and-fails, or-left}
 use Rattle.protocol.proofs.Checks.{Limits, limits}
 use Rattle.ring.specs.declared.Window.{Window}
 use Rattle.ring.specs.Fitted.{Fitted, Placed, WindowOf}
@@ -29,7 +29,7 @@ use Rattle.survey.specs.declared.Line.{Line}
 use Rattle.survey.specs.declared.Line.the-variants.{Missing as NoLine, Unused, Raw, Full}
 use Rattle.survey.specs.declared.Block.{Block}
 use Rattle.survey.specs.declared.Block.the-variants.{Missing as NoBlock, Free, Taken}
-use Rattle.survey.specs.Raw.{fieldIn, ringKnown, slotIn, slotOf, reaches, lineIn, lineOf, blockIn, blockOf}
+use Rattle.survey.specs.Raw.{fieldIn, ringKnown, slotIn, slotOf, reaches, lineIn, lineOf, neededBy, Known, blockIn, blockOf}
 
 -- ---- a choice by a test
 
@@ -210,19 +210,60 @@ none-more p i r hit e h = (λ t. e t && not (h t)) ∙ both (anyBelow p i) (p i)
     both true b = refl
     both false b = refl
 
-module _ (g : Geometry) (c : List ℕ) (p i : ℕ) (r : Bool) (told : r ≡ not (anyBelow (takenBy g c p) i)) (a : g .blocks ≤ i)
+module _ (g : Geometry) (c : List ℕ) (p i q : ℕ) (e : Entry) (u : Bool) (is : e ≡ entryAt g c i) (used : u ≡ inUse e) (now-is : q ≡ e .current) where
+  needed-is : (u && eqb q p) || (ringKnown c && (undoableEntry g c e && eqb (e .previous) p)) ≡ neededBy g c p i
+  unfolding neededBy currentIs previousIs usedAt undoableAt undoableEntry
+  needed-is =
+      (λ t. (used t && eqb (now-is t) p) || (ringKnown c && (undoableEntry g c e && eqb (e .previous) p)))
+      ∙ ap (λ (x : Entry). (inUse x && eqb (x .current) p) || (ringKnown c && (undoableEntry g c x && eqb (x .previous) p))) is
+
+  pub needed-current : u && eqb q p ≡ true → true ≡ neededBy g c p i
+  needed-current h = sym (or-left (u && eqb q p) _ h) ∙ needed-is
+
+  module _ (h : u && eqb q p ≡ false) (known : Bool) (k : known ≡ ringKnown c) (o : ℕ) (before : o ≡ e .previous) where
+    needed-rest : known && (undoableEntry g c e && eqb o p) ≡ neededBy g c p i
+    needed-rest =
+        (λ t. k t && (undoableEntry g c e && eqb (before t) p))
+        ∙ ap (λ (b : Bool). b || (ringKnown c && (undoableEntry g c e && eqb (e .previous) p))) (sym h)
+        ∙ needed-is
+
+    pub needed-off : not (known && eqb o p) ≡ true → false ≡ neededBy g c p i
+    needed-off n = sym (off known (undoableEntry g c e) (eqb o p) (not-true _ n)) ∙ needed-rest
+      where
+        off : (a b d : Bool) → a && d ≡ false → a && (b && d) ≡ false
+        off true true d z = z
+        off true false d z = refl
+        off false b d z = refl
+
+    pub needed-previous : (r : Bool) → not (known && eqb o p) ≡ false → r ≡ undoableEntry g c e → r ≡ neededBy g c p i
+    needed-previous r n f =
+        let both : known && eqb o p ≡ true = not-false (known && eqb o p) n in
+        f
+        ∙ sym (and-true (undoableEntry g c e))
+        ∙ (λ t. sym (and-left known (eqb o p) both) t && (undoableEntry g c e && sym (and-right known (eqb o p) both) t))
+        ∙ needed-rest
+
+-- where the window is defined these are the blocks that no search finds
+pub known-free : (g : Geometry) (c : List ℕ) (p : ℕ) → ringKnown c ≡ true → blockIn g c p ≡ cond (isFree g c p) Free Taken
+unfolding blockIn isFree takenBy neededBy
+known-free g c p k = ap (λ (b : Bool). cond (not (anyBelow (λ i. currentIs g c p i || (b && previousIs g c p i)) (g .blocks))) Free Taken) k
+
+module _ (g : Geometry) (c : List ℕ) (p i : ℕ) (r : Bool) (told : r ≡ not (anyBelow (neededBy g c p) i)) (a : g .blocks ≤ i)
     (b : i ≤ g .blocks) where
-  free-told : r ≡ isFree g c p
-  unfolding isFree
-  free-told = let e : i ≡ g .blocks = omega arith in told ∙ ap (λ (n : ℕ). not (anyBelow (takenBy g c p) n)) e
+  free-told : r ≡ not (anyBelow (neededBy g c p) (g .blocks))
+  free-told = let e : i ≡ g .blocks = omega arith in told ∙ ap (λ (n : ℕ). not (anyBelow (neededBy g c p) n)) e
 
   pub block-free : r ≡ true → Free ≡ blockIn g c p
   unfolding blockIn
-  block-free t = pick-true (isFree g c p) _ _ (sym free-told ∙ t)
+  block-free t = pick-true (not (anyBelow (neededBy g c p) (g .blocks))) _ _ (sym free-told ∙ t)
 
   pub block-taken : r ≡ false → Taken ≡ blockIn g c p
   unfolding blockIn
-  block-taken t = pick-false (isFree g c p) _ _ (sym free-told ∙ t)
+  block-taken t = pick-false (not (anyBelow (neededBy g c p) (g .blocks))) _ _ (sym free-told ∙ t)
+
+-- the window of a card on which it is defined
+pub needed-window : (g : Geometry) (c : List ℕ) (known o : Bool) → Known g c known → not (known && o) ≡ false → Placed g c
+needed-window g c known o h n = known-placed c known (h .known-is) (ap not (and-left known o (not-false _ n))) g (h .own)
 
 pub block-unfit : (c : List ℕ) (p f : ℕ) → f ≡ fitRefusal 1 2 c → (f ≡ 0 → ⊥) → NoBlock ≡ blockOf c p
 unfolding blockOf

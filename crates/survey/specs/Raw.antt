@@ -1,17 +1,19 @@
 -- What stands on a card image of version 1 or 2, field by field, slot by slot and entry by entry, as far as it can be read.
 use Prim.Native.Nat.{ℕ, _+_}
 use mathlib.Core.List.{List}
-use mathlib.Core.Bool.{Bool, cond, _&&_}
+use mathlib.Core.Bool.{Bool, cond, not, _&&_, _||_}
+use mathlib.Core.Path.{_≡_}
 use lib.ListN.{length}
 use lib.Dec.{eqb, ltb, leb}
 use Rattle.numbers.specs.Bytes.{numberAt}
 use Rattle.protocol.specs.declared.Geometry.{Geometry}
-use Rattle.protocol.specs.Below.{around}
+use Rattle.protocol.specs.Below.{anyBelow, around}
 use Rattle.protocol.specs.Layout.{geometryOf, entryPlace}
 use Rattle.protocol.specs.Entry.{entryAt, isUnused}
 use Rattle.protocol.specs.Ring.{headOf, tailOf, windowOf, windowNumber, undoableAt, settledBlock}
 use Rattle.protocol.specs.Check.{headerFits, goodEntryAt, fitRefusal}
-use Rattle.protocol.specs.Search.{isFree}
+use Rattle.protocol.specs.Search.{currentIs, previousIs}
+use Rattle.ring.specs.Fitted.{Fitted}
 use Rattle.survey.specs.declared.Field.{Field}
 use Rattle.survey.specs.declared.Field.the-variants.{Missing as NoField, Is}
 use Rattle.survey.specs.declared.Slot.{Slot}
@@ -54,9 +56,19 @@ lineIn g c i =
 unfoldable pub lineOf : List ℕ → ℕ → Line
 lineOf c i = cond (reaches c i) (lineIn (geometryOf c) c i) NoLine
 
--- whether data block p is free
+-- entry i needs data block p, as its current block or, where the window is defined, as the previous one of an undoable entry
+unfoldable pub neededBy : Geometry → List ℕ → ℕ → ℕ → Bool
+neededBy g c p i = currentIs g c p i || (ringKnown c && previousIs g c p i)
+
+-- whether data block p is free, as far as the window is defined
 unfoldable pub blockIn : Geometry → List ℕ → ℕ → Block
-blockIn g c p = cond (isFree g c p) Free Taken
+blockIn g c p = cond (not (anyBelow (neededBy g c p) (g .blocks))) Free Taken
+
+-- the card c passes checks 1 and 2, g is its geometry, and `known` says whether its window is defined
+pub record Known (g : Geometry) (c : List ℕ) (known : Bool) : Type 0 where
+  pub own : g ≡ geometryOf c
+  pub fitted : Fitted g c
+  pub known-is : known ≡ ringKnown c
 
 -- the same where the card passes checks 1 and 2 and has a data block p
 unfoldable pub blockOf : List ℕ → ℕ → Block

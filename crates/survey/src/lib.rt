@@ -6,9 +6,8 @@ ghost use mathlib.Core.Bool.{cond};
 ghost use Prim.Native.Nat.{_≤_, _<_};
 ghost use Rattle.protocol.specs.Layout.{geometryOf, versionOf, entryPlace};
 ghost use Rattle.protocol.specs.Entry.{entryAt, isUnused};
-ghost use Rattle.protocol.specs.Search.{takenBy};
 ghost use Rattle.ring.specs.Fitted.{Fitted};
-ghost use Rattle.survey.specs.Raw.{fieldIn, ringKnown, slotOf, lineIn, lineOf, blockIn, blockOf};
+ghost use Rattle.survey.specs.Raw.{fieldIn, ringKnown, slotOf, lineIn, lineOf, neededBy, Known, blockIn, blockOf};
 
 // A number on the card, where it can be read.
 pub enum Field {
@@ -144,25 +143,31 @@ pub fn line_of(card: &[u8], i: u64) -> Line
     line_in(g, version, card, i, codec::entry_at(card, at))
 }
 
-// Whether data block p is the current block of the in-use entry i.
-fn taken_by(g: Geometry, card: &[u8], p: u64, i: usize) -> bool
-    requires { ⌜ Fitted g (now card) × (i < g .blocks) ⌝ }
-    ensures { λ r. ⌜ r ≡ takenBy g (now (card .entry)) p i ⌝ }
+// Whether entry i needs data block p: as its current block or, where the window is defined, as the previous one of an undoable entry.
+fn taken_by(g: Geometry, card: &[u8], known: bool, p: u64, i: usize) -> bool
+    requires { ⌜ Known g (now card) known × (i < g .blocks) ⌝ }
+    ensures { λ r. ⌜ r ≡ neededBy g (now (card .entry)) p i ⌝ }
 {
     let e = checks::entry_of(g, card, i);
-    codec::in_use(e) & (wide(e.current) == p)
+    if codec::in_use(e) & (wide(e.current) == p) {
+        return true;
+    }
+    if !(known & (wide(e.previous) == p)) {
+        return false;
+    }
+    checks::undoable(g, card, ring::window_of(g, card), e)
 }
 
 // Whether data block p, below N, is free.
-fn block_in(g: Geometry, card: &[u8], p: u64) -> Block
-    requires { ⌜ Fitted g (now card) ⌝ }
+fn block_in(g: Geometry, card: &[u8], known: bool, p: u64) -> Block
+    requires { ⌜ Known g (now card) known ⌝ }
     ensures { λ r. ⌜ r ≡ blockIn g (now (card .entry)) p ⌝ }
 {
     let n = g.blocks as usize;
     let mut free = true;
     let mut i: usize = 0;
     while i < n {
-        free = free & !taken_by(g, card, p, i);
+        free = free & !taken_by(g, card, known, p, i);
         i += 1;
     }
     if free { Block::Free } else { Block::Taken }
@@ -179,5 +184,5 @@ pub fn block_of(card: &[u8], p: u64) -> Block
     if g.blocks <= p {
         return Block::Missing;
     }
-    block_in(g, card, p)
+    block_in(g, card, ring_known(card), p)
 }

@@ -3,21 +3,27 @@
 use Prim.Native.Nat.{ℕ, _-_, _^_, _<_}
 use mathlib.Core.List.{List, [], _∷_}
 use mathlib.Core.Bool.{Bool, true, false, cond}
-use mathlib.Core.Path.{_≡_, refl, sym, ap, _∙_}
+use mathlib.Core.Path.{_≡_, refl, sym, ap, subst, _∙_}
 use native.Mathlib.Omega.{arith}
 use lib.ListN.{length, getD, set}
 use lib.Dec.{eqb}
 use borrow.Author.Tests.{eq-eqb, ne-eqb}
+use Rattle.protocol.specs.declared.Answer.{Answer}
 use Rattle.protocol.specs.declared.Map.{Map}
 use Rattle.protocol.specs.declared.Mapped.the-variants.{Is}
+use Rattle.protocol.specs.declared.Pending.{Pending}
 use Rattle.protocol.specs.declared.Stored.{Stored}
 use Rattle.protocol.specs.Store.{Medium, card, disk, Work, answerOf, afterOn}
 use Rattle.protocol.specs.Map.{word, mapBy, isMarked, mapOf, sameMap, mapRefusal, makeRefusal, madeMap, mapAfter}
+use Rattle.protocol.specs.Pending.{nextRecord}
 use Rattle.protocol.specs.Check.{refuse}
 use Rattle.protocol.specs.Layout.{geometryOf}
 use Rattle.freemap.proofs.Words.{word-below}
+use Rattle.pending.specs.declared.Put.{Put}
+use Rattle.pending.specs.Putting.{PutBlock}
+use Rattle.pending.specs.Finishing.{Finished}
 use Rattle.tinca.specs.declared.TincaAnswer.{TincaAnswer}
-use Rattle.tinca.specs.Plain.{plainAnswer, otherMap, lentMap, wordsOf, wordsAfter}
+use Rattle.tinca.specs.Plain.{plainAnswer, otherMap, lentMap, lentRecord, wordsOf, wordsAfter, recordAfter}
 
 pub words-put : (m : Map) (ws : List ℕ) → length ws ≡ 2 → set (set ws 0 (m .low)) 1 (m .high) ≡ wordsOf m ws
 unfolding wordsOf
@@ -47,6 +53,17 @@ module _ (c ws : List ℕ) where
       let b = word-below p 64 in
       let made : madeMap c ≡ Is (mapOf c) = rw (eq-eqb (makeRefusal 2 c) 0 z) in
       ap (mapRefusal c) (sym (lent-other h) ∙ ap otherMap made) ∙ rw (ne-eqb (0xFFFFFFFFFFFFFFFF - word p 64) (word p 64) (λ e. omega arith))
+
+-- ---- the record
+
+module _ (ws : List ℕ) where
+  pub record-two : length ws ≡ 2 → record { tail = getD ws 0 0; count = getD ws 1 0 } ≡ lentRecord ws
+  unfolding lentRecord
+  record-two e = rw (eq-eqb (length ws) 2 e)
+
+  pub record-other : (length ws ≡ 2 → ⊥) → record { tail = 0xFFFFFFFFFFFFFFFF; count = 0xFFFFFFFFFFFFFFFF } ≡ lentRecord ws
+  unfolding lentRecord
+  record-other h = rw (ne-eqb (length ws) 2 h)
 
 -- ---- the storing calls
 
@@ -82,3 +99,20 @@ module _ (W : Map → Work) (a : ℕ) (c ws ws′ : List ℕ) (m : Map) (s : Sto
       × ((d′ ≡ afterOn disk a (W (lentMap c ws)) d)
       × (ws′ ≡ wordsAfter (answerOf a (W (lentMap c ws))) (mapAfter a (W (lentMap c ws)) c (lentMap c ws)) ws)))
   lent-both c′ d d′ q t = (lent-answer, (lent-after card c c′ q, (lent-after disk d d′ t, lent-words)))
+
+-- ---- put and finish, by the record that is lent
+
+pub finish-held : (c : List ℕ) (m : Map) (p q : Pending) (a : ℕ) (t : Stored) (d : List ℕ) → p ≡ q → Finished c m p a t d → Finished c m q a t d
+finish-held c m p q a t d e x = subst (λ (y : Pending). Finished c m y a t d) e x
+
+pub put-held : (c : List ℕ) (m : Map) (p q : Pending) (b : ℕ) (bs ch : List ℕ) (a : ℕ) (t : Put) (d : List ℕ) → p ≡ q
+    → PutBlock c m p b bs ch a t d → PutBlock c m q b bs ch a t d
+put-held c m p q b bs ch a t d e x = subst (λ (y : Pending). PutBlock c m y b bs ch a t d) e x
+
+-- the record in the station's words after a put
+pub lent-held : (W : Map → Work) (a : ℕ) (c ws : List ℕ) (m : Map) (t : Put) (r : Pending) (hs hs′ : List ℕ) → m ≡ lentMap c ws → t .answer ≡ answerOf a (W m)
+    → t .save .held ≡ nextRecord (t .answer) r → hs′ ≡ recordAfter (t .answer) (t .save .held) hs
+    → hs′ ≡ recordAfter (answerOf a (W (lentMap c ws))) (nextRecord (answerOf a (W (lentMap c ws))) r) hs
+lent-held W a c ws m t r hs hs′ e answers next q =
+    let said = answers ∙ ap (λ (y : Map). answerOf a (W y)) e in
+    q ∙ (λ i. recordAfter (said i) ((next ∙ ap (λ (y : Answer). nextRecord y r) said) i) hs)

@@ -22,6 +22,10 @@ use Rattle.lookup.specs.declared.Cached.{Cached}
 use Rattle.lookup.specs.declared.Cached.the-variants.{Block, Nothing, Refused as CachedRefused}
 use Rattle.lookup.specs.declared.Found.{Found}
 use Rattle.lookup.specs.declared.Found.the-variants.{Card, Disk, Outside, Refused as FoundRefused}
+use Rattle.protocol.specs.declared.Pending.{Pending}
+use Rattle.protocol.specs.declared.Opened.{Opened}
+use Rattle.protocol.specs.declared.Opened.the-variants.{Is as OpenIs, Refused as OpenRefused}
+use Rattle.tinca.specs.declared.TincaRecord.{TincaRecord}
 use Rattle.tinca.specs.declared.TincaAnswer.{TincaAnswer}
 use Rattle.tinca.specs.declared.TincaEntry.{TincaEntry}
 use Rattle.tinca.specs.declared.TincaMap.{TincaMap}
@@ -88,3 +92,21 @@ abbrev pub wordsAfter : Answer → Map → List ℕ → List ℕ
 wordsAfter (Done n) m ws = wordsOf m ws
 wordsAfter Cut m ws = ws
 wordsAfter (Refused r) m ws = ws
+
+-- ---- the pending save's record
+
+-- 0 open, with its Tail and count; 2 refused
+abbrev pub plainRecord : Opened → TincaRecord
+plainRecord (OpenIs p) = record { kind = 0; refusal = 0; tail = p .tail; count = p .count }
+plainRecord (OpenRefused r) = record { kind = 2; refusal = r; tail = 0; count = 0 }
+
+-- the record that is lent as the words ws. One not of two words has a Tail that is no card's, so that it is refused with 18
+unfoldable pub lentRecord : List ℕ → Pending
+lentRecord ws =
+    cond (eqb (length ws) 2) (record { tail = getD ws 0 0; count = getD ws 1 0 }) (record { tail = 0xFFFFFFFFFFFFFFFF; count = 0xFFFFFFFFFFFFFFFF })
+
+-- the lent words after the answer: on done those of the next record
+abbrev pub recordAfter : Answer → Pending → List ℕ → List ℕ
+recordAfter (Done n) p ws = wordsOf (record { low = p .tail; high = p .count }) ws
+recordAfter Cut p ws = ws
+recordAfter (Refused r) p ws = ws

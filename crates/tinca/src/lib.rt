@@ -1,11 +1,14 @@
 // The C interface of the cache: its calls, with answers as plain structs. include/tinca.h declares it for C.
 use lookup::Cached;
 use lookup::Found;
+use pending::Save;
 use protocol::Answer;
 use protocol::Condition;
 use protocol::Map;
 use protocol::Mapped;
+use protocol::Opened;
 use protocol::Outcome;
+use protocol::Pending;
 use protocol::Reported;
 use protocol::State;
 use protocol::Stored;
@@ -20,10 +23,11 @@ ghost use Rattle.protocol.specs.Load.{loadWork, tableAfterLoad, evictWork};
 ghost use Rattle.protocol.specs.Room.{roomWork, tableAfterSave};
 ghost use Rattle.protocol.specs.Recover.{recoverWork};
 ghost use Rattle.protocol.specs.Upgrade.{upgradeWork};
+ghost use Rattle.protocol.specs.Pending.{opened, putWork, nextRecord, finishWork};
 ghost use Rattle.protocol.specs.Read.{recentOutput, recentTable, stateOf};
 ghost use Rattle.lookup.specs.Place.{foundAt, recentAt};
 ghost use Rattle.lookup.specs.Cached.{cachedAt};
-ghost use Rattle.tinca.specs.Plain.{plainAnswer, plainOutcome, plainPlace, plainState, plainEntry, plainMap, otherMap, lentMap, wordsOf, wordsAfter};
+ghost use Rattle.tinca.specs.Plain.{plainAnswer, plainOutcome, plainPlace, plainState, plainEntry, plainMap, plainRecord, lentRecord, recordAfter, otherMap, lentMap, wordsOf, wordsAfter};
 
 // kind 0 done, with the stores made; 1 cut; 2 refused, with the number
 #[repr(C)]
@@ -62,6 +66,15 @@ pub struct TincaMap {
     pub refusal: u32,
     pub low: u64,
     pub high: u64,
+}
+
+// kind 0 open: the record's Tail and count; 2 refused, with the number
+#[repr(C)]
+pub struct TincaRecord {
+    pub kind: u32,
+    pub refusal: u32,
+    pub tail: u64,
+    pub count: u64,
 }
 
 // kind 0 cached: the block's number, modified 1 or 0; 1 nothing; 2 refused, with the number
@@ -244,6 +257,25 @@ fn mapped(m: Mapped) -> TincaMap
     }
 }
 
+fn recorded(o: Opened) -> TincaRecord
+    ensures { λ r. ⌜ r ≡ plainRecord o ⌝ }
+{
+    match o {
+        Opened::Is(p) => TincaRecord {
+            kind: 0,
+            refusal: 0,
+            tail: p.tail,
+            count: p.count,
+        },
+        Opened::Refused(r) => TincaRecord {
+            kind: 2,
+            refusal: r as u32,
+            tail: 0,
+            count: 0,
+        },
+    }
+}
+
 // A map that is not m: one word turned over.
 fn other(m: Mapped) -> Map
     ensures { λ r. ⌜ r ≡ otherMap m ⌝ }
@@ -277,6 +309,39 @@ fn put_words(words: &mut [u64], m: Map)
     if words.len() == 2 {
         words[0] = m.low;
         words[1] = m.high;
+    }
+}
+
+// The record that the station lends. Where it is not of two words the call gets one whose Tail no card has, and asks 18 in its turn.
+fn lent_record(words: &[u64]) -> Pending
+    ensures { λ r. ⌜ r ≡ lentRecord (now (words .entry)) ⌝ }
+{
+    if words.len() == 2 {
+        return Pending {
+            tail: words[0],
+            count: words[1],
+        };
+    }
+    Pending {
+        tail: u64::MAX,
+        count: u64::MAX,
+    }
+}
+
+// On done the record in the station's words.
+fn put_record(words: &mut [u64], a: Answer, p: Pending)
+    ensures { λ r. ⌜ now (words .exit) ≡ recordAfter a p (now (words .entry)) ⌝ }
+{
+    match a {
+        Answer::Done(_) => put_words(
+            words,
+            Map {
+                low: p.tail,
+                high: p.count,
+            },
+        ),
+        Answer::Cut => {}
+        Answer::Refused(_) => {}
     }
 }
 
@@ -438,6 +503,64 @@ pub extern "C" fn tinca_recover(card: &mut [u8], map: &mut [u64], allowance: u64
 {
     let m = lent(card, map);
     handed(map, recovery::recover(card, m, allowance))
+}
+
+#[no_mangle]
+pub extern "C" fn tinca_open(card: &[u8]) -> TincaRecord
+    ensures { λ r. ⌜ r ≡ plainRecord (opened (now (card .entry))) ⌝ }
+{
+    recorded(Save::open(card))
+}
+
+#[no_mangle]
+pub extern "C" fn tinca_put(
+    card: &mut [u8],
+    map: &mut [u64],
+    held: &mut [u64],
+    block: u64,
+    bytes: &[u8],
+    choice: &[u8],
+    allowance: u64,
+) -> TincaAnswer
+    ensures answer { λ r. ⌜ r ≡ plainAnswer (answerOf allowance (putWork 2 (now (card .entry)) (lentMap (now (card .entry)) (now (map .entry))) (lentRecord (now (held .entry))) block (now (bytes .entry)) (now (choice .entry)))) ⌝ }
+    ensures card { λ r. ⌜ now (card .exit) ≡ afterOn onCard allowance (putWork 2 (now (card .entry)) (lentMap (now (card .entry)) (now (map .entry))) (lentRecord (now (held .entry))) block (now (bytes .entry)) (now (choice .entry))) (now (card .entry)) ⌝ }
+    ensures map { λ r. ⌜ now (map .exit) ≡ wordsAfter (answerOf allowance (putWork 2 (now (card .entry)) (lentMap (now (card .entry)) (now (map .entry))) (lentRecord (now (held .entry))) block (now (bytes .entry)) (now (choice .entry)))) (mapAfter allowance (putWork 2 (now (card .entry)) (lentMap (now (card .entry)) (now (map .entry))) (lentRecord (now (held .entry))) block (now (bytes .entry)) (now (choice .entry))) (now (card .entry)) (lentMap (now (card .entry)) (now (map .entry)))) (now (map .entry)) ⌝ }
+    ensures held { λ r. ⌜ now (held .exit) ≡ recordAfter (answerOf allowance (putWork 2 (now (card .entry)) (lentMap (now (card .entry)) (now (map .entry))) (lentRecord (now (held .entry))) block (now (bytes .entry)) (now (choice .entry)))) (nextRecord (answerOf allowance (putWork 2 (now (card .entry)) (lentMap (now (card .entry)) (now (map .entry))) (lentRecord (now (held .entry))) block (now (bytes .entry)) (now (choice .entry)))) (lentRecord (now (held .entry)))) (now (held .entry)) ⌝ }
+{
+    let m = lent(card, map);
+    let save = Save {
+        held: lent_record(held),
+    };
+    let p = save.put(card, m, block, bytes, choice, allowance);
+    let a = p.answer;
+    let next = p.save;
+    put_record(held, a, next.held);
+    let after = p.map;
+    handed(
+        map,
+        Stored {
+            answer: a,
+            map: after,
+        },
+    )
+}
+
+#[no_mangle]
+pub extern "C" fn tinca_finish(
+    card: &mut [u8],
+    map: &mut [u64],
+    held: &[u64],
+    allowance: u64,
+) -> TincaAnswer
+    ensures answer { λ r. ⌜ r ≡ plainAnswer (answerOf allowance (finishWork 2 (now (card .entry)) (lentMap (now (card .entry)) (now (map .entry))) (lentRecord (now (held .entry))))) ⌝ }
+    ensures card { λ r. ⌜ now (card .exit) ≡ afterOn onCard allowance (finishWork 2 (now (card .entry)) (lentMap (now (card .entry)) (now (map .entry))) (lentRecord (now (held .entry)))) (now (card .entry)) ⌝ }
+    ensures map { λ r. ⌜ now (map .exit) ≡ wordsAfter (answerOf allowance (finishWork 2 (now (card .entry)) (lentMap (now (card .entry)) (now (map .entry))) (lentRecord (now (held .entry))))) (mapAfter allowance (finishWork 2 (now (card .entry)) (lentMap (now (card .entry)) (now (map .entry))) (lentRecord (now (held .entry)))) (now (card .entry)) (lentMap (now (card .entry)) (now (map .entry)))) (now (map .entry)) ⌝ }
+{
+    let m = lent(card, map);
+    let save = Save {
+        held: lent_record(held),
+    };
+    handed(map, save.finish(card, m, allowance))
 }
 
 #[no_mangle]

@@ -37,7 +37,7 @@ use Rattle.plan.specs.Walked.{passedBy, unusedBefore, Reached}
 use Rattle.plan.proofs.Bounds.{Passed, new-below, unused-room, entry-below}
 use Rattle.plan.proofs.Housing.{reached-is}
 use Rattle.plan.proofs.Room.{no-room, room, take-ready, taken-block, taken-map}
-use Rattle.plan.proofs.Start.{start-is}
+use Rattle.plan.proofs.Start.{start-is, whole-tail}
 use Rattle.plan.specs.declared.Basis.{Basis}
 use Rattle.plan.specs.Met.{Searchable}
 use Rattle.transfer.specs.declared.Room.{Room}
@@ -103,7 +103,7 @@ module _ (g : Geometry) (c : List ℕ) (h : ℕ) (xs : List ℕ) (m : Map) (free
 
       module _ (p : 1 ≤ free) (start : ℕ) (s : (start ≡ h % g .blocks) × (start < g .blocks)) where
         begins : (start ≡ searchStart g c) × (start < g .blocks)
-        begins = (start-is g c h start (k .head) (s .0), s .1)
+        begins = (start-is g c h start (whole-tail g c h (k .whole) (k .head)) (s .0), s .1)
 
         has-room : roomFor g c 1 ≡ true
         has-room = room g c good m (k .map-is) free (k .free-is) 1 p

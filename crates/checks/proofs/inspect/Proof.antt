@@ -1,7 +1,7 @@
 -- `inspect` answers checks 4 to 6 in their order, and the map and the index of a card that passes them.
 use Prim.Native.Nat.{_≤_}
 use borrow.Author.Tests.{not-false}
-use Rattle.checks.proofs.Order.{ring-damaged, entry-damaged, block-damaged, pair-damaged, comparable, undamaged}
+use Rattle.checks.proofs.Order.{ring-damaged, entry-damaged, block-damaged, number-damaged, comparable, passed-settled, unsettled, passed-unsettled}
 use Rattle.checks.proofs.Tally.{free-few}
 use borrow.Author.Needs.{needs}
 use Rattle.checks.proofs.inspect.Statement.{statement}
@@ -41,33 +41,66 @@ refused-requires-3 c κs = search needs
 returns-3 : tie.Need-returns-3
 returns-3 c = search (block-damaged, needs)
 
-entries-apart-requires : tie.Need-entries-apart-requires
-entries-apart-requires c κs = search (comparable, needs)
+numbers-differ-requires : tie.Need-numbers-differ-requires
+numbers-differ-requires c κs = search (comparable, needs)
 
 refused-requires-4 : tie.Need-refused-requires-4
 refused-requires-4 c κs = search needs
 
 returns-4 : tie.Need-returns-4
 returns-4 c =
-    let a = c .before .before in
-    let e = a .before .before .before .before .before .before .before .before in
-    let d = e .before .before in
-    let o = d .before .before in
-    pair-damaged _ _ _ _ (o .before .before .before .pre .0) (o .before .ring-fits .ensures) _ (o .if1 .left) (d .decode .ensures) (e .if2 .left) _ _
-    (a .entries-apart .ensures) (c .before .if4 .taken) (c .refused4 .ensures)
-
-returns-5 : tie.Need-returns-5
-returns-5 c =
-    let a = c .before .before in
-    let x = a .before .before .before .before .before in
+    let n = c .before .before in
+    let x = n .before .before .before in
     let f = x .before .before in
     let e = f .before in
     let d = e .before .before in
     let o = d .before .before in
-    undamaged _ _ _ _ (o .before .before .before .pre .0) (o .before .ring-fits .ensures) _ (o .if1 .left) (d .decode .ensures) (e .if2 .left) _
-    (f .free-count .ensures) (x .if3 .left) _ (a .entries-apart .ensures) (c .before .if4 .left)
+    number-damaged _ _ _ _ (o .before .before .before .pre .0) (o .before .ring-fits .ensures) _ (o .if1 .left) (d .decode .ensures) (e .if2 .left) _
+    (n .numbers-differ .ensures) _ (c .before .if4 .taken) (c .refused4 .ensures)
+
+settled-verdict-requires : tie.Need-settled-verdict-requires
+settled-verdict-requires c κs = search needs
+
+returns-5 : tie.Need-returns-5
+returns-5 c =
+    let t = c .before in
+    let w = t .before .before .before .before in
+    let n = w .before in
+    let x = n .before .before .before in
+    let f = x .before .before in
+    let e = f .before in
+    let d = e .before .before in
+    let o = d .before .before in
+    passed-settled _ _ _ _ (o .before .before .before .pre .0) (o .before .ring-fits .ensures) _ (o .if1 .left) (d .decode .ensures) (e .if2 .left) _
+    (n .numbers-differ .ensures) _ (f .free-count .ensures) (x .if3 .left) (w .if4 .left) _ (t .if5 .taken) (c .settled-verdict .ensures)
+
+unsettled-verdict-requires : tie.Need-unsettled-verdict-requires
+unsettled-verdict-requires c κs =
+    let w = c .before .before .before .before .before in
+    let n = w .before in
+    let x = n .before .before .before in
+    let f = x .before .before in
+    let e = f .before in
+    let d = e .before .before in
+    let o = d .before .before in
+    unsettled _ _ _ _ (o .before .before .before .pre .0) (o .before .ring-fits .ensures) _ (o .if1 .left) (d .decode .ensures) (e .if2 .left) _
+    (n .numbers-differ .ensures) _ (f .free-count .ensures) (x .if3 .left) (w .if4 .left)
+
+returns-6 : tie.Need-returns-6
+returns-6 c =
+    let t = c .before .before in
+    let w = t .before .before .before .before in
+    let n = w .before in
+    let x = n .before .before .before in
+    let f = x .before .before in
+    let e = f .before in
+    let d = e .before .before in
+    let o = d .before .before in
+    passed-unsettled _ _ _ _ (o .before .before .before .pre .0) (o .before .ring-fits .ensures) _ (o .if1 .left) (d .decode .ensures) (e .if2 .left) _
+    (n .numbers-differ .ensures) _ (f .free-count .ensures) (x .if3 .left) (w .if4 .left) _ (t .if5 .left) (c .unsettled-verdict .ensures)
 
 pub inspect-spec : {M : Type 1} → statement M
 inspect-spec =
     tie.close (tie.spec ring-fits-requires refused-requires returns decode-requires refused-requires-2 returns-2 free-count-requires add-if3
-    refused-requires-3 returns-3 entries-apart-requires refused-requires-4 returns-4 returns-5)
+    refused-requires-3 returns-3 numbers-differ-requires refused-requires-4 returns-4 settled-verdict-requires returns-5 unsettled-verdict-requires
+    returns-6)

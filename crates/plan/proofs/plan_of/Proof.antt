@@ -15,7 +15,7 @@ start-of : (c : tie.After-search-start)
     (c .search-start .result ≡ searchStart (a .g) (now (a .card))) × (c .search-start .result < a .g .blocks)
 start-of c =
     let s = c .before .before .before in
-    (start-is _ _ _ _ (s .pre .0 .head) (c .search-start .ensures .0), c .search-start .ensures .1)
+    (start-is _ _ _ _ (s .pre .0 .tail) (c .search-start .ensures .0), c .search-start .ensures .1)
 
 search-start-requires : tie.Need-search-start-requires
 search-start-requires c κs = c .before .before .pre .0 .fitted .good

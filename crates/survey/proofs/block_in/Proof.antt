@@ -3,17 +3,17 @@ use Prim.Native.Nat.{_≤_, _-_}
 use mathlib.Core.Bool.{not}
 use mathlib.Core.Path.{_≡_}
 use Rattle.protocol.specs.Below.{anyBelow}
-use Rattle.protocol.specs.Search.{takenBy}
+use Rattle.survey.specs.Raw.{neededBy}
 use Rattle.survey.proofs.Laws.{none-more, block-free, block-taken}
 use borrow.Author.Needs.{needs}
 use Rattle.survey.proofs.block_in.Statement.{statement}
 use Rattle.survey.proofs.block_in.Tie as tie
 
 abbrev Inv-loop : tie.InvT-loop
-Inv-loop g card p n free₀ i₀ free i = (i ≤ n) × (free ≡ not (anyBelow (takenBy g card p) i))
+Inv-loop g card known p n free₀ i₀ free i = (i ≤ n) × (free ≡ not (anyBelow (neededBy g card p) i))
 
 abbrev μ-loop : tie.MeasureT-loop
-μ-loop g card p n free₀ i₀ free i = n - i
+μ-loop g card known p n free₀ i₀ free i = n - i
 
 loop-holds : tie.Need-loop-holds Inv-loop μ-loop
 unfolding anyBelow

@@ -17,6 +17,9 @@ geometry-of-requires c κs = search (fit-long, needs)
 returns-2 : tie.Need-returns-2
 returns-2 c = search (block-past, needs)
 
+ring-known-requires : tie.Need-ring-known-requires
+ring-known-requires c κs = search needs
+
 block-in-requires : tie.Need-block-in-requires
 block-in-requires c κs = search (fit-fitted, needs)
 
@@ -31,5 +34,6 @@ block-of-spec =
     returns
     geometry-of-requires
     returns-2
+    ring-known-requires
     block-in-requires
     returns-3)

@@ -1,0 +1,4 @@
+pub mod Meeting
+pub mod Asking
+pub mod Putting
+pub mod Finishing
