@@ -105,40 +105,52 @@ module _ {g : Geometry} {c : List ℕ} {i w p q : ℕ} (s : Split g c i w p q) w
       let w′ : numberAt c at 8 ≡ w = ap (λ (v : ℕ). numberAt c v 8) (sym (add-zero at)) ∙ sym (s .first .value) in
       entry-fields c at (s .bytes) (omega arith) ∙ (λ t. fieldsEntry (w′ t) (sym (s .second .value) t) (sym (s .third .value) t))
 
-  -- all sixteen bytes zero, as one test
-  pub split-blank : bitOr w (bitOr p q) ≡ 0 → entryAt g c i ≡ unused
+  -- all sixteen bytes zero
+  pub split-blank : w ≡ 0 → bitOr p q ≡ 0 → entryAt g c i ≡ unused
   unfolding fieldsEntry
-  split-blank z =
-      let a = sym (or-zero w (bitOr p q)) ∙ eq-eqb _ _ z in
-      let b = sym (or-zero p q) ∙ and-right (eqb w 0) _ a in
-      let wz : w ≡ 0 = eqb-true w 0 (and-left (eqb w 0) _ a) in
+  split-blank wz z =
+      let b = sym (or-zero p q) ∙ eq-eqb _ _ z in
       let pz : p ≡ 0 = eqb-true p 0 (and-left (eqb p 0) _ b) in
       let qz : q ≡ 0 = eqb-true q 0 (and-right (eqb p 0) _ b) in
       split-entry ∙ (λ t. entryOf (wz t / 2 ^ 56) (wz t % 2 ^ 56) (pz t) (qz t))
 
-  -- fields that are all zero
-  split-zeros : fieldsEntry w p q ≡ unused → bitOr w (bitOr p q) ≡ 0
-  unfolding fieldsEntry
-  split-zeros e =
+  -- what check 5 allows is all zero or in use
+  split-cases : goodEntryAt g c i ≡ true
+      → ((w ≡ 0) × (bitOr p q ≡ 0)) ⊎ UsedEntry (versionOf c) (g .blocks) (g .disk) (fieldsEntry w p q)
+  unfolding goodEntryAt fieldsEntry
+  split-cases h =
+      ⊎-elim
+      (λ (u : entryAt g c i ≡ unused).
+      let e = sym split-entry ∙ u in
       let wf : w / 2 ^ 56 ≡ 0 = ap (λ (x : Entry). x .flags) e in
       let wn : w % 2 ^ 56 ≡ 0 = ap (λ (x : Entry). x .number) e in
       let pz : p ≡ 0 = ap (λ (x : Entry). x .previous) e in
       let qz : q ≡ 0 = ap (λ (x : Entry). x .current) e in
-      let wz : w ≡ 0 = omega arith in
-      eqb-true (bitOr w (bitOr p q)) 0 (or-zero w (bitOr p q) ∙ (λ t. eqb (wz t) 0 && or-zero p q t) ∙ (λ t. eqb (pz t) 0 && eqb (qz t) 0))
-
-  -- what is not blank and allowed is in use
-  split-used : (bitOr w (bitOr p q) ≡ 0 → ⊥) → goodEntryAt g c i ≡ true → UsedEntry (versionOf c) (g .blocks) (g .disk) (fieldsEntry w p q)
-  unfolding goodEntryAt
-  split-used z h =
-      ⊎-elim
-      (λ (e : entryAt g c i ≡ unused). absurd (z (split-zeros (sym split-entry ∙ e))))
-      (λ u. subst (UsedEntry (versionOf c) (g .blocks) (g .disk)) split-entry u)
+      inl (omega arith, eqb-true (bitOr p q) 0 (or-zero p q ∙ (λ t. eqb (pz t) 0 && eqb (qz t) 0))))
+      (λ u. inr (subst (UsedEntry (versionOf c) (g .blocks) (g .disk)) split-entry u))
       (good-cases (versionOf c) (g .blocks) (g .disk) (entryAt g c i) h)
+
+  -- what is allowed and has a flag byte or a number is in use
+  split-used : (w ≡ 0 → ⊥) → goodEntryAt g c i ≡ true → UsedEntry (versionOf c) (g .blocks) (g .disk) (fieldsEntry w p q)
+  split-used z h = ⊎-elim (λ e. absurd (z (e .0))) (λ u. u) (split-cases h)
 
   -- ---- refused
 
-  pub split-blocks : (bitOr w (bitOr p q) ≡ 0 → ⊥) → leb (g .blocks) q || ltb (g .blocks) ((p + 1) % 0x100000000) ≡ true
+  -- blocks without a flag byte and a number
+  pub split-rest : w ≡ 0 → (bitOr p q ≡ 0 → ⊥) → goodEntryAt g c i ≡ false
+  unfolding fieldsEntry inUse
+  split-rest wz z =
+      ⊎-elim
+      (λ h.
+      absurd
+      (⊎-elim
+      (λ e. z (e .1))
+      (λ u. absurd-bool (flag-used (fieldsEntry w p q) (u .flag)) (ap (λ (x : ℕ). eqb (x / 2 ^ 56 / 0x80 % 2) 1) wz))
+      (split-cases h)))
+      (λ h. h)
+      (either (goodEntryAt g c i))
+
+  pub split-blocks : (w ≡ 0 → ⊥) → leb (g .blocks) q || ltb (g .blocks) ((p + 1) % 0x100000000) ≡ true
       → goodEntryAt g c i ≡ false
   unfolding fieldsEntry
   split-blocks z t =
@@ -159,7 +171,7 @@ module _ {g : Geometry} {c : List ℕ} {i w p q : ℕ} (s : Split g c i w p q) w
 
   -- ---- allowed
 
-  module _ (z : bitOr w (bitOr p q) ≡ 0 → ⊥) (o : leb (g .blocks) q || ltb (g .blocks) ((p + 1) % 0x100000000) ≡ false) where
+  module _ (z : w ≡ 0 → ⊥) (o : leb (g .blocks) q || ltb (g .blocks) ((p + 1) % 0x100000000) ≡ false) where
     current-below : q < g .blocks
     current-below =
         ⊎-elim

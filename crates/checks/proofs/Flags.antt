@@ -10,7 +10,7 @@ use lib.Dec.{eqb, ltb}
 use borrow.Author.Tests.{eqb-true, ltb-true, eq-eqb, ne-eqb, lt-ltb, le-ltb}
 use Rattle.protocol.specs.Entry.{allowedFlags}
 use Rattle.protocol.proofs.Below.{either, and-both, and-fails, below-or-above}
-use Rattle.checks.specs.Fields.{overOf, Numbered}
+use Rattle.checks.specs.Fields.{overOf, NO-NUMBER, Numbered}
 
 pub over-second : (v : ℕ) → v ≡ 2 → 0x8600000000000000 ≡ overOf v
 unfolding overOf
@@ -45,6 +45,7 @@ module _ (w disk more : ℕ) (few : disk ≤ 65536) (v : ℕ) (which : more ≡ 
       record {
         tested = lt-ltb x disk l ∙ sym (and-both (ap (allowedFlags v) flag ∙ a) (lt-ltb (w % 2 ^ 56) disk (omega arith)));
         number = λ h. sym number;
+        none = λ h. l;
       }
 
   pub numbered-modified : (x : ℕ) → Less w 0x8200000000000000 x → x < disk → Numbered v w disk x
@@ -67,7 +68,15 @@ module _ (w disk more : ℕ) (few : disk ≤ 65536) (v : ℕ) (which : more ≡ 
       (λ h. let m = h .1 in numbered-modified x (omega arith) l)
       (over-cases v more which)
 
-  -- none but perhaps the last leaves a number below D
+  pub numbered-last : (x : ℕ) → Less w (more + 0x0100000000000000) x → x < disk → Numbered v w disk x
+  unfolding allowedFlags
+  numbered-last x e l =
+      ⊎-elim
+      (λ h. let m = h .1 in numbered-by 0x87 x (omega arith) (rw (h .0)) (omega arith) l)
+      (λ h. let m = h .1 in numbered-logged x (omega arith) l)
+      (over-cases v more which)
+
+  -- none leaves a number below D
   module _ (a b d e x : ℕ) (al : a < 2 ^ 64) (bl : b < 2 ^ 64) (dl : d < 2 ^ 64) (el : e < 2 ^ 64) (xl : x < 2 ^ 64) (ea : Less w 0x8200000000000000 a)
       (eb : Less w 0x8000000000000000 b) (ed : Less w more d) (ee : Less w 0x8300000000000000 e)
       (ex : Less w (more + 0x0100000000000000) x) (la : disk ≤ a) (lb : disk ≤ b) (ld : disk ≤ d) (le : disk ≤ e) where
@@ -85,23 +94,18 @@ module _ (w disk more : ℕ) (few : disk ≤ 65536) (v : ℕ) (which : more ≡ 
         (λ h. rw (f80, f82, f83, h .0))
         (over-cases v more which)
 
-    pub numbered-last : Numbered v w disk x
-    unfolding allowedFlags
-    numbered-last =
-        ⊎-elim
-        (λ (l : x < disk).
-        ⊎-elim
-        (λ h. let m = h .1 in numbered-by 0x87 x (omega arith) (rw (h .0)) (omega arith) l)
-        (λ h. let m = h .1 in numbered-logged x (omega arith) l)
-        (over-cases v more which))
-        (λ (l : disk ≤ x).
+    pub numbered-none : disk ≤ x → Numbered v w disk NO-NUMBER
+    numbered-none l =
         let off : allowedFlags v (w / 2 ^ 56) && ltb (w % 2 ^ 56) disk ≡ false =
         ⊎-elim
         (λ n. ap (λ t. t && ltb (w % 2 ^ 56) disk) (none-allowed l (ltb-true _ _ n)))
         (λ n. and-fails (allowedFlags v (w / 2 ^ 56)) _ n)
         (either (ltb (w % 2 ^ 56) disk)) in
-        record { tested = le-ltb x disk l ∙ sym off; number = λ h. absurd (omega arith) })
-        (below-or-above x disk)
+        record {
+          tested = le-ltb NO-NUMBER disk (omega arith) ∙ sym off;
+          number = λ h. absurd (omega arith);
+          none = λ h. absurd (h refl);
+        }
 
 -- ---- R of the words passed
 

@@ -23,7 +23,13 @@ pub record Field (g : Geometry) (c : List ℕ) (i from width r : ℕ) : Type 0 w
 unfoldable pub overOf : ℕ → ℕ
 overOf v = cond (eqb v 2) 0x8600000000000000 0x8200000000000000
 
--- r is below D where the flag byte of the word w is allowed with the version v and its number is below D, and is then that number
+-- stands for no number: no disk has as many blocks
+abbrev pub NO-NUMBER : ℕ
+NO-NUMBER = 0xFFFFFFFFFFFFFFFF
+
+-- r is below D where the flag byte of the word w is allowed with the version v and its number is below D, and is then that number; else it stands
+-- for none
 pub record Numbered (v w disk r : ℕ) : Type 0 where
   pub tested : ltb r disk ≡ allowedFlags v (w / 2 ^ 56) && ltb (w % 2 ^ 56) disk
   pub number : r < disk → r ≡ w % 2 ^ 56
+  pub none : (r ≡ NO-NUMBER → ⊥) → r < disk

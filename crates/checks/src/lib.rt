@@ -102,8 +102,11 @@ fn over_of(version: u64) -> u64
     }
 }
 
-// The number in a word of flag byte and number, if the flag byte is allowed and the number below D, else something not below D. Each allowed flag
-// byte is subtracted in turn, 86 first: a block that is saved again and again has it. On a version 1 card `more` is 82, and is so subtracted twice.
+// Answered where a word has no number: the compiler sees that nothing below D equals it, so that a number found is not compared with D again.
+const NO_NUMBER: u64 = 0xFFFF_FFFF_FFFF_FFFF;
+
+// The number in a word of flag byte and number, if the flag byte is allowed and the number below D. Each allowed flag byte is subtracted in turn, 86
+// first: a block that is saved again and again has it. On a version 1 card `more` is 82, and is so subtracted twice.
 fn number_of(w: u64, disk: u64, more: u64) -> u64
     requires { ⌜ (disk ≤ 65536) × (more ≤ 0x8600000000000000) ⌝ }
     ensures { λ r. ⌜ ((v : ℕ) → more ≡ overOf v → Numbered v w disk r) ⌝ }
@@ -124,7 +127,11 @@ fn number_of(w: u64, disk: u64, more: u64) -> u64
     if logged < disk {
         return logged;
     }
-    std::num::wrapping_sub_u64(w, more + 0x0100_0000_0000_0000)
+    let last = std::num::wrapping_sub_u64(w, more + 0x0100_0000_0000_0000);
+    if last < disk {
+        return last;
+    }
+    NO_NUMBER
 }
 
 // One pass over the entries, each read once, flag byte and number as one word. FRESH passes as the number before 0. The words are laid over each
@@ -146,12 +153,16 @@ fn decode(g: Geometry, version: u64, card: &[u8], index: &mut [u8; 640]) -> Seen
         let p = field_of(g, card, at, 8, 4);
         let q = field_of(g, card, at, 12, 4);
         i += 1;
-        if (w | (p | q)) != 0 {
+        if w == 0 {
+            if (p | q) != 0 {
+                return misfit();
+            }
+        } else {
             if (g.blocks <= q) | (g.blocks < (p + 1) % 0x1_0000_0000) {
                 return misfit();
             }
             let b = number_of(w, g.disk, more);
-            if g.disk <= b {
+            if b == NO_NUMBER {
                 return misfit();
             }
             roles = roles | w;

@@ -90,16 +90,16 @@ pub words-lie : (g : Geometry) (c : List ℕ) (p to i from n : ℕ) → Fitted g
     → i * blockSize g + blockSize g ≤ n → (to + blockSize g ≤ length c) × (from + blockSize g ≤ n)
 words-lie g c p to i from n f l e q h = (omega (arith, f .long, in-card g (block p) (omega arith) l, place-block g p), omega (arith, q))
 
-pub stepped : (g : Geometry) (i from : ℕ) → from ≡ i * blockSize g → (bs ch : List ℕ) (at to place : ℕ) (x : Entry) (n h left a d r : ℕ) (xs ys zs ws : List ℕ)
-    → to ≡ blockPlace g (x .current) → place ≡ entryPlace g at → x .number ≡ n
+pub stepped : (g : Geometry) (i from : ℕ) → from ≡ i * blockSize g → (bs ch es : List ℕ) (at to place : ℕ) (x : Entry) (n h left a d r : ℕ) (xs ys zs ws : List ℕ)
+    → to ≡ blockPlace g (x .current) → place ≡ entryPlace g at → es ≡ entryBytes x → x .number ≡ n
     → Did card (unfenced (units card 8 (blockSize g / 8) to (part bs from (blockSize g))) ∷ []) ch left xs ys a
-    → ((k : List ℕ) → Did card (single (cardStore place (entryBytes x))) k a ys zs d)
+    → ((k : List ℕ) → Did card (single (cardStore place es)) k a ys zs d)
     → ((k : List ℕ) → Did card (single (slotStore (around (g .slots) h i) n) ++ single (headStore (around (g .slots) h (i + 1)))) k d zs ws r)
     → Did card (stepRuns g at x bs h i) ch left xs ws r
 unfolding stepRuns words entryStore dataOf
-stepped g i from e bs ch at to place x n h left a d r xs ys zs ws t y same p q s =
+stepped g i from e bs ch es at to place x n h left a d r xs ys zs ws t y f same p q s =
     did-then (did-same (λ j. unfenced (units card 8 (blockSize g / 8) (t j) (part bs (e j) (blockSize g))) ∷ []) p)
-    (did-then (did-same (ap (λ (z : ℕ). single (cardStore z (entryBytes x))) y) (q ch))
+    (did-then (did-same (λ j. single (cardStore (y j) (f j))) (q ch))
     (did-same (ap (λ (z : ℕ). single (slotStore (around (g .slots) h i) z) ++ single (headStore (around (g .slots) h (i + 1)))) (sym same)) (s ch)))
 
 -- ---- all of them

@@ -182,7 +182,8 @@ fn log_number(g: Geometry, card: &mut [u8], head: u64, i: usize, number: u64, le
     stores::make_word(card, 64, next, a)
 }
 
-// Block i: its words, its entry at place `at`, its number into the ring. The number is read again, which lets the compiler store it whole.
+// Block i: its words, its entry at place `at`, its number into the ring. The entry's bytes are staged before the words are copied: the move of sixteen
+// bytes that stores them waits until those put one by one are in memory. The number is read again, which lets the compiler store it whole.
 fn make_block(
     g: Geometry,
     card: &mut [u8],
@@ -198,10 +199,13 @@ fn make_block(
     requires { ⌜ Fitted g (now card) × (at < g .blocks) × (e .current < g .blocks) × (i * blockSize g + blockSize g ≤ length (now «data»)) × (head < g .slots) × (i < g .slots) × (i < length (now numbers)) × (e .number ≡ getD (now numbers) i 0) × (blockSize g / 8 ≤ length (now choice)) ⌝ }
     ensures { λ r. ⌜ Did Medium.card (stepRuns g at e (now («data» .entry)) head i) (now (choice .entry)) left (now (card .entry)) (now (card .exit)) r ⌝ }
 {
+    let place = stores::entry_place(g, at);
+    let mut staged = [0u8; 32];
+    codec::put_entry(&mut staged, place % 16, e);
     let from = codec::block_offset(g, i as u64) as usize;
     let to = stores::block_place(g, e.current as u64);
     let a = stores::make_words(g, card, to, data, from, choice, left);
-    let b = stores::make_entry(card, stores::entry_place(g, at), e, a);
+    let b = stores::make_staged(card, place, &staged, a);
     log_number(g, card, head, i, numbers[i], b)
 }
 

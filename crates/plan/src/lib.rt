@@ -289,11 +289,12 @@ fn examine(
     save_refusal(f.geometry, v.free, numbers, size, room)
 }
 
-// What a commit is told before it is planned: its refusal, and where there is none the card's geometry and Head.
+// What a commit is told before it is planned: its refusal, and where there is none the card's geometry and Head. The byte stands last: before the
+// geometry it makes the compiler copy the struct a byte off its fields' places, and wait for what was just stored there.
 pub struct Admitted {
-    pub refusal: u8,
     pub geometry: Geometry,
     pub head: u64,
+    pub refusal: u8,
 }
 
 // All of the refusals of a commit of `size` bytes with a choice of this room, and where there is none the index of the card's numbers, for the plan.

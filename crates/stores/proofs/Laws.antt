@@ -131,14 +131,15 @@ one-made at bs (suc zero) xs ys h e ch = absurd (omega arith)
 one-made at bs (suc (suc a)) xs ys h e ch =
     record { made = e ∙ ap (λ (ss : List Store). madeOn card ss xs) (sym (single-made a ch (cardStore at bs))); left = refl }
 
--- the same, of bytes staged in a row of their own
+-- an entry's bytes staged at the start of a row of their own
+pub staged-part : (e : Entry) (from : ℕ) (zs ws : List ℕ) → from ≡ 0 → ws ≡ patch zs from (entryBytes e) → 16 ≤ length zs
+    → part ws 0 16 ≡ entryBytes e
+staged-part e from zs ws z w l =
+    ap (λ (r : List ℕ). part r 0 16) (w ∙ ap (λ (k : ℕ). patch zs k (entryBytes e)) z) ∙ part-patch-same zs 0 (entryBytes e) 16 (length-entry e) l
+
 pub staged-made : (at : ℕ) (e : Entry) (a from : ℕ) (xs ys zs ws : List ℕ) → 2 ≤ a → from ≡ 0 → ws ≡ patch zs from (entryBytes e)
     → ys ≡ patch xs at (part ws 0 16) → 16 ≤ length zs → (ch : List ℕ) → Did card (single (cardStore at (entryBytes e))) ch a xs ys (a - 1)
-staged-made at e a from xs ys zs ws h z w q l =
-    one-made at (entryBytes e) a xs ys h
-    (q
-    ∙ ap (patch xs at)
-    (ap (λ (r : List ℕ). part r 0 16) (w ∙ ap (λ (k : ℕ). patch zs k (entryBytes e)) z) ∙ part-patch-same zs 0 (entryBytes e) 16 (length-entry e) l))
+staged-made at e a from xs ys zs ws h z w q l = one-made at (entryBytes e) a xs ys h (q ∙ ap (patch xs at) (staged-part e from zs ws z w l))
 
 -- an entry's place is a multiple of sixteen
 pub entry-aligned : (g : Geometry) (i at : ℕ) → goodGeometry g ≡ true → at ≡ entryPlace g i → at % 16 ≡ 0

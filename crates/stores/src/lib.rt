@@ -59,6 +59,18 @@ pub fn make_entry(s: &mut [u8], at: usize, e: Entry, left: u64) -> u64
     left - 1
 }
 
+// The first sixteen staged bytes at byte `at` of the card.
+pub fn make_staged(s: &mut [u8], at: usize, staged: &[u8], left: u64) -> u64
+    requires { ⌜ (at + 16 ≤ length (now s)) × (16 ≤ length (now staged)) ⌝ }
+    ensures { λ r. ⌜ ((ch : List ℕ) → Did Medium.card (single (cardStore at (part (now (staged .entry)) 0 16))) ch left (now (s .entry)) (now (s .exit)) r) ⌝ }
+{
+    if left < 2 {
+        return 0;
+    }
+    numbers::copy(s, at, staged, 0, 16);
+    left - 1
+}
+
 // Of `count` units of 2 ^ `places` bytes side by side those whose byte of the choice is 1.
 fn make_chosen(
     dst: &mut [u8],

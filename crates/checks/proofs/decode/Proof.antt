@@ -10,7 +10,7 @@ use Rattle.ring.proofs.Laws.{fitted-blocks, fitted-disk}
 use Rattle.checks.specs.Fields.{overOf, Numbered}
 use Rattle.checks.specs.Passed.{Decoded}
 use Rattle.checks.proofs.Laws.{Passing, pass-start, pass-unused, pass-used, pass-bad, pass-end}
-use Rattle.checks.proofs.Fields.{Split, split-blank, split-blocks, split-flags, Used, split-number}
+use Rattle.checks.proofs.Fields.{Split, split-blank, split-rest, split-blocks, split-flags, Used, split-number}
 use Rattle.checks.proofs.Flags.{over-few, noRole, roles-more}
 use borrow.Author.Needs.{needs}
 use Rattle.checks.proofs.decode.Statement.{statement}
@@ -51,16 +51,16 @@ number-of c =
     c .number-of .ensures _ (o .over-of .ensures ∙ ap overOf (o .before .before .pre .2))
 
 -- an entry that check 5 allows, with its number and whether it has R
-used-of : (c : tie.Else3 Inv-loop μ-loop)
-    → let f = c .before .before .before .before .before .before .before in
+used-of : (c : tie.Else4 Inv-loop μ-loop)
+    → let f = c .before .before .before .before .before .before in
     let l = f .before .before .before .before in
     let a = l .before .before .before .before .before .args in
-    Used (a .g) (now (a .card)) (l .loop .i) (c .before .before .number-of .result) (f .field-of3 .result)
+    Used (a .g) (now (a .card)) (l .loop .i) (c .before .number-of .result) (f .field-of3 .result)
     (eqb (f .before .before .field-of .result / 2 ^ 56 % 2) 1)
 used-of c =
-    let k = c .before .before in
+    let k = c .before in
     let t = k .before .before .before .before in
-    split-number (split-of (t .before)) (t .if1 .taken) (k .before .if2 .left) _ (number-of k) (c .if3 .left)
+    split-number (split-of (t .before)) (t .if1 .left) (k .before .if3 .left) _ (number-of k) (number-of k .none (c .if4 .left))
 
 over-of-requires : tie.Need-over-of-requires Inv-loop μ-loop
 over-of-requires c κs = search needs
@@ -86,18 +86,40 @@ field-of-requires-3 c κs = search needs
 add-i : tie.Need-add-i Inv-loop μ-loop
 add-i c = search needs
 
-add-if2 : tie.Need-add-if2 Inv-loop μ-loop
-add-if2 c = search needs
-
 misfit-requires : tie.Need-misfit-requires Inv-loop μ-loop
 misfit-requires c κs = search needs
 
 returns : tie.Need-returns Inv-loop μ-loop
 returns c =
+    let t = c .before .before in
+    let l = t .before .before .before .before .before in
+    pass-bad _ _ _ _ _ _ _ _ (l .before .before .before .before .before .pre .0) (t .before .before .before .before .loop-test .taken) (l .loop .inv .1) _ _
+    (split-rest (split-of (t .before)) (t .if1 .taken) (c .before .if2 .taken)) (c .misfit .ensures)
+
+loop-less : tie.Need-loop-less Inv-loop μ-loop
+loop-less c = search needs
+
+loop-again : tie.Need-loop-again Inv-loop μ-loop
+loop-again c =
+    let t = c .before in
+    let l = t .before .before .before .before .before in (
+      search needs,
+      pass-unused _ _ _ _ _ _ _ _ (l .before .before .before .before .before .pre .0) (t .before .before .before .before .loop-test .taken) (l .loop .inv .1)
+          (split-blank (split-of (t .before)) (t .if1 .taken) (c .if2 .left)),
+    )
+
+add-if3 : tie.Need-add-if3 Inv-loop μ-loop
+add-if3 c = search needs
+
+misfit-requires-2 : tie.Need-misfit-requires-2 Inv-loop μ-loop
+misfit-requires-2 c κs = search needs
+
+returns-2 : tie.Need-returns-2 Inv-loop μ-loop
+returns-2 c =
     let t = c .before .before .before .before in
     let l = t .before .before .before .before .before in
     pass-bad _ _ _ _ _ _ _ _ (l .before .before .before .before .before .pre .0) (t .before .before .before .before .loop-test .taken) (l .loop .inv .1) _ _
-    (split-blocks (split-of (t .before)) (t .if1 .taken) (c .before .if2 .taken)) (c .misfit .ensures)
+    (split-blocks (split-of (t .before)) (t .if1 .left) (c .before .if3 .taken)) (c .misfit2 .ensures)
 
 number-of-requires : tie.Need-number-of-requires Inv-loop μ-loop
 number-of-requires c κs =
@@ -105,16 +127,17 @@ number-of-requires c κs =
     let o = l .before .before .before in
     (fitted-disk _ _ (o .before .before .pre .0), over-few _ _ (o .over-of .ensures))
 
-misfit-requires-2 : tie.Need-misfit-requires-2 Inv-loop μ-loop
-misfit-requires-2 c κs = search needs
+misfit-requires-3 : tie.Need-misfit-requires-3 Inv-loop μ-loop
+misfit-requires-3 c κs = search needs
 
-returns-2 : tie.Need-returns-2 Inv-loop μ-loop
-returns-2 c =
-    let k = c .before .before .before in
+returns-3 : tie.Need-returns-3 Inv-loop μ-loop
+returns-3 c =
+    let k = c .before .before in
     let t = k .before .before .before .before in
     let l = t .before .before .before .before .before in
     pass-bad _ _ _ _ _ _ _ _ (l .before .before .before .before .before .pre .0) (t .before .before .before .before .loop-test .taken) (l .loop .inv .1) _ _
-    (split-flags (split-of (t .before)) (t .if1 .taken) (k .before .if2 .left) _ (number-of k) (c .before .if3 .taken)) (c .misfit2 .ensures)
+    (split-flags (split-of (t .before)) (t .if1 .left) (k .before .if3 .left) _ (number-of k)
+    (omega (arith, c .before .if4 .taken, fitted-disk _ _ (l .before .before .before .before .before .pre .0)))) (c .misfit3 .ensures)
 
 narrow-requires : tie.Need-narrow-requires Inv-loop μ-loop
 narrow-requires c κs = search needs
@@ -122,7 +145,7 @@ narrow-requires c κs = search needs
 -- the block marked is one of the card's
 few-of : (c : tie.After-narrow Inv-loop μ-loop) → c .narrow .result < 128
 few-of c =
-    let l = c .before .before .before .before .before .before .before .before .before .before .before .before in
+    let l = c .before .before .before .before .before .before .before .before .before .before .before in
     let u = used-of (c .before) in
     omega (arith, c .narrow .ensures, u .current, u .allowed .currentBelow, fitted-blocks _ _ (l .before .before .before .before .before .pre .0))
 
@@ -134,41 +157,30 @@ add-count c = search needs
 
 enter-requires : tie.Need-enter-requires Inv-loop μ-loop
 enter-requires c κs =
-    let f = c .before .before .before .before .before .before .before .before .before .before in
+    let f = c .before .before .before .before .before .before .before .before .before in
     let l = f .before .before .before .before in
     (l .loop .inv .1 .chains .long, omega (arith, f .before .before .before .loop-test .taken, fitted-blocks _ _ (l .before .before .before .before .before .pre .0)))
-
-loop-less : tie.Need-loop-less Inv-loop μ-loop
-loop-less c = search needs
-
-loop-again : tie.Need-loop-again Inv-loop μ-loop
-loop-again c =
-    let w = c .before .before in
-    let n = w .before in
-    let k = n .before in
-    let f = k .before .before .before .before .before .before .before in
-    let l = f .before .before .before .before in (
-      search needs,
-      pass-used _ _ _ _ _ _ _ _ (l .before .before .before .before .before .pre .0) (f .before .before .before .loop-test .taken) (l .loop .inv .1) _ _ _ _ _ _ _
-          (used-of k) (n .narrow .ensures) (w .with .ensures) (c .enter .ensures) _ (roles-more (l .loop .roles) (f .before .before .field-of .result)),
-    )
 
 loop-less-2 : tie.Need-loop-less-2 Inv-loop μ-loop
 loop-less-2 c = search needs
 
 loop-again-2 : tie.Need-loop-again-2 Inv-loop μ-loop
 loop-again-2 c =
-    let l = c .before .before .before .before .before in (
+    let w = c .before .before in
+    let n = w .before in
+    let k = n .before in
+    let f = k .before .before .before .before .before .before in
+    let l = f .before .before .before .before in (
       search needs,
-      pass-unused _ _ _ _ _ _ _ _ (l .before .before .before .before .before .pre .0) (c .before .before .before .before .loop-test .taken) (l .loop .inv .1)
-          (split-blank (split-of (c .before)) (c .if1 .left)),
+      pass-used _ _ _ _ _ _ _ _ (l .before .before .before .before .before .pre .0) (f .before .before .before .loop-test .taken) (l .loop .inv .1) _ _ _ _ _ _ _
+          (used-of k) (n .narrow .ensures) (w .with .ensures) (c .enter .ensures) _ (roles-more (l .loop .roles) (f .before .before .field-of .result)),
     )
 
 found-requires : tie.Need-found-requires Inv-loop μ-loop
 found-requires c κs = search needs
 
-returns-3 : tie.Need-returns-3 Inv-loop μ-loop
-returns-3 c =
+returns-4 : tie.Need-returns-4 Inv-loop μ-loop
+returns-4 c =
     let l = c .before .before in
     subst (Decoded _ _ _) (sym (c .found .ensures))
     (pass-end _ _ _ _ _ _ _ _ (l .before .before .before .before .before .pre .0) (l .loop .inv .1) (c .before .loop-test .left) (l .loop .inv .0))
@@ -176,5 +188,5 @@ returns-3 c =
 pub decode-spec : {M : Type 1} → statement M
 decode-spec =
     tie.close (tie.spec Inv-loop μ-loop over-of-requires sub-count beyond-requires loop-holds field-of-requires field-of-requires-2 field-of-requires-3 add-i
-    add-if2 misfit-requires returns number-of-requires misfit-requires-2 returns-2 narrow-requires with-requires add-count enter-requires loop-less
-    loop-again loop-less-2 loop-again-2 found-requires returns-3)
+    misfit-requires returns loop-less loop-again add-if3 misfit-requires-2 returns-2 number-of-requires misfit-requires-3 returns-3 narrow-requires
+    with-requires add-count enter-requires loop-less-2 loop-again-2 found-requires returns-4)

@@ -1,5 +1,5 @@
 -- `number_of` answers its definition: one law for each flag byte that is subtracted.
-use Rattle.checks.proofs.Flags.{numbered-modified, numbered-clean, numbered-over, numbered-logged, numbered-last}
+use Rattle.checks.proofs.Flags.{numbered-modified, numbered-clean, numbered-over, numbered-logged, numbered-last, numbered-none}
 use borrow.Author.Needs.{needs}
 use Rattle.checks.proofs.number_of.Statement.{statement}
 use Rattle.checks.proofs.number_of.Tie as tie
@@ -35,15 +35,19 @@ wrapping-sub-u64-requires-5 : tie.Need-wrapping-sub-u64-requires-5
 wrapping-sub-u64-requires-5 c κs = search needs
 
 returns-5 : tie.Need-returns-5
-returns-5 c =
-    let e = c .before .before in
+returns-5 c = λ v h. search (numbered-last, needs)
+
+returns-6 : tie.Need-returns-6
+returns-6 c =
+    let x = c .before in
+    let e = x .before .before in
     let d = e .before .before in
     let b = d .before .before in
     let a = b .before .before in
     λ v h.
-    numbered-last _ _ _ (a .before .pre .0) v h _ _ _ _ _ (search needs) (search needs) (search needs) (search needs) (search needs)
+    numbered-none _ _ _ (a .before .pre .0) v h _ _ _ _ _ (search needs) (search needs) (search needs) (search needs) (search needs)
     (b .wrapping-sub-u642 .ensures) (d .wrapping-sub-u643 .ensures) (a .wrapping-sub-u64 .ensures) (e .wrapping-sub-u644 .ensures)
-    (c .wrapping-sub-u645 .ensures) (d .before .if2 .left) (e .before .if3 .left) (b .before .if1 .left) (c .before .if4 .left)
+    (x .wrapping-sub-u645 .ensures) (d .before .if2 .left) (e .before .if3 .left) (b .before .if1 .left) (x .before .if4 .left) (c .if5 .left)
 
 pub number-of-spec : {M : Type 1} → statement M
 number-of-spec =
@@ -59,4 +63,5 @@ number-of-spec =
     returns-4
     add-wrapping-sub-u64
     wrapping-sub-u64-requires-5
-    returns-5)
+    returns-5
+    returns-6)
