@@ -9,7 +9,7 @@ use lib.Bits.{bitOr, or-shr, or-mod}
 use lib.Dec.{eqb, ltb}
 use borrow.Author.Tests.{eqb-true, ltb-true, eq-eqb, ne-eqb, lt-ltb, le-ltb}
 use Rattle.protocol.specs.Entry.{allowedFlags}
-use Rattle.protocol.proofs.Below.{either, and-both, and-fails, below-or-above}
+use Rattle.protocol.proofs.Below.{either, and-both, and-fails}
 use Rattle.checks.specs.Fields.{overOf, NO-NUMBER, Numbered}
 
 pub over-second : (v : ℕ) → v ≡ 2 → 0x8600000000000000 ≡ overOf v

@@ -89,13 +89,6 @@ add-i c = search needs
 misfit-requires : tie.Need-misfit-requires Inv-loop μ-loop
 misfit-requires c κs = search needs
 
-returns : tie.Need-returns Inv-loop μ-loop
-returns c =
-    let t = c .before .before in
-    let l = t .before .before .before .before .before in
-    pass-bad _ _ _ _ _ _ _ _ (l .before .before .before .before .before .pre .0) (t .before .before .before .before .loop-test .taken) (l .loop .inv .1) _ _
-    (split-rest (split-of (t .before)) (t .if1 .taken) (c .before .if2 .taken)) (c .misfit .ensures)
-
 loop-less : tie.Need-loop-less Inv-loop μ-loop
 loop-less c = search needs
 
@@ -107,6 +100,13 @@ loop-again c =
       pass-unused _ _ _ _ _ _ _ _ (l .before .before .before .before .before .pre .0) (t .before .before .before .before .loop-test .taken) (l .loop .inv .1)
           (split-blank (split-of (t .before)) (t .if1 .taken) (c .if2 .left)),
     )
+
+returns : tie.Need-returns Inv-loop μ-loop
+returns c =
+    let t = c .before .before in
+    let l = t .before .before .before .before .before in
+    pass-bad _ _ _ _ _ _ _ _ (l .before .before .before .before .before .pre .0) (t .before .before .before .before .loop-test .taken) (l .loop .inv .1) _ _
+    (split-rest (split-of (t .before)) (t .if1 .taken) (c .before .if2 .taken)) (c .misfit .ensures)
 
 add-if3 : tie.Need-add-if3 Inv-loop μ-loop
 add-if3 c = search needs
