@@ -112,6 +112,20 @@ bytes-be (b ∷ bs) h =
     ∙ mod-eq-of-lt (bytes-first b bs h) in
     ap (λ (n : ℕ). bytesBE (suc w) n) (be-cons b bs) ∙ (λ t. first t ∷ (bytes-above w b (be bs) ∙ bytes-be bs rest) t)
 
+-- digits that make a number below 256 are bytes
+pub small-bytes : (bs : List ℕ) → be bs < 256 → Bytes bs
+unfolding be beFrom
+small-bytes bs h = go 0 bs h
+  where
+    grows : (acc : ℕ) (bs : List ℕ) → acc ≤ beFrom acc bs
+    grows acc [] = omega arith
+    grows acc (b ∷ bs) = omega (arith, grows (acc * 256 + b) bs)
+
+    go : (acc : ℕ) (bs : List ℕ) → beFrom acc bs < 256 → Bytes bs
+    go acc [] h i l = absurd (omega arith)
+    go acc (b ∷ bs) h zero l = omega (arith, grows (acc * 256 + b) bs)
+    go acc (b ∷ bs) h (suc i) l = go (acc * 256 + b) bs h i (omega arith)
+
 pub bytes-below : (w v : ℕ) → Bytes (bytesBE w v)
 unfolding bytesBE
 bytes-below zero v i h = absurd (not-suc-le-zero h)

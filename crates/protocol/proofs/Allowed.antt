@@ -231,6 +231,14 @@ module _ (v : ℕ) (e : Entry) (b p q : ℕ) where
   back-dirty =
       by-undone (λ f d. not (eqb v 2) || eqb (f / 0x04 % 2) 1 ≡ d) (λ h. rw h) (λ h. rw (eq-eqb v 2 h)) (λ h. rw (eq-eqb v 2 h))
 
+  -- and its flags are those that it has
+  pub back-again : undoneFlags v back ≡ undoneFlags v e
+  back-again =
+      by-undone (λ f d. undoneFlags v (entryOf f b p q) ≡ f)
+      (λ h. unfold undoneFlags in rw h)
+      (λ h. unfold undoneFlags wasModified in rw (eq-eqb v 2 h))
+      (λ h. unfold undoneFlags wasModified in rw (eq-eqb v 2 h))
+
 -- a loaded entry
 module _ (b p q : ℕ) where
   pub clean-used : inUse (entryOf 0x80 b p q) ≡ true

@@ -2,9 +2,9 @@
 -- Tail's store replaces the row's blocks by those given. Assumes nothing.
 use Prim.Native.Nat.{ℕ, _+_, _*_, _-_, _≤_, _<_}
 use mathlib.Core.List.{List, [], _∷_, _++_, append-assoc}
-use mathlib.Core.Bool.{true, false, not}
-use mathlib.Core.Path.{_≡_, refl, sym, ap, subst, _∙_}
-use mathlib.Core.Logic.{_⊎_, inl, inr, ⊎-elim}
+use mathlib.Core.Bool.{true, not}
+use mathlib.Core.Path.{_≡_, sym, ap, subst, _∙_}
+use mathlib.Core.Logic.{⊎-elim}
 use native.Mathlib.Omega.{arith}
 use lib.ListN.{length, take}
 use lib.Seq.{take-all}
@@ -16,16 +16,15 @@ use Rattle.protocol.specs.Below.{eachBelow}
 use Rattle.protocol.specs.Layout.{versionOf, blockSize, blockAt}
 use Rattle.protocol.specs.Entry.{entryAt, inUse, hasLogRole, switched}
 use Rattle.protocol.specs.Ring.{headOf, windowOf, windowNumber, windowHas, inWindow, usedAt, findEntry}
-use Rattle.protocol.specs.Store.{card, disk, Store, Run, storedOn, madeOn, flat, single, entryStore, tailStore}
-use Rattle.protocol.specs.Commit.{numberOf, newBlock, entryFound, overModified, logEntry, dataOf, headAfter, blockRuns, switchRuns, commitRuns, countFits, dataFits}
+use Rattle.protocol.specs.Store.{card, disk, Store, Run, storedOn, madeOn, flat, made, single, entryStore, tailStore}
+use Rattle.protocol.specs.Commit.{numberOf, newBlock, entryFound, overModified, logEntry, dataOf, blockRuns, switchRuns, commitRuns, countFits, dataFits}
 use Rattle.protocol.specs.Pending.{finishSwitch, finishRuns}
 use Rattle.protocol.specs.History.{replaced}
 use Rattle.protocol.proofs.Allowed.{log-flag, switched-used}
-use Rattle.protocol.proofs.Below.{absurd-bool, and-left, and-right, any-found, below-or-above, each-cong, either}
+use Rattle.protocol.proofs.Below.{absurd-bool, and-left, and-right, any-found, below-or-above, each-cong}
 use Rattle.protocol.proofs.Blocks.{among, PutsPassed, Mid, Order, Stage, blocks-along, mid-back, numbers-apart, e-below, q-below, log-used-of, log-role-of}
 use Rattle.protocol.proofs.Checks.{Limits, limits}
 use Rattle.protocol.proofs.Finished.{Matched, Switching, switches, switches-along, finish-front, finish-done, told-same, back-same}
-use Rattle.protocol.proofs.Finished.{Stage as Turned}
 use Rattle.protocol.proofs.Holds.{empty-window}
 use Rattle.protocol.proofs.Invariant.{undoneKind}
 use Rattle.protocol.proofs.Lawful.{inv-intact, entry-found}
@@ -33,10 +32,11 @@ use Rattle.protocol.proofs.Loaded.{Rest, Cached, window-start, settled-
 use Rattle.protocol.proofs.Made.{tail-changed}
 use Rattle.protocol.proofs.Passed.{CommitPassed}
 use Rattle.protocol.proofs.Region.{tail}
-use Rattle.protocol.proofs.Shape.{Changed, version-kept, entry-kept, block-kept, kindAt, Inv, Back}
-use Rattle.protocol.proofs.Stores.{made-append, made-runs, flat-last, Along, both, along-map, along-next}
+use Rattle.protocol.proofs.Shape.{Changed, entry-kept, block-kept, kindAt, Inv, Back}
+use Rattle.protocol.proofs.Stores.{made-append, made-runs, last-cut, flat-last, Along, both, along-map, along-next}
 use Rattle.protocol.proofs.Told.{Told, told-none}
 use Rattle.protocol.proofs.Growing.{told-more}
+use Rattle.protocol.proofs.Undoables.{undoables, undoables-same, undoables-settled, undoables-put}
 
 module _ {g : Geometry} {row : ℕ → List ℕ} {c d : List ℕ} (ns bs : List ℕ) (v : Inv g row c d) (p : CommitPassed g c ns bs) where
   pub count-low : 0 < length ns
@@ -184,14 +184,25 @@ module _ {g : Geometry} {row : ℕ → List ℕ} {c d : List ℕ} (ns bs : List 
       commit-finish ∙ ap (λ (rs : List Run). blocks ++ rs) (finish-front (all-put .inv) all-matched)
       ∙ sym (append-assoc blocks (switches (all-put .inv) all-matched) (single (tailStore (headOf put))))
 
-  -- wherever the commit is cut before Tail's store: the invariant, each entry undone as at the start, and what the window tells
+  -- wherever the commit is cut before Tail's store: the invariant, each entry undone as at the start, what the window tells, and as many undoable
+  -- entries as there are blocks at most
   pub record Cut (c′ d′ : List ℕ) : Type 0 where
     pub inv : Inv g row c′ d′
     pub back : versionOf c ≡ 2 → Back g (λ i. undoneKind (kindAt g c i)) c′
     pub told : Told g (take (windowOf g c′) ns) (take (windowOf g c′ * blockSize g) bs) c′
+    pub few : undoables g c′ ≤ length ns
+
+  few-put : {a h : ℕ} {c′ d′ : List ℕ} → Mid ns bs v puts a h c′ d′ → Order ns bs v puts a h → undoables g c′ ≤ length ns
+  few-put m o = omega (arith, undoables-put ns bs v puts m o, undoables-settled g c (p .settled), o .a-low)
 
   put-cut : {c′ d′ : List ℕ} → Stage ns bs v puts (length ns) c′ d′ → Cut c′ d′
-  put-cut s = record { inv = s .mid .inv; back = mid-back ns bs v puts (s .mid) (s .order); told = told-first (s .order) (s .mid) }
+  put-cut s =
+      record {
+        inv = s .mid .inv;
+        back = mid-back ns bs v puts (s .mid) (s .order);
+        told = told-first (s .order) (s .mid);
+        few = few-put (s .mid) (s .order);
+      }
 
   turned-cut : {n : ℕ} {c′ d′ : List ℕ} → n ≤ windowOf g put → Switching (all-put .inv) all-matched n c′ d′ → Cut c′ d′
   turned-cut {n} {c′} l s =
@@ -200,6 +211,7 @@ module _ {g : Geometry} {row : ℕ → List ℕ} {c d : List ℕ} (ns bs : List 
         inv = s .inv;
         back = λ two i h. back-same (all-put .inv) all-matched s i h ∙ mid-back ns bs v puts all-put all-order two i h;
         told = subst (λ (T : Type 0). T) (sym (whole (t .counted))) t;
+        few = omega (arith, undoables-same g put c′ (s .kinds), few-put all-put all-order);
       }
 
   pub commit-cut : Along Cut Cut front c d
@@ -265,3 +277,29 @@ module _ {g : Geometry} {row : ℕ → List ℕ} {c d : List ℕ} (ns bs : List 
   unfolding logEntry
   kept-used-of j =
       switched-used (versionOf c) (logEntry g c ns j) (log-flag (versionOf c) (overModified g c ns j) 0 0 0) (log-role-of ns bs v puts j)
+
+-- a commit's runs behind runs that leave the card settled: what holds of a settled card, and of the commit cut before Tail's store, holds of them
+-- cut anywhere; done they replace the row's blocks
+module _ {g : Geometry} {row : ℕ → List ℕ} {c d : List ℕ} (rs : List Run) (ns bs : List ℕ)
+    (x : Along (Rest g row) (Rest g row) rs c d) (p : CommitPassed g (madeOn card (flat rs) c) ns bs) where
+  abbrev pub saving : List Run
+  saving = rs ++ commitRuns g (madeOn card (flat rs) c) ns bs
+
+  pub standing : Inv g row (madeOn card (flat rs) c) (madeOn disk (flat rs) d)
+  standing = x .end .0
+
+  pub saving-cut : (P : List ℕ → List ℕ → Type 0) → ((c′ d′ : List ℕ) → Rest g row c′ d′ → P c′ d′) → ((c′ d′ : List ℕ) → Cut ns bs standing p c′ d′ → P c′ d′)
+      → (a : ℕ) (ch : List ℕ) → a < length (flat saving) → P (madeOn card (made a ch saving) c) (madeOn disk (made a ch saving) d)
+  saving-cut P rest cut a ch l =
+      let first = rs ++ front ns bs standing p in
+      let last = tailStore (headOf (put ns bs standing p)) in
+      let split : saving ≡ first ++ single last =
+      ap (λ (qs : List Run). rs ++ qs) (commit-front ns bs standing p) ∙ sym (append-assoc rs (front ns bs standing p) (single last)) in
+      let short : a < length (flat (first ++ single last)) = subst (λ (qs : List Run). a < length (flat qs)) split l in
+      subst (λ (ss : List Store). P (madeOn card ss c) (madeOn disk ss d)) (sym (ap (made a ch) split ∙ last-cut a ch first last short))
+      (along-next rs (front ns bs standing p) c d (along-map rest (λ c′ d′ q. q) x)
+      (along-map cut (λ c′ d′ q. q) (commit-cut ns bs standing p)) .during a ch)
+
+  pub saving-done : Rest g (replaced g ns bs row) (madeOn card (flat saving) c) (madeOn disk (flat saving) d)
+  saving-done =
+      both (Rest g (replaced g ns bs row)) (sym (made-runs card rs _ c)) (sym (made-runs disk rs _ d)) (commit-done ns bs standing p)

@@ -1,7 +1,7 @@
 -- The cut rule and the plain row: by induction over the list of calls, from a formatted card, with the invariant at every call; and that a
 -- room-making commit keeps the blocks outside its transaction. Assumes nothing.
 use Prim.Native.Nat.{ℕ, _<_}
-use mathlib.Core.List.{List, [], _∷_, _++_, append-assoc}
+use mathlib.Core.List.{List, [], _∷_, _++_}
 use mathlib.Core.Bool.{Bool, true, false, cond}
 use mathlib.Core.Option.{Option, none, some}
 use mathlib.Core.Path.{_≡_, refl, sym, ap, subst, _∙_}
@@ -20,9 +20,9 @@ use Rattle.protocol.specs.Layout.{between, goodGeometry, geometryOf, ver
 use Rattle.protocol.specs.Entry.{unused, entryIn, entryAt, inUse, hasLogRole, goodEntry}
 use Rattle.protocol.specs.Ring.{headOf, tailOf, windowLength, windowOf, usedAt, isSettled, cached, currentOf, contents}
 use Rattle.protocol.specs.Check.{refuse, cardFits}
-use Rattle.protocol.specs.Store.{Medium, card, disk, Store, Run, Work, madeOn, flat, made, single, storesOf, answerOf, afterOn, tailStore}
+use Rattle.protocol.specs.Store.{Medium, card, disk, Store, Run, Work, madeOn, flat, made, storesOf, answerOf, afterOn}
 use Rattle.protocol.specs.Format.{outcomeOf, formatRefusal, formatted, afterFormat}
-use Rattle.protocol.specs.Commit.{commitRuns, commitWork, headAfter}
+use Rattle.protocol.specs.Commit.{commitRuns, commitWork}
 use Rattle.protocol.specs.Load.{loadRuns, loadWork, evictRuns, evictWork}
 use Rattle.protocol.specs.Room.{isAmong, victims, missing, victimNumber, roomRuns, roomLeft, roomRefusal, roomWork}
 use Rattle.protocol.specs.Recover.{recoverRuns, recoverWork}
@@ -35,7 +35,7 @@ use Rattle.protocol.proofs.Below.{either, absurd-bool, any-at}
 use Rattle.protocol.proofs.Checks.{Limits, limits}
 use Rattle.protocol.proofs.Codec.{entry-of-part, good-header, geometry-of-header, header-formatted, length-formatted, zero-formatted}
 use Rattle.protocol.proofs.Blocks.{row-kept}
-use Rattle.protocol.proofs.Committed.{front, commit-front, put as filled, commit-cut, commit-done}
+use Rattle.protocol.proofs.Committed.{saving, standing, saving-cut, saving-done}
 use Rattle.protocol.proofs.Holds.{version-known, upgrade-refuses, geometry-is, recover-refuses, map-made, contents-hold, read-holds, look-holds, read-refuses, look-refuses, recent-holds, recent-refuses, idle-kind}
 use Rattle.protocol.proofs.Invariant.{Kind, idle, kindNumber, kindCurrent, kindPrevious}
 use Rattle.protocol.proofs.Lawful.{inv-intact, number-below}
@@ -46,7 +46,7 @@ use Rattle.protocol.proofs.Recovered.{recovery, settled-by}
 use Rattle.protocol.proofs.Room.{victim-below, victim-outside, room-enough, room-commits, room-along, victim-gone}
 use Rattle.protocol.proofs.Shape.{kindAt, Shape, Inv, window-empty}
 use Rattle.protocol.proofs.Upgraded.{upgrading}
-use Rattle.protocol.proofs.Stores.{along-map, made-runs, last-cut, runs-covered, Along, both, along-next, along-none}
+use Rattle.protocol.proofs.Stores.{made-runs, runs-covered, Along, both, along-none}
 
 -- ---- what a call leaves, by its answer
 
@@ -69,38 +69,20 @@ answered a w = go (either (eqb (w .refusal) 0)) (either (ltb a (length (flat (w 
         done (eqb-true _ _ r) (rw (r, s)) (λ m xs. rw r (ap (λ (ss : List Store). madeOn m ss xs) (runs-covered a (w .choice) (w .runs) (ltb-false _ _ s))))
 
 -- what the media are after a call of w
-abbrev Left : (List ℕ → List ℕ → Type 0) → ℕ → Work → Media → Type 0
+abbrev pub Left : (List ℕ → List ℕ → Type 0) → ℕ → Work → Media → Type 0
 Left P a w m = P (afterOn card a w (m .onCard)) (afterOn disk a w (m .onDisk))
 
 -- ---- the calls
 
--- a commit's runs behind runs that leave the card settled: cut before Tail's store they leave the row and a pending save of the first blocks, done they
--- replace the row's blocks
-module _ {g : Geometry} {r : Reckoned} {c d : List ℕ} (none : NoPuts r) (rs : List Run) (ns bs : List ℕ)
-    (x : Along (Rest g (r .row)) (Rest g (r .row)) rs c d) (p : CommitPassed g (madeOn card (flat rs) c) ns bs) where
-  abbrev saving : List Run
-  saving = rs ++ commitRuns g (madeOn card (flat rs) c) ns bs
-
-  standing : Inv g (r .row) (madeOn card (flat rs) c) (madeOn disk (flat rs) d)
-  standing = x .end .0
-
-  saving-cut : (a : ℕ) (ch : List ℕ) → a < length (flat saving) → Reck g (withCut ns bs r) (madeOn card (made a ch saving) c) (madeOn disk (made a ch saving) d)
-  unfolding withCut
-  saving-cut a ch l =
-      let first = rs ++ front ns bs standing p in
-      let last = tailStore (headOf (filled ns bs standing p)) in
-      let split : saving ≡ first ++ single last =
-      ap (λ (qs : List Run). rs ++ qs) (commit-front ns bs standing p) ∙ sym (append-assoc rs (front ns bs standing p) (single last)) in
-      let short : a < length (flat (first ++ single last)) = subst (λ (qs : List Run). a < length (flat qs)) split l in
-      let none′ : NoPuts (withCut ns bs r) = record { numbers = none .numbers; bytes = none .bytes } in
-      subst (λ (ss : List Store). Reck g (withCut ns bs r) (madeOn card ss c) (madeOn disk ss d))
-      (sym (ap (made a ch) split ∙ last-cut a ch first last short))
-      (along-next rs (front ns bs standing p) c d (along-map (λ c′ d′ q. rest-reck q none′) (λ c′ d′ q. q) x)
-      (along-map (λ c′ d′ q. commit-reck ns bs standing p r refl none q) (λ c′ d′ q. q) (commit-cut ns bs standing p)) .during a ch)
-
-  saving-done : Rest g (replaced g ns bs (r .row)) (madeOn card (flat saving) c) (madeOn disk (flat saving) d)
-  saving-done =
-      both (Rest g (replaced g ns bs (r .row))) (sym (made-runs card rs _ c)) (sym (made-runs disk rs _ d)) (commit-done ns bs standing p)
+-- a commit's runs behind runs that leave the card settled: cut before Tail's store they leave the row and a pending save of the first blocks
+save-cut : {g : Geometry} {r : Reckoned} {c d : List ℕ} → NoPuts r → (rs : List Run) (ns bs : List ℕ) (x : Along (Rest g (r .row)) (Rest g (r .row)) rs c d)
+    (p : CommitPassed g (madeOn card (flat rs) c) ns bs) (a : ℕ) (ch : List ℕ) → a < length (flat (saving rs ns bs x p))
+    → Reck g (withCut ns bs r) (madeOn card (made a ch (saving rs ns bs x p)) c) (madeOn disk (made a ch (saving rs ns bs x p)) d)
+unfolding withCut
+save-cut {g} {r} n rs ns bs x p =
+    saving-cut rs ns bs x p (Reck g (withCut ns bs r))
+    (λ c′ d′ q. rest-reck q (record { numbers = n .numbers; bytes = n .bytes }))
+    (λ c′ d′ q. commit-reck ns bs (standing rs ns bs x p) p r refl n q)
 
 by-reckoning : {g : Geometry} {r r′ : Reckoned} {c d : List ℕ} → r′ ≡ r → Reck g r c d → Reck g r′ c d
 by-reckoning {g} {r} {r′} {c} {d} e x = subst (λ (k : Reckoned). Reck g k c d) (sym e) x
@@ -142,11 +124,11 @@ module _ {g : Geometry} {r : Reckoned} (m : Media) (w : ℕ) (s : Map) (x : Reck
   saves q rs ns bs done′ cut′ settled y p =
       let none = no-puts x settled in
       record {
-        cutting = λ a ch l. by-reckoning cut′ (saving-cut none rs ns bs y p a ch l);
+        cutting = λ a ch l. by-reckoning cut′ (save-cut none rs ns bs y p a ch l);
         finished = λ n.
             by-reckoning (done′ n)
-            (rest-reck (saving-done none rs ns bs y p) (record { numbers = none .numbers; bytes = none .bytes }));
-        settles = λ _. saving-done none rs ns bs y p .1;
+            (rest-reck (saving-done rs ns bs y p) (record { numbers = none .numbers; bytes = none .bytes }));
+        settles = λ _. saving-done rs ns bs y p .1;
       }
 
   call-does : (q : Call) → workOf w q s m .refusal ≡ 0 → Does q (workOf w q s m .runs)
@@ -199,7 +181,7 @@ module _ {g : Geometry} {r : Reckoned} (m : Media) (w : ℕ) (s : Map) (x : Reck
   reckon-refused (finish p) k = refl
 
   -- every call keeps the reckoning, by its answer
-  call-keeps : (q : Call) (a : ℕ) → Left (Reck g (reckon g q (answerOf a (workOf w q s m)) r)) a (workOf w q s m) m
+  pub call-keeps : (q : Call) (a : ℕ) → Left (Reck g (reckon g q (answerOf a (workOf w q s m)) r)) a (workOf w q s m) m
   call-keeps q a = go (answered a k₀)
     where
       k₀ : Work
@@ -216,7 +198,7 @@ module _ {g : Geometry} {r : Reckoned} (m : Media) (w : ℕ) (s : Map) (x : Reck
       go (done z e k) = to _ (ap (λ (y : Answer). reckon g q y r) e) (k card (m .onCard)) (k disk (m .onDisk)) (call-does q z .finished _)
 
   -- every call but a put that answers done leaves the card settled
-  call-settles : (q : Call) (a n : ℕ) → isPut q ≡ false → answerOf a (workOf w q s m) ≡ Done n → isSettled g (afterOn card a (workOf w q s m) (m .onCard)) ≡ true
+  pub call-settles : (q : Call) (a n : ℕ) → isPut q ≡ false → answerOf a (workOf w q s m) ≡ Done n → isSettled g (afterOn card a (workOf w q s m) (m .onCard)) ≡ true
   call-settles q a n f e = go (answered a (workOf w q s m))
     where
       go : Answered a (workOf w q s m) → isSettled g (afterOn card a (workOf w q s m) (m .onCard)) ≡ true

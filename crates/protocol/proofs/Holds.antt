@@ -308,17 +308,22 @@ module _ {g : Geometry} {row : ℕ → List ℕ} {c d : List ℕ} (v : Inv g row
   unfolding damageRefusal
   damage-passes = none-first _ (pass 4 ring-passes) ∙ none-first _ (pass 5 entries-pass) ∙ pass 6 apart-passes
 
-  make-passes : makeRefusal 2 c ≡ 0
-  unfolding makeRefusal
-  make-passes = none-first _ (fit-passes 1 2 version-known) ∙ ap (λ (z : Geometry). damageRefusal z c) geometry-is ∙ damage-passes
+  -- a library that takes the card's version
+  module _ (w : ℕ) (taken : between 1 w (versionOf c) ≡ true) where
+    make-passes : makeRefusal w c ≡ 0
+    unfolding makeRefusal
+    make-passes = none-first _ (fit-passes 1 w taken) ∙ ap (λ (z : Geometry). damageRefusal z c) geometry-is ∙ damage-passes
+
+    pub recover-asks : (s : Map) → recoverRefusal w c s ≡ mapRefusal c s
+    unfolding recoverRefusal
+    recover-asks s = none-first _ make-passes
 
   pub recover-refuses : (s : Map) → recoverRefusal 2 c s ≡ mapRefusal c s
-  unfolding recoverRefusal
-  recover-refuses s = none-first _ make-passes
+  recover-refuses = recover-asks 2 version-known
 
   pub map-made : madeMap c ≡ Is (mapOf c)
   unfolding madeMap
-  map-made = rw (eq-eqb _ _ make-passes)
+  map-made = rw (eq-eqb _ _ (make-passes 2 version-known))
 
   pub card-refuses : cardRefusal g c ≡ refuse 7 (isSettled g c)
   unfolding cardRefusal

@@ -10,8 +10,8 @@ use native.Mathlib.Nat.{add-zero, zero-mul}
 use native.Mathlib.Omega.{arith}
 use lib.ListN.{length, getD, drop}
 use lib.Seq.{getD-drop}
-use lib.Dec.{eqb, ltb, leb}
-use borrow.Author.Tests.{leb-true, not-true}
+use lib.Dec.{eqb, ltb}
+use borrow.Author.Tests.{not-true}
 use Rattle.numbers.specs.Bytes.{part}
 use Rattle.numbers.proofs.Laws.{part-all}
 use Rattle.protocol.specs.declared.Entry.{Entry}
@@ -20,7 +20,7 @@ use Rattle.protocol.specs.Below.{countBelow, eachBelow, walked}
 use Rattle.protocol.specs.Layout.{between, geometryOf, versionOf, blockSize}
 use Rattle.protocol.specs.Entry.{FRESH, entryOf, entryAt, inUse, isModified, logFlags}
 use Rattle.protocol.specs.Ring.{headOf, usedAt, entryFor, findEntry, cached, currentOf}
-use Rattle.protocol.specs.Check.{fitRefusal, damageRefusal, cardRefusal}
+use Rattle.protocol.specs.Check.{fitRefusal, cardRefusal}
 use Rattle.protocol.specs.Store.{card, Run, madeOn, flat, single, words, entryStore, slotStore, headStore}
 use Rattle.protocol.specs.Search.{isFree, unusedAt, searchStart, freeBlocks, unusedEntries}
 use Rattle.protocol.specs.Commit.{numberOf, uncachedAt, newBlock, entryFound, oldBlock, overModified, logEntry, dataOf, headAfter, blockRuns, commitRuns, commitRefusal}
@@ -28,13 +28,14 @@ use Rattle.protocol.specs.Map.{mapOf}
 use Rattle.protocol.specs.Room.{roomRuns, roomLeft, roomWork}
 use Rattle.protocol.specs.Pending.{putRuns, finishRuns, putsRuns, savedRuns}
 use Rattle.protocol.specs.InRow.{CommitInRow, RoomInRow}
-use Rattle.protocol.proofs.Below.{either, absurd-bool, bool-same, and-left, and-right, count-le, count-below, first-cong}
+use Rattle.protocol.proofs.Below.{either, absurd-bool, bool-same, count-le, count-below, first-cong}
 use Rattle.protocol.proofs.Blocks.{among, forward-is, head-start, PutsPassed, Mid, Order, Entered, fresh, again, entered, enough-free, numbers-apart, e-below, e-apart, e-own, o-current, old-named, logKind, log-used-of, kind-logged, kind-other, data-length, blocks-along}
-use Rattle.protocol.proofs.Checks.{limits, orElse-none, refuse-none}
+use Rattle.protocol.proofs.Checks.{limits, orElse-none}
 use Rattle.protocol.proofs.Committed.{puts, blocks, commit-finish}
 use Rattle.protocol.proofs.Holds.{used-number, idle-kind, for-used, for-number}
 use Rattle.protocol.proofs.Invariant.{kindCurrent, kindPrevious}
-use Rattle.protocol.proofs.Lawful.{intact, lawful}
+use Rattle.protocol.proofs.Lawful.{lawful}
+use Rattle.protocol.proofs.Left.{whole-card}
 use Rattle.protocol.proofs.Loaded.{cached-entry}
 use Rattle.protocol.proofs.Passed.{CommitPassed, commit-passed}
 use Rattle.protocol.proofs.Planned.{Names, free-unnamed, unnamed-free, named-taken, start-below, enough-unused}
@@ -290,14 +291,12 @@ commit-row {g} {row} {c} ns bs v p =
 
 -- the card of a commit that is not refused is whole and settled
 pub commit-in-row : CommitInRow
-unfolding commitRefusal cardRefusal between
+unfolding commitRefusal
 commit-in-row w c s ns bs ch known z =
     let g = geometryOf c in
     let (fit, more) = orElse-none (fitRefusal w w c) _ z in
-    let (damage, seven) = orElse-none (damageRefusal g c) _ (orElse-none (cardRefusal g c) _ more .0) in
-    let low : 1 ≤ w = leb-true _ _ (and-left (leb 1 w) _ known) in
-    let high : w ≤ 2 = leb-true _ _ (and-right (leb 1 w) _ known) in
-    let v = lawful (intact w w c low high fit damage) (refuse-none 7 _ (omega arith) seven) in
+    let (whole, settled) = whole-card w known c fit (orElse-none (cardRefusal g c) _ more .0) in
+    let v = lawful whole settled in
     commit-row ns bs v (commit-passed v w s ns bs ch z)
 
 -- the room-making one is a commit, which is not refused, on the card that its evictions left

@@ -1,10 +1,10 @@
 -- A card that passes checks 1, 2 and 4 to 7 is lawful over some disk and some row, whatever its history: take as each disk block what is
 -- cached for it. So what is proved of lawful cards alone, of the entries that a commit leaves, holds of every card that is not refused.
 -- Assumes nothing.
-use Prim.Native.Nat.{ℕ, zero, suc, _+_, _*_, _≤_, _<_}
-use mathlib.Core.List.{List, [], _++_}
-use mathlib.Core.Bool.{Bool, true, false, cond, not, _&&_, _||_}
-use mathlib.Core.Option.{Option, none, some}
+use Prim.Native.Nat.{ℕ, zero, suc, _*_, _≤_, _<_}
+use mathlib.Core.List.{List, _++_}
+use mathlib.Core.Bool.{Bool, true, cond, _&&_}
+use mathlib.Core.Option.{some}
 use mathlib.Core.Path.{_≡_, refl, sym, ap, subst, _∙_}
 use mathlib.Core.Logic.{_⊎_, inl, inr, ⊎-elim}
 use native.Mathlib.Nat.{suc-mul}
@@ -19,14 +19,14 @@ use Rattle.protocol.specs.declared.Geometry.{Geometry}
 use Rattle.protocol.specs.Below.{allBelow, eachBelow}
 use Rattle.protocol.specs.Layout.{between, goodGeometry, geometryOf, versionOf, goodHeader, cardLength, diskLength, blockSize, blockPlace, blockAt, diskPlace, diskBlock}
 use Rattle.protocol.specs.Entry.{entryAt, goodEntry}
-use Rattle.protocol.specs.Ring.{headOf, tailOf, windowOf, usedAt, settledBlock, isSettled, findEntry, cached, currentOf}
-use Rattle.protocol.specs.Check.{refuse, headerFits, cardFits, windowNumberFits, ringFits, goodEntryAt, entriesFit, alike, apart, apartBefore, entriesApart, fitRefusal, damageRefusal, cardRefusal}
+use Rattle.protocol.specs.Ring.{headOf, tailOf, windowOf, usedAt, isSettled, findEntry, cached, currentOf}
+use Rattle.protocol.specs.Check.{refuse, headerFits, cardFits, windowNumberFits, ringFits, goodEntryAt, entriesFit, alike, apart, apartBefore, entriesApart, fitRefusal, damageRefusal}
 use Rattle.protocol.proofs.Allowed.{bounded}
 use Rattle.protocol.proofs.Below.{either, absurd-bool, below-or-above, last-or-before, and-left, and-right, and-both, or-left, or-right, all-at}
 use Rattle.protocol.proofs.Checks.{Limits, limits, orElse-none, refuse-none}
-use Rattle.protocol.proofs.Holds.{header-version, header-by, version-known, used-number, used-current, number-used, idle-kind, live-kind, settled-undoable, geometry-is, fit-passes, damage-passes}
-use Rattle.protocol.proofs.Invariant.{Kind, idle, live, kindPrevious, kindHome}
-use Rattle.protocol.proofs.Loaded.{window-start, settled-ring, Cached, cached-entry, not-cached}
+use Rattle.protocol.proofs.Holds.{header-version, fit-header, header-by, version-known, used-number, number-used, idle-kind, live-kind, settled-undoable, geometry-is, fit-passes, damage-passes}
+use Rattle.protocol.proofs.Invariant.{idle, live, kindPrevious, kindHome}
+use Rattle.protocol.proofs.Loaded.{window-start, settled-ring, cached-entry, not-cached}
 use Rattle.protocol.proofs.Planned.{current-used}
 use Rattle.protocol.proofs.Region.{block, in-card, place-block, block-ends}
 use Rattle.protocol.proofs.Shape.{kindAt, Shape, Inv}
@@ -92,6 +92,15 @@ module _ (g : Geometry) (c : List ℕ) (distinct : entriesApart g c ≡ true) wh
 
 -- ---- what a card has that passes
 
+-- the geometry, the lengths, Head and Tail, and the entries, of any version: what recovery's list is worked out from
+pub record Fit (g : Geometry) (c : List ℕ) : Type 0 where
+  pub own : geometryOf c ≡ g
+  pub good : goodGeometry g ≡ true
+  pub sized : length c ≡ cardLength g
+  pub head : headOf c < g .slots
+  pub tail : tailOf c < g .slots
+  pub fits : entriesFit g c ≡ true
+
 pub record Intact (g : Geometry) (c : List ℕ) : Type 0 where
   pub own : geometryOf c ≡ g
   pub header : goodHeader 1 2 c ≡ true
@@ -102,30 +111,47 @@ pub record Intact (g : Geometry) (c : List ℕ) : Type 0 where
   pub fits : entriesFit g c ≡ true
   pub distinct : entriesApart g c ≡ true
 
-pub intact : (low high : ℕ) (c : List ℕ) → 1 ≤ low → high ≤ 2 → fitRefusal low high c ≡ 0 → damageRefusal (geometryOf c) c ≡ 0 → Intact (geometryOf c) c
-unfolding fitRefusal headerFits cardFits damageRefusal ringFits goodHeader between
-intact low high c lo hi fit damage =
+pub intact-fit : {g : Geometry} {c : List ℕ} → Intact g c → Fit g c
+intact-fit w = record { own = w .own; good = w .good; sized = w .sized; head = w .head; tail = w .tail; fits = w .fits }
+
+pub fit-of : (low high : ℕ) (c : List ℕ) → fitRefusal low high c ≡ 0 → damageRefusal (geometryOf c) c ≡ 0 → Fit (geometryOf c) c
+unfolding fitRefusal cardFits damageRefusal ringFits goodHeader
+fit-of low high c fit damage =
     let g = geometryOf c in
-    let (one, two) = orElse-none (refuse 1 (headerFits low high c)) _ fit in
-    let header = and-right (not (ltb (length c) 128)) (goodHeader low high c) (refuse-none 1 (headerFits low high c) (omega arith) one) in
-    let version = header-version c low high header in
-    let above : low ≤ versionOf c = leb-true _ _ (and-left (leb low (versionOf c)) _ version) in
-    let below : versionOf c ≤ high = leb-true _ _ (and-right (leb low (versionOf c)) _ version) in
+    let header = fit-header c low high fit in
     let (four, more) = orElse-none (refuse 4 (ringFits g c)) _ damage in
-    let (five, six) = orElse-none (refuse 5 (entriesFit g c)) _ more in
     let ring = refuse-none 4 (ringFits g c) (omega arith) four in
     let ring₂ = and-right (ltb (headOf c) (g .slots)) (ltb (tailOf c) (g .slots) && allBelow (windowNumberFits g c) (windowOf g c)) ring in
     record {
       own = refl;
-      header = header-by c low high 1 2 header ∙ and-both (le-leb 1 (versionOf c) (omega arith)) (le-leb (versionOf c) 2 (omega arith));
       good =
           and-left (goodGeometry g) _
           (and-right (between low high (versionOf c)) _ (and-right (eqb (numberAt c 0 4) 64) _ header));
-      sized = eqb-true _ _ (refuse-none 2 (cardFits g c) (omega arith) two);
+      sized = eqb-true _ _ (refuse-none 2 (cardFits g c) (omega arith) (orElse-none (refuse 1 (headerFits low high c)) _ fit .1));
       head = ltb-true _ _ (and-left (ltb (headOf c) (g .slots)) _ ring);
       tail = ltb-true _ _ (and-left (ltb (tailOf c) (g .slots)) _ ring₂);
-      fits = refuse-none 5 (entriesFit g c) (omega arith) five;
-      distinct = refuse-none 6 (entriesApart g c) (omega arith) six;
+      fits = refuse-none 5 (entriesFit g c) (omega arith) (orElse-none (refuse 5 (entriesFit g c)) _ more .0);
+    }
+
+pub intact : (low high : ℕ) (c : List ℕ) → 1 ≤ low → high ≤ 2 → fitRefusal low high c ≡ 0 → damageRefusal (geometryOf c) c ≡ 0 → Intact (geometryOf c) c
+unfolding damageRefusal between
+intact low high c lo hi fit damage =
+    let g = geometryOf c in
+    let f = fit-of low high c fit damage in
+    let header = fit-header c low high fit in
+    let version = header-version c low high header in
+    let above : low ≤ versionOf c = leb-true _ _ (and-left (leb low (versionOf c)) _ version) in
+    let below : versionOf c ≤ high = leb-true _ _ (and-right (leb low (versionOf c)) _ version) in
+    let more = orElse-none (refuse 4 (ringFits g c)) _ damage .1 in
+    record {
+      own = refl;
+      header = header-by c low high 1 2 header ∙ and-both (le-leb 1 (versionOf c) (omega arith)) (le-leb (versionOf c) 2 (omega arith));
+      good = f .good;
+      sized = f .sized;
+      head = f .head;
+      tail = f .tail;
+      fits = f .fits;
+      distinct = refuse-none 6 (entriesApart g c) (omega arith) (orElse-none (refuse 5 (entriesFit g c)) _ more .1);
     }
 
 -- a lawful card is one

@@ -15,10 +15,10 @@ use Rattle.protocol.specs.declared.Entry.{Entry}
 use Rattle.protocol.specs.declared.Geometry.{Geometry}
 use Rattle.protocol.specs.declared.Map.{Map}
 use Rattle.protocol.specs.Below.{anyBelow, eachBelow}
-use Rattle.protocol.specs.Layout.{geometryOf, versionOf, blockAt, diskBlock, entryPlace}
-use Rattle.protocol.specs.Entry.{FRESH, entryOf, unused, entryBytes, entryIn, entryAt, inUse, isModified, hasLogRole, goodEntry, switched, undone}
+use Rattle.protocol.specs.Layout.{between, geometryOf, versionOf, blockAt, diskBlock, entryPlace}
+use Rattle.protocol.specs.Entry.{FRESH, entryOf, unused, entryBytes, entryAt, inUse, isModified, hasLogRole, switched, undone}
 use Rattle.protocol.specs.Ring.{headOf, tailOf, inWindow, usedAt, undoableAt, isSettled, findEntry, cached, currentOf}
-use Rattle.protocol.specs.Check.{refuse, _orElse_, goodEntryAt, entriesFit, fitRefusal, diskRefusal, damageRefusal, cardRefusal, choiceRefusal}
+use Rattle.protocol.specs.Check.{refuse, fitRefusal, diskRefusal, damageRefusal, cardRefusal, choiceRefusal}
 use Rattle.protocol.specs.Store.{card, storedOn, madeOn, flat, single, words, sectors, entryStore, tailStore}
 use Rattle.protocol.specs.Search.{currentIs, previousIs, freeBlocks, unusedEntries}
 use Rattle.protocol.specs.Map.{mapBy, isMarked, currentMarked, mapOf, mapRefusal, makeRefusal}
@@ -26,22 +26,23 @@ use Rattle.protocol.specs.Commit.{newBlock, entryFound, oldBlock, logEnt
 use Rattle.protocol.specs.Recency.{tableRefusal}
 use Rattle.protocol.specs.Load.{pairRefusal, blockRefusal, cleanEntry, loadRuns, loadRefusal, writeBack, evictRuns, evictRefusal}
 use Rattle.protocol.specs.Recover.{sameBytes, ifChanging, undoRuns, recoverRuns, recoverRefusal}
-use Rattle.protocol.proofs.Allowed.{UsedEntry, clean, used-good, used-entry, unused-good, unused-used, unused-role, clean-used, clean-role, not-used-blank, back-used}
-use Rattle.protocol.proofs.Below.{either, absurd-bool, last-or-before, and-left, and-right, and-both, and-true, or-left, or-right, or-none, or-false, all-at, any-found, any-witness}
+use Rattle.protocol.proofs.Allowed.{clean, used-good, unused-good, unused-used, unused-role, clean-used, clean-role, not-used-blank, back-used}
+use Rattle.protocol.proofs.Below.{either, absurd-bool, last-or-before, and-left, and-right, and-both, and-true, or-left, or-right, or-none, or-false, any-found, any-witness}
 use Rattle.protocol.proofs.Checks.{Limits, limits, orElse-none, refuse-none}
-use Rattle.protocol.proofs.Codec.{EntryFits, geometry-same, entry-of-part, entry-of-bytes, length-entry}
+use Rattle.protocol.proofs.Codec.{geometry-same}
 use Rattle.protocol.proofs.Blocks.{Entered, fresh, again, entered, e-below, q-free}
 use Rattle.protocol.proofs.Committed.{Entries, kept-used-of, commit-entries, commit-done, puts}
 use Rattle.protocol.proofs.Holds.{used-current, geometry-is}
 use Rattle.protocol.proofs.Invariant.{kindCurrent}
-use Rattle.protocol.proofs.Lawful.{Intact, intact, lawful}
+use Rattle.protocol.proofs.Lawful.{Fit, Intact, intact-fit, intact, lawful}
 use Rattle.protocol.proofs.Loaded.{settled-entry, settled-block, cached-entry}
 use Rattle.protocol.proofs.Made.{entry-changed, entry-stored, tail-changed, tail-stored, words-changed-all, sectors-elsewhere}
 use Rattle.protocol.proofs.Maps.{current-marked, marked-either, settled-marked, Moves, marked-is, marked-moves, map-moves}
+use Rattle.protocol.proofs.Onward.{good-at, cases, fits-undone, stands}
 use Rattle.protocol.proofs.Passed.{CommitPassed, commit-passed}
 use Rattle.protocol.proofs.Planned.{new-below, unused-below, unused-is, enough-unused}
-use Rattle.protocol.proofs.Recovered.{entry-fits, same-bytes, Undone, emptied, restored, undo-cases, undone-good, undone-role, tail-stands, settled-by}
-use Rattle.protocol.proofs.Region.{entry, block}
+use Rattle.protocol.proofs.Recovered.{entry-fits, same-bytes, Undone, emptied, restored, undone-role, tail-stands, settled-by}
+use Rattle.protocol.proofs.Region.{entry}
 use Rattle.protocol.proofs.Shape.{Changed, header-kept, head-kept, tail-kept, entry-kept, Inv}
 use Rattle.protocol.proofs.Stores.{made-append, made-runs}
 use Rattle.protocol.proofs.Words.{map-cong}
@@ -88,19 +89,32 @@ module _ {g : Geometry} {c : List ℕ} (c′ : List ℕ) (w : Intact g c) (i : �
 
 -- ---- what the checks have passed
 
-module _ (c : List ℕ) (fit : fitRefusal 2 2 c ≡ 0) where
-  pub card-intact : cardRefusal (geometryOf c) c ≡ 0 → Intact (geometryOf c) c × (isSettled (geometryOf c) c ≡ true)
-  unfolding cardRefusal
-  card-intact z =
+-- a card that passes 1, 2 and 4 to 7, and a disk that passes 3, of a library of either version
+module _ (w : ℕ) (known : between 1 2 w ≡ true) (c : List ℕ) where
+  pub whole-card : fitRefusal w w c ≡ 0 → cardRefusal (geometryOf c) c ≡ 0 → Intact (geometryOf c) c × (isSettled (geometryOf c) c ≡ true)
+  unfolding cardRefusal between
+  whole-card fit z =
       let (damage, seven) = orElse-none (damageRefusal (geometryOf c) c) _ z in
-      (intact 2 2 c (omega arith) (omega arith) fit damage, refuse-none 7 _ (omega arith) seven)
+      let low : 1 ≤ w = leb-true _ _ (and-left (leb 1 w) _ known) in
+      let high : w ≤ 2 = leb-true _ _ (and-right (leb 1 w) _ known) in
+      (intact w w c low high fit damage, refuse-none 7 _ (omega arith) seven)
 
--- a card and a disk that pass 1 to 7
+  pub whole-pair : (d : List ℕ) → pairRefusal w c d ≡ 0 → Intact (geometryOf c) c × (isSettled (geometryOf c) c ≡ true)
+  unfolding pairRefusal
+  whole-pair d z =
+      let (fit, rest) = orElse-none (fitRefusal w w c) _ z in
+      whole-card fit (orElse-none (diskRefusal (geometryOf c) d) _ rest .1)
+
+-- and of today's
+today-known : between 1 2 2 ≡ true
+unfolding between
+today-known = refl
+
+pub card-intact : (c : List ℕ) → fitRefusal 2 2 c ≡ 0 → cardRefusal (geometryOf c) c ≡ 0 → Intact (geometryOf c) c × (isSettled (geometryOf c) c ≡ true)
+card-intact = whole-card 2 today-known
+
 pub pair-sound : (c d : List ℕ) → pairRefusal 2 c d ≡ 0 → Intact (geometryOf c) c × (isSettled (geometryOf c) c ≡ true)
-unfolding pairRefusal
-pair-sound c d z =
-    let (fit, rest) = orElse-none (fitRefusal 2 2 c) _ z in
-    card-intact c fit (orElse-none (diskRefusal (geometryOf c) d) _ rest .1)
+pair-sound = whole-pair 2 today-known
 
 -- ---- evict
 
@@ -328,23 +342,12 @@ module _ {g : Geometry} {c : List ℕ} (w : Intact g c) where
     done : (j : ℕ) → j < i → j < g .blocks → entryAt g c′ j ≡ recovered g c j
     ahead : (j : ℕ) → i ≤ j → j < g .blocks → entryAt g c′ j ≡ entryAt g c j
 
-  good-at : (i : ℕ) → i < g .blocks → goodEntry (versionOf c) (g .blocks) (g .disk) (entryAt g c i) ≡ true
-  unfolding entriesFit goodEntryAt
-  good-at i l = all-at _ (g .blocks) i (w .fits) l
+  fit : Fit g c
+  fit = intact-fit w
 
   undoable-used : (i : ℕ) → undoableAt g c i ≡ true → usedAt g c i ≡ true
   unfolding undoableAt
   undoable-used i u = and-left (usedAt g c i) _ u
-
-  use-of : (i : ℕ) → i < g .blocks → undoableAt g c i ≡ true → UsedEntry (versionOf c) (g .blocks) (g .disk) (entryAt g c i)
-  unfolding usedAt
-  use-of i l u = used-entry (versionOf c) (g .blocks) (g .disk) (entryAt g c i) (good-at i l) (undoable-used i u)
-
-  cases : (i : ℕ) → i < g .blocks → undoableAt g c i ≡ true → Undone (versionOf c) (g .blocks) (g .disk) (entryAt g c i)
-  cases i l u = undo-cases (versionOf c) (g .blocks) (g .disk) (entryAt g c i) (use-of i l u)
-
-  fits-undone : (i : ℕ) → i < g .blocks → undoableAt g c i ≡ true → EntryFits (undone (versionOf c) (entryAt g c i))
-  fits-undone i l u = entry-fits (versionOf c) g (w .good) _ (undone-good (entryAt g c i) (use-of i l u) (cases i l u))
 
   -- nothing is stored where the entry stays
   passes : (i : ℕ) (c′ : List ℕ) → Undoing i c′ → (i < g .blocks → entryAt g c i ≡ recovered g c i) → Undoing (suc i) c′
@@ -368,7 +371,7 @@ module _ {g : Geometry} {c : List ℕ} (w : Intact g c) where
   stores i c′ l u x =
       let e = undone (versionOf c) (entryAt g c i) in
       let ch = entry-changed g c′ i e l in
-      let now = entry-stored g c′ i e l (x .sized ∙ w .sized) (fits-undone i l u) in
+      let now = entry-stored g c′ i e l (x .sized ∙ w .sized) (fits-undone fit i l u) in
       record {
         sized = ch .sized ∙ x .sized;
         header = header-kept ch (λ p q. omega arith) ∙ x .header;
@@ -382,17 +385,6 @@ module _ {g : Geometry} {c : List ℕ} (w : Intact g c) where
         ahead = λ j h k. entry-kept ch j k (λ p q. omega arith) ∙ x .ahead j (omega arith) k;
       }
 
-  -- an entry whose bytes are those of the undone one is it
-  stands : (i : ℕ) → i < g .blocks → undoableAt g c i ≡ true
-      → part c (entryPlace g i) (length (entryBytes (undone (versionOf c) (entryAt g c i)))) ≡ entryBytes (undone (versionOf c) (entryAt g c i))
-      → entryAt g c i ≡ undone (versionOf c) (entryAt g c i)
-  unfolding entryAt
-  stands i l u e =
-      entry-of-part c (entryPlace g i)
-      ∙ ap (λ (r : List ℕ). entryIn r 0)
-      (ap (part c (entryPlace g i)) (sym (length-entry (undone (versionOf c) (entryAt g c i)))) ∙ e)
-      ∙ entry-of-bytes _ (fits-undone i l u)
-
   turn : (i : ℕ) (c′ : List ℕ) → i < g .blocks → Undoing i c′ → Undoing (suc i) (madeOn card (flat (undoRuns g c i)) c′)
   unfolding undoRuns ifChanging flat single madeOn recovered entryStore
   turn i c′ l x = go (undoableAt g c i) refl (sameBytes (part c (entryPlace g i) (length (entryBytes (undone (versionOf c) (entryAt g c i))))) (entryBytes (undone (versionOf c) (entryAt g c i)))) refl
@@ -401,7 +393,7 @@ module _ {g : Geometry} {c : List ℕ} (w : Intact g c) where
           → Undoing (suc i) (madeOn card (flat (cond u (cond t [] (single (entryStore g i (undone (versionOf c) (entryAt g c i))))) [])) c′)
       go false u t q = passes i c′ x (λ l. sym (ap (λ (b : Bool). cond b (undone (versionOf c) (entryAt g c i)) (entryAt g c i)) u))
       go true u true q =
-          passes i c′ x (λ l. stands i l u (same-bytes _ _ q) ∙ sym (ap (λ (b : Bool). cond b (undone (versionOf c) (entryAt g c i)) (entryAt g c i)) u))
+          passes i c′ x (λ l. stands fit i l u (same-bytes _ _ q) ∙ sym (ap (λ (b : Bool). cond b (undone (versionOf c) (entryAt g c i)) (entryAt g c i)) u))
       go true u false q = stores i c′ l u x
 
   turns : (i : ℕ) → i ≤ g .blocks → Undoing i (madeOn card (flat (eachBelow (undoRuns g c) i)) c)
@@ -460,11 +452,11 @@ module _ {g : Geometry} {c : List ℕ} (w : Intact g c) where
       none u =
           ⊎-elim
           (λ n. or-false (hasLogRole e) (inWindow g c (e .number)) (sym (ap (λ (b : Bool). b && (hasLogRole e || inWindow g c (e .number))) n) ∙ u) .0)
-          (λ n. ap hasLogRole (not-used-blank (versionOf c) (g .blocks) (g .disk) e (good-at i l) n) ∙ unused-role)
+          (λ n. ap hasLogRole (not-used-blank (versionOf c) (g .blocks) (g .disk) e (good-at fit i l) n) ∙ unused-role)
           (either (inUse e))
 
       go : (undoableAt g c i ≡ true) ⊎ (undoableAt g c i ≡ false) → hasLogRole (cond (undoableAt g c i) (undone (versionOf c) e) e) ≡ false
-      go (inl u) = ap (λ (b : Bool). hasLogRole (cond b (undone (versionOf c) e) e)) u ∙ undone-role e (cases i l u)
+      go (inl u) = ap (λ (b : Bool). hasLogRole (cond b (undone (versionOf c) e) e)) u ∙ undone-role e (cases fit i l u)
       go (inr u) = ap (λ (b : Bool). hasLogRole (cond b (undone (versionOf c) e) e)) u ∙ none u
 
   pub recovered-settled : isSettled g (madeOn card (flat (recoverRuns g c)) c) ≡ true
@@ -474,7 +466,7 @@ module _ {g : Geometry} {c : List ℕ} (w : Intact g c) where
   undone-has : (i : ℕ) (e : Entry) → i < g .blocks → undoableAt g c i ≡ true → e ≡ undone (versionOf c) (entryAt g c i)
       → (inUse e ≡ true → e .current ≡ entryAt g c i .previous)
       × ((x : ℕ) → x < 128 → entryAt g c i .previous ≡ x → (inUse e ≡ true) × (e .current ≡ x))
-  undone-has i e l u q = go (cases i l u)
+  undone-has i e l u q = go (cases fit i l u)
     where
       go : Undone (versionOf c) (g .blocks) (g .disk) (entryAt g c i)
           → (inUse e ≡ true → e .current ≡ entryAt g c i .previous)

@@ -1,9 +1,11 @@
 -- Laws of the definitions, and what is proved of them.
+pub mod AfterCut
 pub mod Allowed
 pub mod Below
 pub mod Checks
 pub mod Codec
 pub mod Blocks
+pub mod Bounded
 pub mod Committed
 pub mod Computing
 pub mod CutRule
@@ -22,6 +24,7 @@ pub mod Loaded
 pub mod Made
 pub mod Maps
 pub mod OneByOne
+pub mod Onward
 pub mod Passed
 pub mod PendingMap
 pub mod Planned
@@ -38,6 +41,7 @@ pub mod Stores
 pub mod Table
 pub mod Tables
 pub mod Told
+pub mod Undoables
 pub mod Undone
 pub mod Upgraded
 pub mod Words

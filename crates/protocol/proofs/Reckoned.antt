@@ -153,7 +153,7 @@ module _ {g : Geometry} {r : Reckoned} {c d : List ℕ} (x : Reck g r c d) where
     finish-settles = finish-done (x .inv) both-match (x .told) .1
 
   module _ (p : Pending) (b : ℕ) (bs : List ℕ) (q : PutPassed g c p b bs) where
-    one : PutsPassed g c (b ∷ []) bs
+    pub one : PutsPassed g c (b ∷ []) bs
     unfolding dataFits numbersFit numberFits numbersApart newNumber numberOf allBelow
     one =
         record {

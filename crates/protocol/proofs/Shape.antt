@@ -4,7 +4,7 @@ use Prim.Native.Nat.{ℕ, _+_, _-_, _≤_, _<_}
 use mathlib.Core.List.{List}
 use mathlib.Core.Bool.{Bool, true, false, cond, _||_}
 use mathlib.Core.Option.{Option, none, some}
-use mathlib.Core.Path.{_≡_, refl, sym, ap, _∙_}
+use mathlib.Core.Path.{_≡_, refl, sym, ap, subst, _∙_}
 use mathlib.Core.Logic.{_⊎_, inl, inr}
 use native.Mathlib.Omega.{arith}
 use lib.ListN.{length}
@@ -72,6 +72,15 @@ module _ {g : Geometry} {r : Region} {c c′ : List ℕ} (x : Changed g r c c′
 
   pub entry-kept : (i : ℕ) → i < g .blocks → Differ r (entry i) → entryAt g c′ i ≡ entryAt g c i
   entry-kept i l d = entry-cell g c′ i ∙ ap (λ (z : List ℕ). entryIn z 0) (x .others (entry i) l d) ∙ sym (entry-cell g c i)
+
+  -- and byte for byte
+  pub tail-bytes : Differ r tail → part c′ 72 8 ≡ part c 72 8
+  unfolding cell place
+  tail-bytes d = x .others tail (omega arith) d
+
+  pub entry-bytes : (i : ℕ) → i < g .blocks → Differ r (entry i) → part c′ (entryPlace g i) 16 ≡ part c (entryPlace g i) 16
+  unfolding cell
+  entry-bytes i l d = subst (λ (z : ℕ). part c′ z 16 ≡ part c z 16) (place-entry g i) (x .others (entry i) l d)
 
   pub block-kept : (p : ℕ) → p < g .blocks → Differ r (block p) → blockAt g c′ p ≡ blockAt g c p
   block-kept p l d = block-cell g c′ p ∙ x .others (block p) l d ∙ sym (block-cell g c p)

@@ -62,17 +62,24 @@ pub calm-block : (g : Geometry) (i : ℕ) → Calm g (block i)
 calm-block g i =
     record { calm-header = λ p q. omega arith; calm-head = λ p q. omega arith; calm-tail = λ p q. omega arith; calm-slot = λ j p q. omega arith }
 
-module _ {g : Geometry} {c c′ d : List ℕ} (s : Shape g c d) where
-  -- a change outside the ring leaves the window
-  pub number-calm : {r : Region} → Changed g r c c′ → Calm g r → (j : ℕ) → j < windowOf g c → windowNumber g c′ j ≡ windowNumber g c j
+-- a change outside the ring leaves the window
+module _ {g : Geometry} {c c′ : List ℕ} {r : Region} (tb : tailOf c < g .slots) (hb : headOf c < g .slots) (x : Changed g r c c′) (k : Calm g r) where
+  pub number-outside : (j : ℕ) → j < windowOf g c → windowNumber g c′ j ≡ windowNumber g c j
   unfolding windowOf
-  number-calm {r} x k j l =
-      let short : windowLength (g .slots) (tailOf c) (headOf c) < g .slots = window-short (g .slots) (tailOf c) (headOf c) (s .tailBelow) (s .headBelow) in
+  number-outside j l =
+      let short : windowLength (g .slots) (tailOf c) (headOf c) < g .slots = window-short (g .slots) (tailOf c) (headOf c) tb hb in
       number-kept g c c′ (head-kept x (k .calm-head)) (tail-kept x (k .calm-tail)) j
-      (slot-kept x (around (g .slots) (tailOf c) j) (around-below (g .slots) (tailOf c) j (s .tailBelow) (omega arith)) (k .calm-slot _))
+      (slot-kept x (around (g .slots) (tailOf c) j) (around-below (g .slots) (tailOf c) j tb (omega arith)) (k .calm-slot _))
+
+  pub window-outside : (b : ℕ) → inWindow g c′ b ≡ inWindow g c b
+  window-outside = in-window-kept g c c′ (head-kept x (k .calm-head)) (tail-kept x (k .calm-tail)) number-outside
+
+module _ {g : Geometry} {c c′ d : List ℕ} (s : Shape g c d) where
+  pub number-calm : {r : Region} → Changed g r c c′ → Calm g r → (j : ℕ) → j < windowOf g c → windowNumber g c′ j ≡ windowNumber g c j
+  number-calm = number-outside (s .tailBelow) (s .headBelow)
 
   pub window-calm : {r : Region} → Changed g r c c′ → Calm g r → (b : ℕ) → inWindow g c′ b ≡ inWindow g c b
-  window-calm {r} x k = in-window-kept g c c′ (head-kept x (k .calm-head)) (tail-kept x (k .calm-tail)) (number-calm x k)
+  window-calm = window-outside (s .tailBelow) (s .headBelow)
 
   -- the ring's fields and the window's numbers stay
   shape-frame : part c′ 0 64 ≡ part c 0 64 → length c′ ≡ length c → headOf c′ ≡ headOf c → tailOf c′ ≡ tailOf c

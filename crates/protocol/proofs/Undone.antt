@@ -114,7 +114,7 @@ module _ {g : Geometry} {c₀ c : List ℕ} (x : Backed g c₀ c) (a v : ℕ) (s
   settling n e = ap (isSettled g) (done-passed a n (recoverWork v c s) e .1 card c) ∙ along .end .1
 
 -- a request to recover has recovery's work
-recovery-work : (r : Request) (m : Media) → r .call ≡ recover → workOf (r .version) (r .call) (r .map) m ≡ recoverWork (r .version) (m .onCard) (r .map)
+pub recovery-work : (r : Request) (m : Media) → r .call ≡ recover → workOf (r .version) (r .call) (r .map) m ≡ recoverWork (r .version) (m .onCard) (r .map)
 unfolding workOf
 recovery-work r m q = ap (λ (y : Call). workOf (r .version) y (r .map) m) q
 
@@ -143,10 +143,10 @@ module _ {g : Geometry} {c : List ℕ} where
 -- ---- a cut commit
 
 -- a call that is cut is not refused, has stores left, and has made the others
-abbrev CutShort : ℕ → Work → Type 0
+abbrev pub CutShort : ℕ → Work → Type 0
 CutShort a w = (w .refusal ≡ 0) × (a < length (flat (w .runs))) × ((xs : List ℕ) → afterOn card a w xs ≡ madeOn card (made a (w .choice) (w .runs)) xs)
 
-cut-short : (a : ℕ) (w : Work) → answerOf a w ≡ Cut → CutShort a w
+pub cut-short : (a : ℕ) (w : Work) → answerOf a w ≡ Cut → CutShort a w
 cut-short a w e = go (answered a w)
   where
     go : Answered a w → CutShort a w
@@ -188,7 +188,7 @@ commit-undone m s ns bs ch a rs r n e q d f =
 -- ---- a cut room-making commit
 
 -- an eviction that is cut leaves the card: its sectors are on the disk, and its entry, the last, is not stored
-evict-cut : (g : Geometry) (fit : Limits g) (c ch : List ℕ) (b a : ℕ) (xs : List ℕ) → a < length (flat (evictRuns g c b))
+pub evict-cut : (g : Geometry) (fit : Limits g) (c ch : List ℕ) (b a : ℕ) (xs : List ℕ) → a < length (flat (evictRuns g c b))
     → madeOn card (made a ch (evictRuns g c b)) xs ≡ xs
 unfolding evictRuns writeBack made madeOn
 evict-cut g fit c ch b a xs l =

@@ -23,4 +23,5 @@ pub mod History
 pub mod InRow
 pub mod CutRule
 pub mod Undone
+pub mod Bounded
 pub mod Example
