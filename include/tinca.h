@@ -295,8 +295,9 @@ tinca_answer tinca_evict(uint8_t *card, size_t card_len, uint8_t *disk, size_t d
 /* Undoes what a cut commit or a pending save left, of a card of version 1 or 2; on a settled card it makes no store. On a version 2
  * card a block that was clean before the save is clean again; on a version 1 card every block that is undone comes back modified. To
  * be called at start-up, with the map just made, before all else: a station cannot know whether its power failed in a save. After
- * a cut one the next, with the map made again, goes on where it stopped. Done abandons a pending save. Done, cut, or refused with 1,
- * 2, 4 to 6 or 15. */
+ * a cut one the next, with the map made again, goes on where it stopped: its list is what was left. After a cut commit of n blocks, or
+ * n puts that were begun, all recoveries together make n + 1 stores at most, so with an allowance of 1 at least each they end in n + 1
+ * calls; after a cut load or evict they make none. Done abandons a pending save. Done, cut, or refused with 1, 2, 4 to 6 or 15. */
 tinca_answer tinca_recover(uint8_t *card, size_t card_len, uint64_t *map, size_t map_words, uint64_t allowance);
 
 /* Opens a save that is put block by block, on a settled card: its record has the position of Tail, and count 0. It makes no store and

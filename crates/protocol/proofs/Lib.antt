@@ -10,7 +10,6 @@ pub mod Committed
 pub mod Computing
 pub mod CutRule
 pub mod Enough
-pub mod Example
 pub mod Fence
 pub mod Finished
 pub mod Growing

@@ -4,14 +4,16 @@ use Prim.Native.Nat.{ℕ, _+_}
 use mathlib.Core.List.{List, [], _∷_, _++_}
 use mathlib.Core.Bool.{true, false}
 use mathlib.Core.Path.{_≡_}
-use lib.ListN.{getD, replicate}
+use lib.ListN.{length, getD, replicate}
 use Rattle.protocol.specs.declared.Answer.the-variants.{Done, Cut, Refused}
 use Rattle.protocol.specs.declared.Geometry.{Geometry}
 use Rattle.protocol.specs.declared.Map.{Map}
 use Rattle.protocol.specs.Ring.{isSettled, cached, contents}
+use Rattle.protocol.specs.Store.{flat}
 use Rattle.protocol.specs.Table.{geometry}
 use Rattle.protocol.specs.Recency.{ascending, allToFront}
 use Rattle.protocol.specs.History.{Call, commit, makeRoom, load, evict, recover, upgrade, Request, Media, fresh, run, answers}
+use Rattle.protocol.specs.Bounded.{toRecover}
 
 -- four data blocks, four disk blocks of 512 bytes
 abbrev pub tiny : Geometry
@@ -109,3 +111,8 @@ pub record Worked : Type 0 where
 pub record Renewed : Type 0 where
   pub tidy-said : answers tidy start ≡ Done 65 ∷ Cut ∷ Done 1 ∷ Done 1 ∷ []
   pub older-said : answers older (fresh 1 tiny (replicate 2304 0) (replicate 2048 1)) ≡ Done 65 ∷ Cut ∷ Refused 1 ∷ Done 1 ∷ Cut ∷ Done 1 ∷ Done 2 ∷ []
+
+-- "at most n + 1 stores": a commit of two blocks cut behind the second block's Head leaves as many, cut behind the first one's entry only one
+pub record Reached : Type 0 where
+  pub most : length (flat (toRecover (run (ask (commit (2 ∷ 3 ∷ []) (replicate 1024 7) quiet) 0 134 ∷ []) start .onCard))) ≡ 3
+  pub less : length (flat (toRecover (run (ask (commit (2 ∷ 3 ∷ []) (replicate 1024 7) quiet) 0 65 ∷ []) start .onCard))) ≡ 1
