@@ -201,6 +201,7 @@ fn main() {
         Ok(total) => {
             let seconds = start.elapsed().as_secs_f64();
             println!("all: {}", total.line());
+            println!("recoveries: {}", total.recoveries.line());
             println!("library and model agree in {} calls, {seconds:.1} s", total.calls());
             if total.calls() < 1_000_000 {
                 println!("fewer than 1,000,000 calls");
