@@ -14,6 +14,7 @@ use crate::pending::{
 use crate::random::{mix, Random};
 use crate::records::{Ring, WRONG_RECORDS};
 use crate::room::{cases, evicted, in_a_row, keeps_law, CASES};
+use crate::series::some_recoveries;
 use crate::tables::{WrongTable, ORDERS, WRONG_TABLES};
 use crate::versions::{odd_flag, odd_version, Owed, ODD_FLAGS, OVERS, VERSIONS};
 use crate::{Answer, Cached, Calls, FreeMap, Geometry, Opened, Place, State};
@@ -314,13 +315,14 @@ impl Tally {
     }
 
     /// Every answer that a call may give has occurred, and no other; each call that takes a map has refused every kind of wrong one
-    /// with 15, and preview every wrong output with 9; commits came out as they were foretold. Of choices, tables, records and versions
-    /// none is missing.
+    /// with 15, and preview every wrong output with 9; commits came out as they were foretold. Of choices, tables, records, versions and series
+    /// of recoveries none is missing.
     pub fn complete(&self) -> Result<(), String> {
         self.complete_choices()?;
         self.complete_tables()?;
         self.complete_records()?;
         self.complete_versions()?;
+        self.recoveries.at_least(1)?;
         for call in 0..CALLS.len() {
             let name = CALLS[call];
             if self.first[call] == 0 {
@@ -1492,6 +1494,20 @@ impl<'a> Pair<'a> {
         Ok(answer)
     }
 
+    /// A recovery with the map of before the last storing call. Where it is refused, the station goes on with its own.
+    pub fn recover_stale(&mut self, allowance: u64) -> Result<Answer, String> {
+        if self.out_of_step {
+            self.make_again()?;
+        }
+        let own = self.map[1].get().to_vec();
+        self.set_map(&self.stale.clone());
+        let answer = self.recover(allowance)?;
+        if let Answer::Refused(_) = answer {
+            self.set_map(&own);
+        }
+        Ok(answer)
+    }
+
     /// Every fourth time, on an unsettled card of a history: two recoveries of some allowances leave what one leaves.
     fn is_made_in_two(&mut self, found: Option<&Card>) -> Result<(), String> {
         let turn = self.turns[RECOVER];
@@ -2068,7 +2084,8 @@ pub fn some_call(pair: &mut Pair, random: &mut Random, geometry: Geometry, row: 
             let allowance = if random.once_in(3) { random.below(block as u64 / 512 + 2) } else { u64::MAX };
             pair.evict(some_number(random, geometry), choice, allowance)?;
         }
-        11 | 12 => {
+        11 => some_recoveries(pair, random, row)?,
+        12 => {
             let answer = pair.recover(if random.once_in(3) { random.below(5) } else { u64::MAX })?;
             row.recover(answer);
         }
@@ -2638,6 +2655,7 @@ mod tests {
     use crate::model::*;
     use crate::pending::{full_windows, odd_cards, pending_history, pending_script, wide_pending_script};
     use crate::room::{every_room, room_script};
+    use crate::series::history_of_series;
     use crate::versions::{across, every_upgrade};
 
     const SMALL: Geometry = Geometry { k: 9, slots: 8, data_blocks: 4, disk_blocks: 6 };
@@ -2721,6 +2739,7 @@ mod tests {
         tally.add(&full_windows(&model, &model, WIDEST).unwrap());
         (0..8).for_each(|seed| tally.add(&pending_history(&model, &model, SMALL, 200, seed, Reckoning::Right).unwrap()));
         tally.add(&odd_cards(&model, &model, WIDE, 3000, 9).unwrap());
+        [OLD, NOW].iter().for_each(|version| tally.add(&history_of_series(&model, &model, SMALL, *version, 70, 10).unwrap()));
         tally.complete().unwrap();
         incomplete_is_reported(&tally);
         incomplete_tables_are_reported(&tally);
@@ -2765,6 +2784,7 @@ mod tests {
         reported(&|tally| tally.odd_data = 0);
         reported(&|tally| tally.foretold[0] = 0);
         reported(&|tally| tally.foretold[1] = 0);
+        reported(&|tally| tally.recoveries.cut = 0);
     }
 
     /// As above, of the tables and of what the commits that make room come upon.
@@ -2820,7 +2840,7 @@ mod tests {
     /// The first part of the comparison that sees it: the long ones come last.
     fn is_reported(slip: Slip) {
         let (right, wrong) = (Model::default(), Model::wrong(slip));
-        let parts: [&dyn Fn() -> Result<Tally, String>; 14] = [
+        let parts: [&dyn Fn() -> Result<Tally, String>; 15] = [
             &|| across(&right, &wrong, SMALL, 100, 8),
             &|| random_history(&right, &wrong, SMALL, 4000, 5),
             &|| pending_history(&right, &wrong, SMALL, 300, 9, Reckoning::Right),
@@ -2835,6 +2855,7 @@ mod tests {
             &|| every_cut(&right, &wrong, SMALL, &pending_script(), 6, 16),
             &|| every_cut(&right, &wrong, WIDE, &wide_pending_script(), 8, 32),
             &|| every_upgrade(&right, &wrong, SMALL, &script(), 6, 16),
+            &|| history_of_series(&right, &wrong, SMALL, NOW, 140, 11),
         ];
         let difference = parts.iter().find_map(|part| part().err());
         println!("{slip:?}: {difference:?}");

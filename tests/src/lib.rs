@@ -13,6 +13,7 @@ pub mod random;
 pub mod records;
 pub mod room;
 pub mod scratch;
+pub mod series;
 pub mod shown;
 pub mod stages;
 pub mod stores_log;
