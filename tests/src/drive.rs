@@ -1,8 +1,9 @@
 //! Two implementations side by side: each call is made on both, then the answers and every byte of card, disk, output, map and table are
 //! compared. Map, table and record are handed on as a station does, and the calls that take one are also tried with wrong ones; so are those
 //! that take a choice. A preview is held to the commits of the same numbers and data, a commit to the puts and the finish that it is made of,
-//! and a commit that makes room to evicts besides.
+//! a commit that makes room to evicts besides, and recoveries to their bound and to the one that two of them make up.
 
+use crate::bounded::{in_two, leaves_nothing, Bound, Recoveries, Storing};
 use crate::choices::{Pick, PICKS, WRONG_CHOICES};
 use crate::model::{
     ascending, commit_stores, cut_run, in_order, map_of, record_of, zeros, Card, Model, Run, MAP_BITS, NOW, OLD, TABLE, VERSION_AT,
@@ -13,6 +14,7 @@ use crate::pending::{
 use crate::random::{mix, Random};
 use crate::records::{Ring, WRONG_RECORDS};
 use crate::room::{cases, evicted, in_a_row, keeps_law, CASES};
+use crate::series::some_recoveries;
 use crate::tables::{WrongTable, ORDERS, WRONG_TABLES};
 use crate::versions::{odd_flag, odd_version, Owed, ODD_FLAGS, OVERS, VERSIONS};
 use crate::{Answer, Cached, Calls, FreeMap, Geometry, Opened, Place, State};
@@ -238,6 +240,8 @@ pub struct Tally {
     pub odd_data: u64,
     /// The commits that were foretold and made: in full, or refused as foretold.
     pub foretold: [u64; 2],
+    /// What recoveries in a row came upon.
+    pub recoveries: Recoveries,
 }
 
 impl Tally {
@@ -274,15 +278,16 @@ impl Tally {
         self.in_a_row += other.in_a_row;
         more(&mut self.foretold, &other.foretold);
         self.odd_data += other.odd_data;
+        self.recoveries.add(&other.recoveries);
     }
 
-    /// One line: calls, dones, those that made room, puts and finishes, upgrades and recoveries of old cards, cuts and those that a choice
-    /// decides, previews, where blocks were found, conditions, entries told, maps made, refusals by number.
+    /// One line: calls, dones, those that made room, puts and finishes, upgrades and recoveries of old cards, series of recoveries, cuts and those
+    /// that a choice decides, previews, where blocks were found, conditions, entries told, maps made, refusals by number.
     pub fn line(&self) -> String {
         let stored = [FORMAT, COMMIT, ROOM, LOAD, EVICT, RECOVER, PUT, FINISH, UPGRADE];
         let mut line = format!(
-            "{} calls: {} done, {} of them with evictions, {} puts, {} finishes, {} upgrades, {} recoveries of old cards, {} cut ({} by a \
-             choice), {} previewed, {} on card, {} on disk, {} settled, {} unsettled, {} in use, {} unused, {} maps; refused",
+            "{} calls: {} done, {} of them with evictions, {} puts, {} finishes, {} upgrades, {} recoveries of old cards, {} series of \
+             recoveries, {} cut ({} by a choice), {} previewed, {} on card, {} on disk, {} settled, {} unsettled, {} in use, {} unused, {} maps; refused",
             self.calls(),
             stored.iter().map(|call| self.first[*call]).sum::<u64>(),
             self.cases[0],
@@ -290,6 +295,7 @@ impl Tally {
             self.first[FINISH],
             self.first[UPGRADE],
             self.old[RECOVER][0],
+            self.recoveries.all_series(),
             stored.iter().map(|call| self.second[*call]).sum::<u64>(),
             self.picks.iter().flatten().sum::<u64>(),
             self.first[PREVIEW],
@@ -309,13 +315,14 @@ impl Tally {
     }
 
     /// Every answer that a call may give has occurred, and no other; each call that takes a map has refused every kind of wrong one
-    /// with 15, and preview every wrong output with 9; commits came out as they were foretold. Of choices, tables, records and versions
-    /// none is missing.
+    /// with 15, and preview every wrong output with 9; commits came out as they were foretold. Of choices, tables, records, versions and series
+    /// of recoveries none is missing.
     pub fn complete(&self) -> Result<(), String> {
         self.complete_choices()?;
         self.complete_tables()?;
         self.complete_records()?;
         self.complete_versions()?;
+        self.recoveries.at_least(1)?;
         for call in 0..CALLS.len() {
             let name = CALLS[call];
             if self.first[call] == 0 {
@@ -459,6 +466,21 @@ fn odd_flags(version: u8) -> &'static [u8] {
     match version {
         OLD => &[0x81, 0x84, 0x85, 0x86, 0x87],
         _ => &[0x81, 0x84, 0x85],
+    }
+}
+
+/// The place of a storing call in `CALLS`.
+fn call_of(storing: Storing) -> usize {
+    match storing {
+        Storing::Format => FORMAT,
+        Storing::Commit(_) => COMMIT,
+        Storing::Room(_) => ROOM,
+        Storing::Load => LOAD,
+        Storing::Evict => EVICT,
+        Storing::Put(_) => PUT,
+        Storing::Finish => FINISH,
+        Storing::Recover(_) => RECOVER,
+        Storing::Upgrade => UPGRADE,
     }
 }
 
@@ -628,23 +650,26 @@ pub struct Pair<'a> {
     version: u8,
     /// What a recovery owes, after a commit that was cut or in a pending save.
     owed: Option<Owed>,
+    /// How many stores recoveries of the card may make.
+    bound: Bound,
     pub tally: Tally,
 }
 
-/// Card and disk, and the table and the record of their station.
+/// Card and disk, the table and the record of their station, and the bound on recoveries of the card.
 #[derive(Clone, PartialEq, Eq)]
 pub struct Snapshot {
     pub card: Vec<u8>,
     pub disk: Vec<u8>,
     pub table: Vec<u8>,
     pub record: Vec<u64>,
+    pub bound: Bound,
 }
 
 impl Snapshot {
     /// With the record that the card gives, where it gives one.
     pub fn new(card: Vec<u8>, disk: Vec<u8>, table: Vec<u8>) -> Snapshot {
         let record = record_of(&card).unwrap_or([0; 2]).to_vec();
-        Snapshot { card, disk, table, record }
+        Snapshot { card, disk, table, record, bound: Bound::default() }
     }
 }
 
@@ -671,6 +696,7 @@ impl<'a> Pair<'a> {
             reads: 0,
             version: NOW,
             owed: None,
+            bound: Bound::default(),
             tally: Tally::default(),
         }
     }
@@ -728,7 +754,7 @@ impl<'a> Pair<'a> {
 
     pub fn snapshot(&self) -> Snapshot {
         let (card, disk) = (self.card().to_vec(), self.disk().to_vec());
-        Snapshot { card, disk, table: self.table().to_vec(), record: self.record().to_vec() }
+        Snapshot { card, disk, table: self.table().to_vec(), record: self.record().to_vec(), bound: self.bound }
     }
 
     pub fn set(&mut self, to: &Snapshot) {
@@ -740,6 +766,7 @@ impl<'a> Pair<'a> {
         self.set_record(&to.record);
         self.out_of_step = true;
         self.owed = None;
+        self.bound = to.bound;
     }
 
     pub fn set_card(&mut self, card: &[u8]) {
@@ -747,6 +774,7 @@ impl<'a> Pair<'a> {
         self.card[1].set(card);
         self.out_of_step = true;
         self.owed = None;
+        self.bound = Bound::default();
     }
 
     pub fn set_disk(&mut self, disk: &[u8]) {
@@ -812,7 +840,19 @@ impl<'a> Pair<'a> {
         let length = self.card[1].length;
         self.out_of_step = true;
         self.owed = None;
-        self.answered(FORMAT, a, b, || format!("format({k}, {slots}, {data_blocks}, {disk_blocks}, card of {length})"))
+        let what = || format!("format({k}, {slots}, {data_blocks}, {disk_blocks}, card of {length})");
+        let answer = self.answered(FORMAT, a, b, what)?;
+        self.feed(Storing::Format, answer, &what)?;
+        Ok(answer)
+    }
+
+    /// Feeds a storing call to the bound on recoveries.
+    fn feed(&mut self, storing: Storing, answer: Answer, what: &dyn Fn() -> String) -> Result<(), String> {
+        self.bound.feed(storing, answer).map_err(|excess| format!("{}: {excess}", what()))?;
+        if let Storing::Recover(_) = storing {
+            self.tally.recoveries.count(self.bound.series(), answer, self.is_old());
+        }
+        Ok(())
     }
 
     pub fn make_map(&mut self) -> Result<FreeMap, String> {
@@ -852,8 +892,9 @@ impl<'a> Pair<'a> {
         Ok(())
     }
 
-    /// A call with a wrong map, every third time with a wrong choice too, every third with a wrong table: refused, and nothing changed.
-    fn try_wrong(&mut self, call: usize, run: &Call, what: &dyn Fn() -> String) -> Result<(), String> {
+    /// A call with a wrong map, every third time with a wrong choice too, every third with a wrong table: refused, and nothing changed. Gives its
+    /// answer; none where the map of this turn is the right one.
+    fn try_wrong(&mut self, call: usize, run: &Call, what: &dyn Fn() -> String) -> Result<Option<Answer>, String> {
         let turn = self.turns[call];
         self.turns[call] += 1;
         let (wrong, map) = (Wrong::at(turn), self.map[1].get().to_vec());
@@ -864,7 +905,7 @@ impl<'a> Pair<'a> {
         };
         let tried = wrong.map(turn, right, &self.stale, data_blocks);
         if tried == right && card.is_some() {
-            return Ok(());
+            return Ok(None);
         }
         let (choice, choice_too) = (self.choice.get().to_vec(), turn % 3 == 2 && TAKE_A_CHOICE.contains(&call));
         if choice_too {
@@ -876,7 +917,8 @@ impl<'a> Pair<'a> {
             self.set_table(&WRONG_TABLES[turn % WRONG_TABLES.len()].table(turn, table));
         }
         self.set_map(&tried);
-        match self.both(call, run, &|| format!("{} with a wrong map {tried:X?}", what()))? {
+        let answer = self.both(call, run, &|| format!("{} with a wrong map {tried:X?}", what()))?;
+        match answer {
             Answer::Refused(15) => {
                 self.tally.wrongs[call][wrong as usize] += 1;
                 self.tally.beside[call][15] += u64::from(choice_too);
@@ -887,12 +929,12 @@ impl<'a> Pair<'a> {
             }
             // nothing that is asked after 15
             Answer::Refused(number) if self.place_of(call, number) < self.place_of(call, 15) => {}
-            answer => return Err(format!("{}: {answer:?} with a wrong map {tried:X?}", what())),
+            _ => return Err(format!("{}: {answer:?} with a wrong map {tried:X?}", what())),
         }
         self.set_map(&map);
         self.choice.set(&choice);
         table.iter().for_each(|table| self.set_table(table));
-        Ok(())
+        Ok(Some(answer))
     }
 
     /// A call with a wrong choice: refused, and nothing changed. Gives the refusal.
@@ -1044,7 +1086,8 @@ impl<'a> Pair<'a> {
     }
 
     /// A storing call that takes a choice: with a wrong one first, and with a wrong table where it takes one, then with these.
-    fn choosing(&mut self, call: usize, choice: &[u8], run: &Call, what: &dyn Fn() -> String) -> Result<Answer, String> {
+    fn choosing(&mut self, storing: Storing, choice: &[u8], run: &Call, what: &dyn Fn() -> String) -> Result<Answer, String> {
+        let call = call_of(storing);
         self.choice.set(choice);
         if self.out_of_step {
             self.make_again()?;
@@ -1053,7 +1096,7 @@ impl<'a> Pair<'a> {
         if TAKE_A_TABLE.contains(&call) {
             refusals.push((16, self.try_wrong_table(call, run, what)?));
         }
-        let answer = self.storing(call, run, what)?;
+        let answer = self.storing(storing, run, what)?;
         let refusal = if let Answer::Refused(number) = answer { Some(number) } else { None };
         for (asked, with_wrong) in refusals {
             self.is_in_order(call, asked, with_wrong, refusal).map_err(|difference| format!("{}: {difference}", what()))?;
@@ -1074,13 +1117,17 @@ impl<'a> Pair<'a> {
 
     /// A storing call, with a wrong map first and then with the station's. After a done call the map must be the one that the card
     /// gives; after a cut it is made again; a refused call keeps it.
-    fn storing(&mut self, call: usize, run: &Call, what: &dyn Fn() -> String) -> Result<Answer, String> {
+    fn storing(&mut self, storing: Storing, run: &Call, what: &dyn Fn() -> String) -> Result<Answer, String> {
+        let call = call_of(storing);
         if self.out_of_step {
             self.make_again()?;
         }
-        self.try_wrong(call, run, what)?;
+        if let Some(answer) = self.try_wrong(call, run, what)? {
+            self.feed(storing, answer, what)?;
+        }
         let before = self.map[1].get().to_vec();
         let answer = if TAKE_A_RECORD.contains(&call) { self.recorded(call, run, what)? } else { self.both(call, run, what)? };
+        self.feed(storing, answer, what)?;
         match answer {
             Answer::Done(stores) => {
                 self.pays(call, stores).map_err(|difference| format!("{}: {difference}", what()))?;
@@ -1151,7 +1198,7 @@ impl<'a> Pair<'a> {
         let before = Card::open_settled(self.card(), None).ok();
         let choice = self.picked(COMMIT, pick, allowance);
         let found = (self.choice_turns[COMMIT] % 8 == 0 && before.is_some()).then(|| self.card().to_vec());
-        let answer = self.choosing(COMMIT, &choice, run, &what)?;
+        let answer = self.choosing(Storing::Commit(numbers.len() as u64), &choice, run, &what)?;
         if let Some(found) = found {
             self.is_made_in_parts(found, numbers, data, &choice, allowance, answer).map_err(|difference| format!("{}: {difference}", what()))?;
         }
@@ -1219,7 +1266,8 @@ impl<'a> Pair<'a> {
         let what = || format!("put({block}, record {record:X?}, data of {}, choice {pick:?}, allowance {allowance})", data.len());
         let run: &Call = &|calls, lent| calls.put(lent.card, lent.map, lent.record, block, data, lent.choice, allowance);
         let (before, words) = (Card::open(self.card(), None).ok(), self.block() as u64 / 8);
-        let answer = self.choosing(PUT, &self.picked(PUT, pick, allowance), run, &what)?;
+        let storing = Storing::Put(record.get(1).copied().unwrap_or(0));
+        let answer = self.choosing(storing, &self.picked(PUT, pick, allowance), run, &what)?;
         self.owes_put(before.clone(), block, answer);
         self.count_cut(PUT, pick, answer == Answer::Cut && allowance < words);
         let next = match (answer, &record[..]) {
@@ -1244,7 +1292,7 @@ impl<'a> Pair<'a> {
     pub fn finish(&mut self, allowance: u64) -> Result<Answer, String> {
         let (record, before) = (self.record().to_vec(), Card::open(self.card(), None).ok());
         let what = || format!("finish(record {record:X?}, allowance {allowance})");
-        let answer = self.storing(FINISH, &|calls, lent| calls.finish(lent.card, lent.map, lent.record, allowance), &what)?;
+        let answer = self.storing(Storing::Finish, &|calls, lent| calls.finish(lent.card, lent.map, lent.record, allowance), &what)?;
         if self.record() != record {
             return Err(format!("{}: {answer:?}, and the record is {:X?}", what(), self.record()));
         }
@@ -1351,7 +1399,7 @@ impl<'a> Pair<'a> {
     pub fn load(&mut self, block: u64, pick: Pick, allowance: u64) -> Result<Answer, String> {
         let what = || format!("load({block}, choice {pick:?}, allowance {allowance})");
         let run: &Call = &|calls, lent| calls.load(lent.card, lent.disk, lent.map, lent.table, block, lent.choice, allowance);
-        let answer = self.choosing(LOAD, &self.picked(LOAD, pick, allowance), run, &what)?;
+        let answer = self.choosing(Storing::Load, &self.picked(LOAD, pick, allowance), run, &what)?;
         self.count_cut(LOAD, pick, answer == Answer::Cut && allowance < self.block() as u64 / 8);
         Ok(answer)
     }
@@ -1365,7 +1413,7 @@ impl<'a> Pair<'a> {
     pub fn evict(&mut self, block: u64, pick: Pick, allowance: u64) -> Result<Answer, String> {
         let what = || format!("evict({block}, choice {pick:?}, allowance {allowance})");
         let run: &Call = &|calls, lent| calls.evict(lent.card, lent.disk, lent.map, block, lent.choice, allowance);
-        let answer = self.choosing(EVICT, &self.picked(EVICT, pick, allowance), run, &what)?;
+        let answer = self.choosing(Storing::Evict, &self.picked(EVICT, pick, allowance), run, &what)?;
         let inside = allowance < self.block() as u64 / 512;
         self.count_cut(EVICT, pick, answer == Answer::Cut && inside && self.is_modified(block));
         self.same_around(&[block]).map_err(|difference| format!("{}: {difference}", what()))?;
@@ -1407,7 +1455,8 @@ impl<'a> Pair<'a> {
         let before = (self.table_turns[ROOM] % 4 == 0 && self.disk().len() <= WHOLE_DISK).then(|| self.snapshot());
         let run: &Call =
             &|calls, lent| calls.commit_making_room(lent.card, lent.disk, lent.map, lent.table, numbers, data, lent.choice, allowance);
-        let answer = self.choosing(ROOM, &self.picked_making_room(pick, &runs, allowance), run, &what)?;
+        let choice = self.picked_making_room(pick, &runs, allowance);
+        let answer = self.choosing(Storing::Room(numbers.len() as u64), &choice, run, &what)?;
         let unordered = matches!(cut_run(&runs, allowance), Some((Run::Unordered(_), _)));
         self.count_cut(ROOM, pick, answer == Answer::Cut && unordered);
         self.owes(ROOM, card.clone(), &evicted(&runs, allowance, self.card()), numbers, answer);
@@ -1436,9 +1485,39 @@ impl<'a> Pair<'a> {
 
     pub fn recover(&mut self, allowance: u64) -> Result<Answer, String> {
         let (what, before) = (|| format!("recover(allowance {allowance})"), Card::open(self.card(), None).ok());
-        let answer = self.storing(RECOVER, &|calls, lent| calls.recover(lent.card, lent.map, allowance), &what)?;
+        self.is_made_in_two(before.as_ref()).map_err(|difference| format!("{}: {difference}", what()))?;
+        let answer = self.storing(Storing::Recover(allowance), &|calls, lent| calls.recover(lent.card, lent.map, allowance), &what)?;
+        if matches!(answer, Answer::Done(_)) && self.bound.series().has_cut() {
+            leaves_nothing(self.one, self.card()).map_err(|difference| format!("{}: {difference}", what()))?;
+        }
         self.count_pending(&before.map_or(vec![], |card| recover_cases(&card, answer)));
         Ok(answer)
+    }
+
+    /// A recovery with the map of before the last storing call. Where it is refused, the station goes on with its own.
+    pub fn recover_stale(&mut self, allowance: u64) -> Result<Answer, String> {
+        if self.out_of_step {
+            self.make_again()?;
+        }
+        let own = self.map[1].get().to_vec();
+        self.set_map(&self.stale.clone());
+        let answer = self.recover(allowance)?;
+        if let Answer::Refused(_) = answer {
+            self.set_map(&own);
+        }
+        Ok(answer)
+    }
+
+    /// Every fourth time, on an unsettled card of a history: two recoveries of some allowances leave what one leaves.
+    fn is_made_in_two(&mut self, found: Option<&Card>) -> Result<(), String> {
+        let turn = self.turns[RECOVER];
+        let tried = |card: &&Card| turn % 4 == 0 && self.bound.is_known() && !card.settled();
+        let Some(card) = found.filter(tried) else { return Ok(()) };
+        let most = card.in_use().filter(|entry| card.undoable(entry)).count() as u64 + 2;
+        let some = mix(turn as u64);
+        let kind = in_two(self.one, self.card(), [some % most, (some >> 32) % most])?;
+        self.tally.recoveries.in_two[kind] += 1;
+        Ok(())
     }
 
     /// An upgrade: done, the version alone is another one; cut or refused, nothing is.
@@ -1452,6 +1531,7 @@ impl<'a> Pair<'a> {
         if left != self.card() {
             return Err(format!("{}: {answer:?}, and it leaves another card", what()));
         }
+        self.feed(Storing::Upgrade, answer, &what)?;
         Ok(answer)
     }
 
@@ -2004,7 +2084,8 @@ pub fn some_call(pair: &mut Pair, random: &mut Random, geometry: Geometry, row: 
             let allowance = if random.once_in(3) { random.below(block as u64 / 512 + 2) } else { u64::MAX };
             pair.evict(some_number(random, geometry), choice, allowance)?;
         }
-        11 | 12 => {
+        11 => some_recoveries(pair, random, row)?,
+        12 => {
             let answer = pair.recover(if random.once_in(3) { random.below(5) } else { u64::MAX })?;
             row.recover(answer);
         }
@@ -2574,6 +2655,7 @@ mod tests {
     use crate::model::*;
     use crate::pending::{full_windows, odd_cards, pending_history, pending_script, wide_pending_script};
     use crate::room::{every_room, room_script};
+    use crate::series::history_of_series;
     use crate::versions::{across, every_upgrade};
 
     const SMALL: Geometry = Geometry { k: 9, slots: 8, data_blocks: 4, disk_blocks: 6 };
@@ -2657,6 +2739,7 @@ mod tests {
         tally.add(&full_windows(&model, &model, WIDEST).unwrap());
         (0..8).for_each(|seed| tally.add(&pending_history(&model, &model, SMALL, 200, seed, Reckoning::Right).unwrap()));
         tally.add(&odd_cards(&model, &model, WIDE, 3000, 9).unwrap());
+        [OLD, NOW].iter().for_each(|version| tally.add(&history_of_series(&model, &model, SMALL, *version, 70, 10).unwrap()));
         tally.complete().unwrap();
         incomplete_is_reported(&tally);
         incomplete_tables_are_reported(&tally);
@@ -2701,6 +2784,7 @@ mod tests {
         reported(&|tally| tally.odd_data = 0);
         reported(&|tally| tally.foretold[0] = 0);
         reported(&|tally| tally.foretold[1] = 0);
+        reported(&|tally| tally.recoveries.cut = 0);
     }
 
     /// As above, of the tables and of what the commits that make room come upon.
@@ -2756,7 +2840,7 @@ mod tests {
     /// The first part of the comparison that sees it: the long ones come last.
     fn is_reported(slip: Slip) {
         let (right, wrong) = (Model::default(), Model::wrong(slip));
-        let parts: [&dyn Fn() -> Result<Tally, String>; 14] = [
+        let parts: [&dyn Fn() -> Result<Tally, String>; 15] = [
             &|| across(&right, &wrong, SMALL, 100, 8),
             &|| random_history(&right, &wrong, SMALL, 4000, 5),
             &|| pending_history(&right, &wrong, SMALL, 300, 9, Reckoning::Right),
@@ -2771,6 +2855,7 @@ mod tests {
             &|| every_cut(&right, &wrong, SMALL, &pending_script(), 6, 16),
             &|| every_cut(&right, &wrong, WIDE, &wide_pending_script(), 8, 32),
             &|| every_upgrade(&right, &wrong, SMALL, &script(), 6, 16),
+            &|| history_of_series(&right, &wrong, SMALL, NOW, 140, 11),
         ];
         let difference = parts.iter().find_map(|part| part().err());
         println!("{slip:?}: {difference:?}");

@@ -9,7 +9,7 @@ use crate::{Answer, Calls, Geometry, Opened};
 
 /// A store of a commit of `n` blocks after which power fails: near the entry of one block, or among the role
 /// switches.
-fn cut_place(random: &mut Random, geometry: Geometry, n: u64) -> u64 {
+pub fn cut_place(random: &mut Random, geometry: Geometry, n: u64) -> u64 {
     let words = geometry.block() as u64 / 8;
     if random.once_in(3) {
         return n * (words + 3) + random.below(n + 1);
@@ -18,7 +18,7 @@ fn cut_place(random: &mut Random, geometry: Geometry, n: u64) -> u64 {
 }
 
 /// The number of a block on the card; any number where there is none.
-fn cached(random: &mut Random, geometry: Geometry, card: &[u8]) -> u64 {
+pub fn cached(random: &mut Random, geometry: Geometry, card: &[u8]) -> u64 {
     let numbers: Vec<u64> = Card::open(card, None).unwrap().in_use().map(|entry| entry.number).collect();
     if numbers.is_empty() {
         random.below(geometry.disk_blocks)
@@ -28,7 +28,7 @@ fn cached(random: &mut Random, geometry: Geometry, card: &[u8]) -> u64 {
 }
 
 /// Some different blocks, at most `most`. Two times in three one of them is cached.
-fn some_numbers(random: &mut Random, geometry: Geometry, card: &[u8], most: u64) -> Vec<u64> {
+pub fn some_numbers(random: &mut Random, geometry: Geometry, card: &[u8], most: u64) -> Vec<u64> {
     let most = most.min(geometry.slots - 1).min(geometry.disk_blocks);
     if most == 0 {
         return Vec::new();
@@ -41,6 +41,26 @@ fn some_numbers(random: &mut Random, geometry: Geometry, card: &[u8], most: u64)
         cached(random, geometry, card) + geometry.disk_blocks - random.below(count)
     };
     (0..count).map(|i| (first + i) % geometry.disk_blocks).collect()
+}
+
+/// As above, fewer where there could not be room made for so many.
+pub fn some_numbers_making_room(random: &mut Random, geometry: Geometry, card: &[u8], most: u64) -> Vec<u64> {
+    let mut numbers = some_numbers(random, geometry, card, most);
+    let card = Card::open(card, None).unwrap();
+    let cached = |numbers: &[u64]| numbers.iter().filter(|number| card.entry_for(**number).is_some()).count();
+    while (numbers.len() + cached(&numbers)) as u64 > geometry.data_blocks {
+        numbers.pop();
+    }
+    numbers
+}
+
+/// The stores of the evictions with which a commit of these blocks makes room.
+pub fn evicting_stores(model: &Model, at: &Snapshot, numbers: &[u64]) -> Result<u64, String> {
+    let n = numbers.len();
+    let block = Geometry::from_header(&at.card).map_or(0, |geometry| geometry.block());
+    let runs = model.room_list(&at.card, at.disk.len(), &at.table, numbers, &vec![0; n * block]);
+    let stores = stores_of(&runs.map_err(|number| format!("a commit that makes room is refused with {number}"))?).len() as u64;
+    Ok(stores - commit_stores(n as u64, block as u64))
 }
 
 /// Any words of the block in which a save is cut.
@@ -71,18 +91,11 @@ fn save(model: &Model, random: &mut Random, geometry: Geometry, at: &mut Snapsho
 
 /// As many blocks as there can be victims for. A cut falls behind the evictions.
 fn save_making_room(model: &Model, random: &mut Random, geometry: Geometry, at: &mut Snapshot, most: u64, cut: bool) {
-    let card = Card::open(&at.card, None).unwrap();
-    let mut numbers = some_numbers(random, geometry, &at.card, most);
-    let cached = |numbers: &[u64]| numbers.iter().filter(|number| card.entry_for(**number).is_some()).count();
-    while (numbers.len() + cached(&numbers)) as u64 > geometry.data_blocks {
-        numbers.pop();
-    }
+    let numbers = some_numbers_making_room(random, geometry, &at.card, most);
     let (n, seed) = (numbers.len() as u64, random.next());
     let data = data_of(seed, n as usize, geometry.block());
+    let allowance = if cut { evicting_stores(model, at, &numbers).unwrap() + cut_place(random, geometry, n) } else { u64::MAX };
     let Snapshot { card, disk, table, .. } = at;
-    let runs = model.room_list(card, disk.len(), table, &numbers, &data).unwrap();
-    let evicting = stores_of(&runs).len() as u64 - commit_stores(n, geometry.block() as u64);
-    let allowance = if cut { evicting + cut_place(random, geometry, n) } else { u64::MAX };
     let (mut map, choice) = (map_of(card), some_choice(seed, geometry));
     model.commit_making_room(card, disk, &mut map, table, &numbers, &data, &choice, allowance);
 }

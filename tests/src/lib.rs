@@ -1,6 +1,7 @@
 //! What holds the library to documents 01 and 02 by running it: a separate model, the calls of the C interface, and a driver that makes
 //! each call on both and compares all that they leave.
 
+pub mod bounded;
 pub mod choices;
 pub mod drive;
 pub mod ffi;
@@ -12,6 +13,7 @@ pub mod random;
 pub mod records;
 pub mod room;
 pub mod scratch;
+pub mod series;
 pub mod shown;
 pub mod stages;
 pub mod stores_log;

@@ -1,11 +1,13 @@
 //! Drives library and model side by side. One line for each part; the first difference ends the run with status 1.
 
 use std::time::Instant;
+use tinca_tests::bounded::Recoveries;
 use tinca_tests::drive::{arguments, damaged, drill, every_cut, every_preview, random_history, script, Reckoning, Tally, DRILL};
 use tinca_tests::ffi::Library;
-use tinca_tests::model::Model;
+use tinca_tests::model::{Model, NOW, OLD};
 use tinca_tests::pending::{full_windows, odd_cards, pending_history, pending_script, wide_pending_script};
 use tinca_tests::room::{crowded, every_room, room_script, wide_room_script};
+use tinca_tests::series::history_of_series;
 use tinca_tests::versions::{across, every_upgrade};
 use tinca_tests::{Calls, Geometry};
 
@@ -13,10 +15,11 @@ fn geometry(k: u64, slots: u64, data_blocks: u64, disk_blocks: u64) -> Geometry 
     Geometry { k, slots, data_blocks, disk_blocks }
 }
 
-/// The parts that were run, added up.
+/// The parts that were run, added up, and the recoveries of random histories alone.
 #[derive(Default)]
 struct Parts {
     total: Tally,
+    recoveries: Recoveries,
 }
 
 type Part<'p> = &'p dyn Fn(&dyn Calls, &dyn Calls) -> Result<Tally, String>;
@@ -25,22 +28,28 @@ type Part<'p> = &'p dyn Fn(&dyn Calls, &dyn Calls) -> Result<Tally, String>;
 type History<'p> = &'p dyn Fn(&dyn Calls, &dyn Calls, u64) -> Result<Tally, String>;
 
 impl Parts {
-    fn run(&mut self, name: &str, part: Part) -> Result<(), String> {
+    fn made(&mut self, name: &str, part: Part) -> Result<Tally, String> {
         let start = Instant::now();
         let tally = part(&Library, &Model::NOW).map_err(|difference| format!("{name}: {difference}"))?;
         println!("{name}: {} ({:.1} s)", tally.line(), start.elapsed().as_secs_f64());
         self.total.add(&tally);
-        Ok(())
+        Ok(tally)
+    }
+
+    fn run(&mut self, name: &str, part: Part) -> Result<(), String> {
+        self.made(name, part).map(drop)
     }
 
     /// So many histories on cards of the geometry, as one part.
     fn run_seeds(&mut self, name: &str, geometry: Geometry, histories: u64, history: History) -> Result<(), String> {
         let first = 1000 * geometry.k + 100 * geometry.slots;
-        self.run(name, &|library, model| {
+        let tally = self.made(name, &|library, model| {
             let mut tally = Tally::default();
             (first..first + histories).try_for_each(|seed| history(library, model, seed).map(|more| tally.add(&more)))?;
             Ok(tally)
-        })
+        })?;
+        self.recoveries.add(&tally.recoveries);
+        Ok(())
     }
 
     fn cuts(&mut self) -> Result<(), String> {
@@ -160,6 +169,26 @@ impl Parts {
         Ok(())
     }
 
+    fn series_of_recoveries(&mut self) -> Result<(), String> {
+        for (k, slots, data_blocks, disk_blocks, histories, series) in [
+            (9, 8, 4, 16, 20, 140),
+            (9, 8, 4, 3, 10, 140),
+            (9, 8, 16, 12, 20, 140),
+            (10, 16, 8, 20, 10, 140),
+            (12, 8, 12, 30, 4, 70),
+            (9, 256, 128, 150, 2, 70),
+        ] {
+            let geometry = geometry(k, slots, data_blocks, disk_blocks);
+            for (version, cards) in [(NOW, ""), (OLD, " of old cards")] {
+                let name = format!("n series of recoveries{cards}, k {k} S {slots} N {data_blocks} D {disk_blocks}");
+                let history =
+                    |library: &dyn Calls, model: &dyn Calls, seed| history_of_series(library, model, geometry, version, series, seed);
+                self.run_seeds(&name, geometry, histories, &history)?;
+            }
+        }
+        Ok(())
+    }
+
     fn crowded_cards(&mut self) -> Result<(), String> {
         for (k, slots, data_blocks, disk_blocks, calls) in [
             (9, 8, 4, 16, 15_000),
@@ -180,7 +209,7 @@ impl Parts {
     }
 }
 
-fn run() -> Result<Tally, String> {
+fn run() -> Result<Parts, String> {
     if drill(&Library) != DRILL {
         return Err(format!("drill: the library prints\n{}", drill(&Library)));
     }
@@ -192,15 +221,20 @@ fn run() -> Result<Tally, String> {
     parts.crowded_cards()?;
     parts.old_cards()?;
     parts.pending_saves()?;
-    Ok(parts.total)
+    parts.series_of_recoveries()?;
+    parts.total.complete()?;
+    parts.recoveries.at_least(1000)?;
+    Ok(parts)
 }
 
 fn main() {
     let start = Instant::now();
-    match run().and_then(|total| total.complete().map(|_| total)) {
-        Ok(total) => {
+    match run() {
+        Ok(Parts { total, recoveries }) => {
             let seconds = start.elapsed().as_secs_f64();
             println!("all: {}", total.line());
+            println!("recoveries: {}", total.recoveries.line());
+            println!("recoveries of random histories: {}", recoveries.line());
             println!("library and model agree in {} calls, {seconds:.1} s", total.calls());
             if total.calls() < 1_000_000 {
                 println!("fewer than 1,000,000 calls");

@@ -809,6 +809,14 @@ pub enum Slip {
     /// Recovery of an old card goes by the rule of today, and of today's by the old one.
     OldUndoneAsNew,
     NewUndoneAsOld,
+    /// An entry that stands undone in the window is stored again: with M the other way round, 80 to 82 and back, or with no byte changed, as
+    /// by a recovery that starts again from its first store.
+    UndoneFlipped,
+    UndoneStoredAgain,
+    /// Recovery stores Tail before the entries.
+    RecoveryTailFirst,
+    /// Recovery of an unsettled card undoes every entry in use.
+    EveryEntryUndone,
     /// The log entry is 87 over every entry, also where there is none, never, or as P stood in the entry.
     CleanLoggedModified,
     AbsentLoggedModified,
@@ -894,7 +902,7 @@ pub enum Slip {
     FinishFreesCurrent,
 }
 
-pub const SLIPS: [Slip; 199] = [
+pub const SLIPS: [Slip; 203] = [
     Slip::CleanUndo,
     Slip::FreshAtSwitch,
     Slip::FreshAtUndo,
@@ -1016,6 +1024,10 @@ pub const SLIPS: [Slip; 199] = [
     Slip::UndoDropsP,
     Slip::OldUndoneAsNew,
     Slip::NewUndoneAsOld,
+    Slip::UndoneFlipped,
+    Slip::UndoneStoredAgain,
+    Slip::RecoveryTailFirst,
+    Slip::EveryEntryUndone,
     Slip::CleanLoggedModified,
     Slip::AbsentLoggedModified,
     Slip::ModifiedLoggedClean,
@@ -1569,18 +1581,24 @@ impl Model {
         let mut stores = Vec::new();
         for (index, entry) in card.entries.iter().enumerate() {
             let Some(entry) = entry else { continue };
-            let undoable = if self.slips(Slip::WindowAlone) && card.head != card.tail {
-                card.window.contains(&entry.number)
-            } else {
-                card.undoable(entry)
+            let undoable = match self.slip {
+                Some(Slip::WindowAlone) if card.head != card.tail => card.window.contains(&entry.number),
+                Some(Slip::EveryEntryUndone) => !card.settled(),
+                _ => card.undoable(entry),
             };
-            let after = write_entry(self.undone(card.version, *entry));
-            if undoable && (after != write_entry(Some(*entry)) || self.slips(Slip::UnchangedCounted)) {
+            let (before, mut after) = (write_entry(Some(*entry)), write_entry(self.undone(card.version, *entry)));
+            // 84 is allowed nowhere
+            if after == before && !entry.previous_modified && self.slips(Slip::UndoneFlipped) {
+                after[0] ^= 0x02;
+            }
+            let unchanged_too = matches!(self.slip, Some(Slip::UnchangedCounted | Slip::UndoneStoredAgain));
+            if undoable && (after != before || unchanged_too) {
                 stores.push(Store::Entry(card.geometry.entry_at(index), after));
             }
         }
         if card.tail != card.head || self.slips(Slip::UnchangedCounted) {
-            stores.push(Store::Word(72, card.head.to_be_bytes()));
+            let place = if self.slips(Slip::RecoveryTailFirst) { 0 } else { stores.len() };
+            stores.insert(place, Store::Word(72, card.head.to_be_bytes()));
         }
         Ok(stores)
     }

@@ -8,6 +8,7 @@ use crate::drive::{
 use crate::model::{ascending, record_of, write_entry, Card, Entry, NOW, OLD};
 use crate::random::{mix, Random};
 use crate::records::{Ring, WRONG_RECORDS};
+use crate::series::some_recoveries;
 use crate::versions::keeps_rule;
 use crate::{Answer, Calls, Geometry, Opened};
 
@@ -193,7 +194,7 @@ pub fn by_hand(at: &Snapshot) -> Vec<u64> {
 }
 
 /// Evicts until so many data blocks are free.
-fn make_room(pair: &mut Pair, free: usize) -> Result<(), String> {
+pub fn make_room(pair: &mut Pair, free: usize) -> Result<(), String> {
     loop {
         let card = Card::open_settled(pair.card(), None).map_err(|number| format!("a recovered card is refused with {number}"))?;
         if card.free_blocks().len() >= free {
@@ -462,6 +463,7 @@ pub fn pending_history<'a>(
     for _ in 0..calls {
         let (number, pick) = (some_number(&mut random, geometry), random.pick(&PICKS));
         match random.below(16) {
+            0 if random.once_in(2) => some_recoveries(&mut pair, &mut random, &mut row)?,
             0 => {
                 let answer = pair.recover(random.pick(&[0, 1, 2, u64::MAX, u64::MAX]))?;
                 row.recover(answer);

@@ -8,6 +8,7 @@ use crate::drive::{
 };
 use crate::model::{read_entry, Card, Model, NOW, OLD, VERSION_AT};
 use crate::random::{mix, Random};
+use crate::series::some_recoveries;
 use crate::{Answer, Calls, Geometry, Opened};
 
 /// The versions that are tried: both that there are, the ones next to them and the largest byte.
@@ -201,10 +202,7 @@ pub fn across<'a>(one: &'a dyn Calls, other: &'a dyn Calls, geometry: Geometry, 
     for _ in 0..calls {
         match random.below(6) {
             0 if pair.is_old() => drop(pair.upgrade(random.pick(&[0, 0, 1, u64::MAX]))?),
-            1 if pair.is_old() => {
-                let answer = pair.recover(random.pick(&[0, 1, 2, u64::MAX]))?;
-                row.recover(answer);
-            }
+            1 if pair.is_old() => some_recoveries(&mut pair, &mut random, &mut row)?,
             _ => some_call(&mut pair, &mut random, geometry, &mut row)?,
         }
         keeps_rule(&mut pair, geometry, &row)?;
