@@ -2,10 +2,10 @@
 use mathlib.Core.Path.{refl}
 use Rattle.protocol.proofs.Computing.{computing}
 use Rattle.protocol.specs.Pending.{putRuns}
-use Rattle.slips.specs.Slips.{Lost, stepped, saving, recovering, then, thenAll, recoveryBy, inWindowOnly, undoneModified, undoneFresh, undoneClean, emptied, switchingFresh, reusing, zeroingFirst, evicting, unfencedLoad, fencedLoad, lastAlone, loaded, savingClean, evictedAfter, putting, pending, notCurrent, puttingOver}
+use Rattle.slips.specs.Slips.{Lost, stepped, saving, recovering, then, thenAll, recoveryBy, inWindowOnly, undoneModified, undoneFresh, undoneClean, undoneSwapped, tailFirst, leftAfterTwo, emptied, switchingFresh, reusing, zeroingFirst, evicting, unfencedLoad, fencedLoad, lastAlone, loaded, savingClean, evictedAfter, putting, pending, notCurrent, puttingOver}
 
 pub lost : Lost
-unfolding computing stepped saving recovering then thenAll recoveryBy inWindowOnly undoneModified undoneFresh undoneClean emptied switchingFresh reusing zeroingFirst evicting unfencedLoad fencedLoad lastAlone loaded savingClean evictedAfter putRuns putting pending notCurrent puttingOver
+unfolding computing stepped saving recovering then thenAll recoveryBy inWindowOnly undoneModified undoneFresh undoneClean undoneSwapped tailFirst leftAfterTwo emptied switchingFresh reusing zeroingFirst evicting unfencedLoad fencedLoad lastAlone loaded savingClean evictedAfter putRuns putting pending notCurrent puttingOver
 lost =
     record {
       windowOnly = refl;
@@ -19,5 +19,7 @@ lost =
       unfenced = refl;
       fenced = refl;
       givenAgain = refl;
+      storedTailFirst = refl;
+      undoneBack = refl;
       right = refl;
     }

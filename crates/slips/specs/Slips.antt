@@ -1,6 +1,7 @@
 -- Document 01, "Slips this design invites": each slip as a definition of its own, a short history with it, and the block that is lost.
 -- In each the card holds 7 in blocks 2 and 3 before the slip, and nothing but 7 may be read after it: the save of 8 is never finished. The disk holds
--- ones in the others. Two slips more are of document 02: ask 5's, a fence left out, and ask 6's, a pending save's previous block given out again.
+-- ones in the others. Four slips more are of document 02: ask 5's, a fence left out; ask 6's, a pending save's previous block given out again; and ask
+-- 12's, recoveries that do not go on where the one before was cut.
 use Prim.Native.Nat.{ℕ, _+_}
 use mathlib.Core.List.{List, [], _∷_, _++_}
 use mathlib.Core.Bool.{Bool, true, cond, not, _&&_}
@@ -17,7 +18,7 @@ use Rattle.protocol.specs.Search.{currentIs, searchStart}
 use Rattle.protocol.specs.Commit.{newBlock, entryFound, oldBlock, blockRuns, commitRuns}
 use Rattle.protocol.specs.Pending.{putRuns}
 use Rattle.protocol.specs.Load.{loadRuns, writeBack, evictRuns}
-use Rattle.protocol.specs.Recover.{ifChanging, recoverRuns}
+use Rattle.protocol.specs.Recover.{ifChanging, undoRuns, recoverRuns}
 use Rattle.protocol.specs.History.{Media, run}
 use Rattle.protocol.specs.Example.{tiny, start, saved, ample, firstByte}
 
@@ -67,6 +68,18 @@ undoneFresh e = cond (eqb (e .previous) FRESH) unused (entryOf 0x82 (e .number) 
 -- "Undoing to a clean flag": 87 to 80
 unfoldable pub undoneClean : Entry → Entry
 undoneClean e = cond (eqb (e .previous) FRESH) unused (entryOf 0x80 (e .number) (e .previous) (e .previous))
+
+-- an undo that keeps the new block as the previous one, so that an undone entry is undone back
+unfoldable pub undoneSwapped : Entry → Entry
+undoneSwapped e = cond (eqb (e .previous) FRESH) unused (entryOf 0x82 (e .number) (e .current) (e .previous))
+
+-- a recovery that stores Tail first
+unfoldable pub tailFirst : Media → List Run
+tailFirst m = ifChanging (m .onCard) (tailStore (headOf (m .onCard))) ++ eachBelow (undoRuns tiny (m .onCard)) 4
+
+-- what is left to store after two recoveries that are cut behind one store each
+unfoldable pub leftAfterTwo : (Media → List Run) → ℕ
+leftAfterTwo f = length (flat (f (then 1 f (then 1 f (then 136 saving before)))))
 
 -- a recovery that empties the card
 unfoldable pub emptied : Entry → Entry
@@ -161,10 +174,22 @@ pub record Lost : Type 0 where
       ∷ firstByte (then ample recovering (then ample (putting 3) pending)) 2
       ∷ []
       ≡ 8 ∷ 7 ∷ []
+  -- cut after the first role switch, and the recovery behind Tail: no window is left, and block 2 has no R, so the save is torn
+  pub storedTailFirst : firstByte (then ample tailFirst (then 1 tailFirst (then 135 saving before))) 2
+      ∷ firstByte (then ample tailFirst (then 1 tailFirst (then 135 saving before))) 3
+      ∷ []
+      ≡ 8 ∷ 7 ∷ []
+  -- each recovery undoes the one before: three stores are left as at first, and once they are made 8 is read; by the card's own rule one store is left
+  pub undoneBack : leftAfterTwo (recoveryBy undoableAt undoneSwapped)
+      ∷ firstByte (then ample (recoveryBy undoableAt undoneSwapped) (then 1 (recoveryBy undoableAt undoneSwapped) (then 136 saving before))) 2
+      ∷ leftAfterTwo recovering
+      ∷ []
+      ≡ 3 ∷ 8 ∷ 1 ∷ []
   -- and what document 01 asks for: 7 in each case
   pub right : firstByte (then ample recovering (then 133 saving before)) 3
       ∷ firstByte (then ample recovering (then 1 recovering (then 136 saving before))) 2
       ∷ firstByte (then ample evicting (then ample recovering (then 136 saving before))) 2
       ∷ firstByte (then 1 evicting before) 2
+      ∷ firstByte (then ample recovering (then 1 recovering (then 135 saving before))) 2
       ∷ []
-      ≡ 7 ∷ 7 ∷ 7 ∷ 7 ∷ []
+      ≡ 7 ∷ 7 ∷ 7 ∷ 7 ∷ 7 ∷ []
