@@ -137,21 +137,11 @@ fn recover_until_done(card: &mut [u8]) -> Recoveries {
     Recoveries { steps, stores }
 }
 
-fn is_all(block: &[u8; 512], x: u8) -> bool {
-    let mut same = true;
-    let mut i: usize = 0;
-    while i < 512 {
-        same = same & (block[i] == x);
-        i += 1;
-    }
-    same
-}
-
 // Whether block b is read as filled with x. A refused read, as of a card that is not settled, leaves zeros, which no block is filled with.
 fn holds(card: &[u8], disk: &[u8], b: u64, x: u8) -> bool {
     let mut out = [0u8; 512];
     lookup::read(card, disk, b, &mut out);
-    is_all(&out, x)
+    text::same(&out, &[x; 512])
 }
 
 // Whether block 1 is read as filled with `first`, and blocks 2 and 3 as filled with x.
