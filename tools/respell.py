@@ -107,7 +107,7 @@ def main():
             core = w.strip("◌")
             if "◌" + core + "◌" in turned:
                 return w.replace(core, snake(core))
-            if w in dashed and not behind and path.endswith((".antt", ".md", ".edit")):
+            if w in dashed and not (behind and goals) and path.endswith((".antt", ".md", ".edit")):
                 if goals and re.search(r"(?m)^(?:abbrev |pub )*" + re.escape(w) + r" :", text):
                     return w
                 return dashed[w]

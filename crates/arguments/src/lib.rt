@@ -1,4 +1,6 @@
 // The program's arguments as numbers, and whether one came whole.
+#![tactic(auto)]
+
 ghost use Rattle.std.specs.Prelude.{◌≡◌, true, ◌-◌, ◌≤◌, min};
 ghost use Rattle.io.specs.Counts.{IsPrefixLen};
 
@@ -21,7 +23,7 @@ pub fn is_whole(what: &[u8]) -> bool {
 }
 
 // The numbers given for a save, and whether every argument is one.
-#[derive(Drop)]
+#[derive(Clone, Copy)]
 pub struct ArgumentList {
     pub all: bool,
     pub count: usize,

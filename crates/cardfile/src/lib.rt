@@ -1,4 +1,6 @@
 // A card's file, opened and read, and what is wrong with it, in a line on standard error.
+#![tactic(auto)]
+
 ghost use Rattle.io.specs.Counts.{IsPrefixLen};
 
 use image::Got;

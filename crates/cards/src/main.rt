@@ -1,5 +1,7 @@
 // Reads cards made by hand: fresh, half-made, and damaged in each of the six ways, and prints what state, read and look answer.
 // Blocks of 512 bytes, eight slots, four data blocks, sixteen disk blocks; entries begin at byte 192, data blocks at 256.
+#![tactic(auto)]
+
 fn byte(x: u8) -> u64 {
     x as u64
 }

@@ -190,7 +190,7 @@ pub matched_both : (g : Geometry) (c : List ℕ) (w : ℕ) (once : Bool) (s : Se
     → once && s.roles ≡ is_matched g c
 unfolding slot_once is_matched
 matched_both g c w once s q o h =
-    (λ t. (o ∙ ap (all_below (slot_once g c)) q ∙ all_and (slot_logged g c) (slot_new g c) (window_of g c)) t && h.roles-is t)
+    (λ t. (o ∙ ap (all_below (slot_once g c)) q ∙ all_and (slot_logged g c) (slot_new g c) (window_of g c)) t && h.roles_is t)
     ∙ three (all_below (slot_logged g c) (window_of g c)) (all_below (slot_new g c) (window_of g c)) (all_below (role_in_window g c) g.blocks)
   where
     three : (a b x : Bool) → (a && b) && x ≡ a && (b && x)

@@ -99,7 +99,7 @@ module _ (f : Fit) (c xs : List ℕ) (r : Bool) (frame : Framed c f) (ring : r �
 
       settled_test : eqb f.head f.tail && s.quiet ≡ is_settled f.geometry c
       unfolding is_settled
-      settled_test = λ i. eqb (frame.head-is i) (frame.tail-is i) && d.quiet on i
+      settled_test = λ i. eqb (frame.head_is_lem i) (frame.tail_is_lem i) && d.quiet on i
 
       pub comparable : Comparable f.geometry c xs (not (eqb s.shared 0))
       comparable = record {
@@ -177,7 +177,7 @@ module _ (g : Geometry) (c xs : List ℕ) (currents : Map) (h : Unsettled g c xs
   rest : entries_apart g c ≡ s.apart
   rest =
       apart_keys g c h.indexed.fitted.good h.indexed.fits
-      ∙ rw (h.indexed.apart, h.apart) (sym found.apart-is)
+      ∙ rw (h.indexed.apart, h.apart) (sym found.apart_is)
 
   pub settled_alike : (v : Verdict) → not s.apart ≡ true → v.refusal ≡ 6 → Weighed g c xs v
   settled_alike v o e = record {
@@ -190,7 +190,7 @@ module _ (g : Geometry) (c xs : List ℕ) (currents : Map) (h : Unsettled g c xs
   both_map : (m : Map) → m ≡ moved_map currents (record { low = 0; high = 0 }) s.map → m ≡ map_by (is_marked g c)
   both_map m e =
       e
-      ∙ (λ t. moved_map (h.currents-is t) (empty_by t) (found.map_is t))
+      ∙ (λ t. moved_map (h.currents_is t) (empty_by t) (found.map_is t))
       ∙ moved_by (current_marked g c) (λ d. false) (λ d. any_below (keyed (settled_key g c) d) g.blocks)
       ∙ map_cong _ _ (λ d l. ap (λ (b : Bool). b || any_below (keyed (settled_key g c) d) g.blocks) (and_true (current_marked g c d)))
       ∙ map_both g c
@@ -206,7 +206,7 @@ module _ (g : Geometry) (c xs : List ℕ) (currents : Map) (h : Unsettled g c xs
         record {
           map_is = both_map m e;
           free_is = n ∙ ap free_count (both_map m e);
-          currents_is = h.currents-is;
+          currents_is = h.currents_is;
           matched_is = matched_both g c w once s q k found;
           indexed = h.indexed;
         };

@@ -43,7 +43,7 @@ module _ (g : Geometry) (c xs : List ℕ) (i k key count : ℕ) (roles u r : Boo
   roles_more : roles && (not (u && r) || marked) ≡ all_below (role_in_window g c) (i + 1)
   unfolding all_below
   roles_more =
-      (λ t. h.roles-is t && (not (used t && role t) || marked))
+      (λ t. h.roles_is t && (not (used t && role t) || marked))
       ∙ ap (λ (x : Entry). all_below (role_in_window g c) i && (not (in_use x && has_log_role x) || marked)) entry
       ∙ ap (λ (b : Bool). all_below (role_in_window g c) i && b) (marked_role g c i marked (marks.marks i l))
       ∙ ap (all_below (role_in_window g c)) (sym (add-one i))
@@ -64,6 +64,6 @@ undoing_end g c i n count free roles m h e a b f =
     let s : i ≡ g.blocks = omega arith in
     record {
       apart_is = tally_end _ _ i g.blocks count free m h.tally (omega arith) (omega arith) f;
-      roles_is = h.roles-is ∙ ap (all_below (role_in_window g c)) s;
+      roles_is = h.roles_is ∙ ap (all_below (role_in_window g c)) s;
       map_is = (subst (λ (x : ℕ). Tally (λ d. false) (settled_key g c) x m count) s h.tally).map_is;
     }

@@ -1,4 +1,6 @@
 // Checks 5 to 7 of a card: the lowest refusal that holds, 0 for none, at every row of bytes, however damaged; and an index of its numbers.
+#![tactic(auto)]
+
 ghost use Rattle.std.specs.Prelude.{◌≡◌, ℕ, ◌+◌, ◌<◌, ◌≤◌, true, false, length, replicate};
 ghost use Rattle.protocol.specs.Layout.{version_of};
 ghost use Rattle.protocol.specs.Entry.{entry_at};
@@ -54,7 +56,7 @@ fn enter(index: &mut [u8; 640], i: usize, b: u64) -> u8
 
 // What one pass over the entries finds: whether check 5 allows them all, whether none has R, the map of their current blocks and of those that
 // the card does not have, the marks it would have were each another block, and a byte that is 0 where no two numbers share a chain.
-#[derive(Drop)]
+#[derive(Clone, Copy)]
 pub struct Seen {
     pub fits: bool,
     pub quiet: bool,
@@ -298,7 +300,7 @@ fn settled_key(e: Entry, marked: bool) -> u32
 }
 
 // Whether no two settled blocks are equal, and their map; and whether each entry with R has its number in the window.
-#[derive(Drop)]
+#[derive(Clone, Copy)]
 pub struct Settling {
     pub apart: bool,
     pub roles: bool,
@@ -346,7 +348,7 @@ fn numbers_differ(g: Geometry, card: &[u8], index: &[u8; 640], shared: bool) -> 
 
 // What checks 4 to 6 find, and where they find nothing, whether the card is settled, whether its entries with R match the window's numbers one to
 // one, how many of its data blocks are free, its map, and the map of its current blocks alone.
-#[derive(Drop)]
+#[derive(Clone, Copy)]
 pub struct Verdict {
     pub refusal: u8,
     pub settled: bool,

@@ -1,4 +1,6 @@
 // The limits of a geometry, an entry's fields and its sixteen bytes, and a single entry read and written by value.
+#![tactic(auto)]
+
 ghost use Rattle.std.specs.Prelude.{◌≡◌, true, ◌+◌, ◌*◌, ◌≤◌, length};
 ghost use Rattle.numbers.specs.Bytes.{patch};
 ghost use Rattle.protocol.specs.Layout.{good_k, good_slots, good_blocks, good_disk, good_geometry, block_size, card_length};

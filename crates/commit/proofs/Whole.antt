@@ -102,7 +102,7 @@ module _ (c : List ℕ) (m : Map) (ns bs ch xs : List ℕ) (s : Admitted) (room 
 
     pub commit_savable : (es ps : List ℕ) → Homes s.geometry c ns es ps → Savable s.geometry c s.head m ns bs ch es ps
     commit_savable es ps h = record {
-      own = x.geometry-is z;
+      own = x.geometry_is z;
       head = (x.findable z).head;
       passes = sym refusal_is ∙ z;
       homes = h;

@@ -1,4 +1,6 @@
 // Commit: a set of blocks saved whole or not at all. It is planned from the card at entry, and then made store by store under the allowance.
+#![tactic(auto)]
+
 ghost use Rattle.std.specs.Prelude.{◌≡◌, true, List, ◌++◌, ℕ, ◌+◌, ◌*◌, ◌/◌, ◌≤◌, ◌<◌, length, get_or};
 ghost use Rattle.protocol.specs.Below.{each_below, around};
 ghost use Rattle.protocol.specs.Layout.{good_geometry, block_size, slot_place, entry_place, block_place};

@@ -1,4 +1,6 @@
 // The drill of document 01: what a power cut at each place of a save of one block leaves, once the card is recovered.
+#![tactic(auto)]
+
 use libc::STDOUT_FILENO;
 use protocol::{Answer, Map, Mapped};
 

@@ -1,4 +1,6 @@
 // Where four disk blocks in a row lie: one pass over the card's entries serves them all.
+#![tactic(auto)]
+
 ghost use Rattle.std.specs.Prelude.{◌≡◌, ◌+◌, ◌<◌};
 ghost use Rattle.lookup.specs.Place.{found_by, sought_at, found_in};
 ghost use Rattle.ring.specs.Fitted.{Framed};
@@ -10,7 +12,7 @@ use protocol::Geometry;
 use ring::Fit;
 
 // Where each of four blocks lies.
-#[derive(Drop)]
+#[derive(Clone, Copy)]
 pub struct Extent {
     pub first: Found,
     pub second: Found,

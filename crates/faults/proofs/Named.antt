@@ -448,7 +448,7 @@ pub fault_damage : (low high : ℕ) (c : List ℕ) (k : Fit) (f : Fault) → Ope
 unfolding fault_of
 fault_damage low high c k f o z p =
     p
-    ∙ ap (λ (y : Geometry). damage_fault y c) (o.framed z).geometry-is
+    ∙ ap (λ (y : Geometry). damage_fault y c) (o.framed z).geometry_is
     ∙ next_on (fit_fault low high c) _ (fit_refusal_lem low high c ∙ sym o.refusal_is ∙ z)
 
 module _ (low high : ℕ) (c : List ℕ) (r : ℕ) (e : r ≡ fit_refusal low high c) (some : r ≡ 0 → ⊥) where

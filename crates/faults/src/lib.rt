@@ -1,4 +1,6 @@
 // What is wrong with a refused card image, for a call that takes versions from low to high, at every row of bytes, however damaged.
+#![tactic(auto)]
+
 ghost use Rattle.std.specs.Prelude.{◌≡◌, ◌<◌, ltb};
 ghost use Rattle.protocol.specs.Layout.{version_of};
 ghost use Rattle.protocol.specs.Ring.{settled_block};
@@ -11,7 +13,7 @@ use protocol::{Entry, FRESH, Geometry};
 use ring::{Fit, Window};
 
 // What is wrong with a card.
-#[derive(Drop)]
+#[derive(Clone, Copy)]
 pub enum Fault {
     // None of 1, 2 and 4 to 6 holds.
     Sound,

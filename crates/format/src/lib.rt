@@ -1,4 +1,6 @@
 // Format: the control bytes, slots and entries zeroed, the header of version 2 written, the data blocks left.
+#![tactic(auto)]
+
 ghost use Rattle.std.specs.Prelude.{◌≡◌, true, ◌≤◌, length};
 ghost use Rattle.numbers.specs.Bytes.{patch};
 ghost use Rattle.protocol.specs.Table.{geometry};

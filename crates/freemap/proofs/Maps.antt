@@ -1,7 +1,7 @@
 -- Maps by tests: what the map's operations give is the map of the tests joined at each block. By the laws of words, word by word.
 -- Assumes nothing.
 use Prim.Native.Nat.{ℕ, ◌+◌, ◌-◌, ◌/◌, ◌%◌, ◌^◌, ◌≤◌, ◌<◌}
-use mathlib.Core.Bool.{Bool, true, false, cond, not, ◌&&◌, ◌||◌, and_true}
+use mathlib.Core.Bool.{Bool, true, false, cond, not, ◌&&◌, ◌||◌, and-true}
 use mathlib.Core.Path.{◌≡◌, refl, sym, ap, ◌∙◌}
 use mathlib.Core.Logic.{⊎_elim}
 use native.Mathlib.Omega.{arith}
@@ -90,11 +90,11 @@ module _ (p : ℕ → Bool) (d : ℕ) (l : d < 128) where
       let low : bit_and (word p 64) (FULL - 2 ^ d) ≡ word (λ i. p i && not (eqb d i)) 64 =
       ap (λ (x : ℕ). bit_and (word p 64) (FULL - x)) (word_one d 64 h) ∙ word_less p (eqb d) in
       let high : word (λ i. p (64 + i)) 64 ≡ word (λ i. p (64 + i) && not (eqb d (64 + i))) 64 =
-      word_cong _ _ 64 (λ i m. sym (and_true (p (64 + i))) ∙ ap (λ (b : Bool). p (64 + i) && not b) (sym (not_high d i h))) in
+      word_cong _ _ 64 (λ i m. sym (and-true (p (64 + i))) ∙ ap (λ (b : Bool). p (64 + i) && not b) (sym (not_high d i h))) in
       rw (lt-ltb d 64 h) (λ t. record { low = low t; high = high t }))
       (λ h.
       let low : word p 64 ≡ word (λ i. p i && not (eqb d i)) 64 =
-      word_cong _ _ 64 (λ i m. sym (and_true (p i)) ∙ ap (λ (b : Bool). p i && not b) (sym (not_low d i h m))) in
+      word_cong _ _ 64 (λ i m. sym (and-true (p i)) ∙ ap (λ (b : Bool). p i && not b) (sym (not_low d i h m))) in
       let high : bit_and (word (λ i. p (64 + i)) 64) (FULL - 2 ^ (d - 64)) ≡ word (λ i. p (64 + i) && not (eqb d (64 + i))) 64 =
       ap (λ (x : ℕ). bit_and (word (λ i. p (64 + i)) 64) (FULL - x)) (high_one d h l) ∙ word_less (λ i. p (64 + i)) (λ i. eqb d (64 + i)) in
       rw (le-ltb d 64 h) (λ t. record { low = low t; high = high t }))

@@ -1,4 +1,6 @@
 // The map of free data blocks in two words: its bits set, cleared, counted and searched.
+#![tactic(auto)]
+
 ghost use Rattle.std.specs.Prelude.{◌≡◌, ℕ, ◌+◌, ◌%◌, ◌≤◌, ◌<◌, leb, length};
 ghost use Rattle.std.specs.Int.Count.{ones};
 ghost use Rattle.protocol.specs.Map.{map_by, free_count, same_map};

@@ -61,7 +61,7 @@ module _ (a : ℕ) (c : List ℕ) (s : Checked) (x : Examined c s) where
       record {
         refusal_is = sym none;
         count_is = own.counted ∙ rw (eq-eqb (make_refusal 2 c) 0 none) refl;
-        after_is = own.made-is ∙ sym (rw (← refusal_is, eq-eqb s.refusal 0 z));
+        after_is = own.made_is ∙ sym (rw (← refusal_is, eq-eqb s.refusal 0 z));
         within = y.within;
         listed = y.listed;
         whole = y.whole;

@@ -51,7 +51,7 @@ module _ (rs ts : List Run) (none : made 0 [] ts ≡ []) (a : ℕ) (c d : List �
   longer l = omega (arith, x.counted, both_long)
 
   same_made : d ≡ made_on card (made so.made [] (rs ++ ts)) c
-  same_made = x.made-is ∙ ap (λ (ss : List Store). made_on card ss c) (sym (runs_before so.made [] rs ts none made_front))
+  same_made = x.made_is ∙ ap (λ (ss : List Store). made_on card ss c) (sym (runs_before so.made [] rs ts none made_front))
 
   pub walk_nothing : flat ts ≡ [] → Walked (rs ++ ts) a c d so
   walk_nothing e =
@@ -102,7 +102,7 @@ module _ (rs ts : List Run) (none : made 0 [] ts ≡ []) (a : ℕ) (c d : List �
       let all = x.whole both-no.0 in
       let full : so.made ≡ length (flat rs) = omega (arith, below, all, x.counted) in
       let whole_is : d ≡ made_on card (flat rs) c =
-      x.made-is ∙ ap (λ (ss : List Store). made_on card ss c) (runs_covered so.made [] rs (omega arith)) in
+      x.made_is ∙ ap (λ (ss : List Store). made_on card ss c) (runs_covered so.made [] rs (omega arith)) in
       let next : z ≡ made_on card (flat ts) d = y.did.made ∙ ap (λ (ss : List Store). made_on card ss d) (runs_covered 1 [] ts (omega arith)) in
       let both = next ∙ ap (made_on card (flat ts)) whole_is ∙ sym (made_append card (flat rs) (flat ts) c) in
       let k : length (flat (rs ++ ts)) ≤ so.made + 1 = omega (arith, full, both_long) in
@@ -127,7 +127,7 @@ pub walked_went : (rs : List Run) (a : ℕ) (c d : List ℕ) (so : Walk) → Wal
 unfolding under_credit
 walked_went rs a c d so x =
     record {
-      did = record { made = x.made-is ∙ ap (λ (k : ℕ). made_on card (under_credit k [] rs) c) (sym (add-one so.made)); left = refl };
+      did = record { made = x.made_is ∙ ap (λ (k : ℕ). made_on card (under_credit k [] rs) c) (sym (add-one so.made)); left = refl };
       counted = x.counted;
     }
 

@@ -1,5 +1,7 @@
 // Card images in files: read, made new, upgraded, and recovered store by store, each store durable before the next. No contract can speak of a file's
 // bytes; so each store is made in memory too, only after the file has it, and the contracts speak of that.
+#![tactic(auto)]
+
 ghost use Rattle.std.specs.Prelude.{◌≡◌, true, List, ◌++◌, ℕ, ◌+◌, ◌≤◌, ◌<◌, length};
 ghost use Rattle.io.specs.Counts.{IsPrefixLen};
 ghost use Rattle.protocol.specs.Store.{Run};
@@ -20,7 +22,7 @@ pub fn buffer() -> [u8; 528513]
 }
 
 // What a read of a file came to: whether it failed, and how many bytes it put at the front of the buffer.
-#[derive(Drop)]
+#[derive(Clone, Copy)]
 pub struct Got {
     pub failed: bool,
     pub count: usize,
@@ -61,7 +63,7 @@ pub fn create(path: &[u8], card: &[u8]) -> bool {
 }
 
 // How far the stores have come: how many the list has so far, how many of them are made, and whether a write to the file failed.
-#[derive(Drop)]
+#[derive(Clone, Copy)]
 pub struct Walk {
     pub count: u64,
     pub made: u64,
@@ -151,7 +153,7 @@ fn walk_list(fd: i32, g: Geometry, card: &mut [u8], w: Window, allowance: u64) -
 }
 
 // What a recovery or an upgrade of a file came to: its refusal; the stores of its list and how many of them are made; whether a write failed.
-#[derive(Drop)]
+#[derive(Clone, Copy)]
 pub struct Repair {
     pub refusal: u8,
     pub count: u64,

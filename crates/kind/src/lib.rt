@@ -1,5 +1,7 @@
 // What kind of file a path leads to, asked before it is opened: the open of a FIFO waits until another program opens it too, and the bytes of
 // a device need not end.
+#![tactic(auto)]
+
 ghost use Rattle.std.specs.Prelude.{◌≡◌, ◌/◌, ◌%◌, ◌<◌, eqb, length, replicate};
 ghost use Rattle.libc.specs.Io.{Ended, Status};
 ghost use Rattle.numbers.specs.Bytes.{patch};
@@ -44,7 +46,7 @@ fn room() -> stat {
 }
 
 // What the system answers: 0 or -1, and at 0 the file's mode.
-#[derive(Drop)]
+#[derive(Clone, Copy)]
 struct Answer {
     status: i32,
     mode: u32,

@@ -1,4 +1,6 @@
 // Text and numbers in columns, a block's bytes as a listing, and recovery's list.
+#![tactic(auto)]
+
 mod list;
 mod marks;
 

@@ -51,7 +51,7 @@ module _ (c : List ℕ) (i : ℕ) (f : Fit) (o : Opened 2 2 c f) where
 
   module _ (z : f.refusal ≡ 0) (r : ℕ) (re : r ≡ card_refusal f.geometry c) where
     own : f.geometry ≡ geometry_of c
-    own = (o.framed z).geometry-is
+    own = (o.framed z).geometry_is
 
     refusal_is : r ≡ cached_refusal c
     unfolding cached_refusal

@@ -84,7 +84,7 @@ module _ (c : List ℕ) (f : Fit) (o : Opened 2 2 c f) where
 
   module _ (xs : List ℕ) (v : Verdict) (z : f.refusal ≡ 0) (s : Inspected f.geometry c xs v) where
     own : f.geometry ≡ geometry_of c
-    own = (o.framed z).geometry-is
+    own = (o.framed z).geometry_is
 
     damage_is : v.refusal ≡ state_refusal c
     unfolding state_refusal

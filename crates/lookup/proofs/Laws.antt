@@ -104,7 +104,7 @@ module _ (c : List ℕ) (n b : ℕ) (f : Fit) (o : Opened 2 2 c f) where
 
   module _ (z : f.refusal ≡ 0) (r : ℕ) (re : r ≡ disk_length f.geometry) where
     own_length : r ≡ disk_length (geometry_of c)
-    own_length = re ∙ ap disk_length (o.framed z).geometry-is
+    own_length = re ∙ ap disk_length (o.framed z).geometry_is
 
     pub find_no_disk : (n ≡ r → ⊥) → Refused 3 ≡ found_in c n b
     unfolding found_in length_refusal
@@ -120,7 +120,7 @@ module _ (c : List ℕ) (n b : ℕ) (f : Fit) (o : Opened 2 2 c f) where
     unfolding found_in sought_at length_refusal
     find_sought p y q =
         q
-        ∙ ap (λ (x : Geometry). found_by x c b (card_refusal x c)) (o.framed z).geometry-is
+        ∙ ap (λ (x : Geometry). found_by x c b (card_refusal x c)) (o.framed z).geometry_is
         ∙ ap (found_by (geometry_of c) c b)
         (or_else_next (card_refusal (geometry_of c) c) (fit_refusal 2 2 c) _ (sym z ∙ o.refusal_is)
         (or_else_next (card_refusal (geometry_of c) c) (length_refusal (geometry_of c) n) _

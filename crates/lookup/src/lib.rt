@@ -1,4 +1,6 @@
 // State, read, look and the list of what is cached: what a card and its disk hold, at every input, however damaged.
+#![tactic(auto)]
+
 ghost use Rattle.std.specs.Prelude.{◌≡◌, true, List, ℕ, ◌+◌, ◌≤◌, ◌<◌, length};
 ghost use Rattle.protocol.specs.Layout.{good_geometry, block_size};
 ghost use Rattle.protocol.specs.Recency.{is_arranged};
@@ -16,7 +18,7 @@ use ring::{Fit, Window};
 
 // Where a block lies: refused by checks 1 to 7, outside the disk, or at a place of the card or of the disk; with it B, if known, and on the card
 // the place of its entry.
-#[derive(Drop)]
+#[derive(Clone, Copy)]
 pub enum Found {
     Refused(u8),
     Outside(usize),
@@ -25,7 +27,7 @@ pub enum Found {
 }
 
 // What an entry caches: a block's number and whether it is modified, nothing, or refused by checks 1, 2 and 4 to 7.
-#[derive(Drop)]
+#[derive(Clone, Copy)]
 pub enum Cached {
     Block(u64, bool),
     Nothing,

@@ -1,6 +1,8 @@
 // A busy morning: a card of four data blocks that is full, saves of two blocks each, without room-making and with it. Each save tells which
 // blocks it evicted, in their order; each block's bytes are read again, wherever they lie; and the power fails in the evictions. Blocks of 512
 // bytes, sixteen on the disk, which holds ones.
+#![tactic(auto)]
+
 use lookup::{Cached, Found};
 use protocol::{Answer, Map, Mapped, Stored};
 
@@ -10,7 +12,7 @@ const AMPLE: u64 = 0xFFFF_FFFF_FFFF_FFFF;
 const NONE: u64 = 16;
 
 // What the station keeps beside the card: the map and the table of recency.
-#[derive(Drop)]
+#[derive(Clone, Copy)]
 struct Desk {
     map: Map,
     table: [u8; 128],

@@ -1,4 +1,6 @@
 // Big-endian numbers in byte slices, copies and fills.
+#![tactic(auto)]
+
 ghost use Rattle.std.specs.Prelude.{◌≡◌, ◌+◌, ◌≤◌, length, replicate};
 ghost use Rattle.numbers.specs.Bytes.{bytes_be, part, patch};
 ghost use Rattle.numbers.specs.Post.{Number};

@@ -108,7 +108,7 @@ module _ (c ns : List ℕ) (r : Saving) (f : Foreseen c ns r) (z : r.refusal ≡
   foreseen_passed =
       let bs : List ℕ = replicate (length ns * block_size (geometry_of c)) 0 in
       let ch : List ℕ = replicate (block_size (geometry_of c) / 8) 0 in
-      passed c (map_of c) ns bs ch (sym (f.comes-to.refusal_is bs ch (length-replicate _ 0) (zeros_fit (geometry_of c))) ∙ z)
+      passed c (map_of c) ns bs ch (sym (f.comes_to.refusal_is bs ch (length-replicate _ 0) (zeros_fit (geometry_of c))) ∙ z)
 
   pub foreseen_long : 128 ≤ length c
   foreseen_long = fitted_long (geometry_of c) c foreseen_passed.fitted

@@ -1,4 +1,6 @@
 // A save seen before it is made: what it would get and replace on a card's image, and the count of its stores. What is told comes from `foresee`.
+#![tactic(auto)]
+
 ghost use Rattle.std.specs.Prelude.{◌≤◌, length};
 ghost use Rattle.outlook.specs.Foreseen.{Foreseen};
 

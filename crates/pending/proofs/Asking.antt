@@ -165,7 +165,7 @@ module _ (c : List ℕ) (m : Map) (r : Pending) (b size room : ℕ) (xs : List �
           -- the free blocks are those of the map
           free_is : s.free ≡ length (free_blocks g c)
           free_is =
-              (x.stands z).free-is ∙ ap free_count ((x.stands z).map_is ∙ ap (λ (y : Geometry). map_by (is_marked y c)) same)
+              (x.stands z).free_is ∙ ap free_count ((x.stands z).map_is ∙ ap (λ (y : Geometry). map_by (is_marked y c)) same)
               ∙ search_count g c (subst (λ (y : Geometry). good_geometry y ≡ true) same ask_good)
 
           pub ask_full : (t : Standing) → s.free ≡ 0 → t.refusal ≡ 14 → Asked c m r b size room xs t

@@ -202,7 +202,7 @@ module _ (c : List ℕ) (m : Map) (r : Pending) (xs : List ℕ) (s : Standing) w
         let count : n ≡ stores_of (finish_work 2 c m r) =
         b ∙ ap (λ (i : ℕ). i + 1) (finish_finds.window.count ∙ ap (λ (g : Geometry). window_of g c) own) ∙ sym (runs_count (geometry_of c) c) in
         let answered = made_answer (finish_work 2 c m r) a 0 (sym none) refl n y count j in
-        let left = f.stands.currents-is ∙ ap (λ (g : Geometry). map_by (current_marked g c)) own ∙ sym (finish_map c m r none) in
+        let left = f.stands.currents_is ∙ ap (λ (g : Geometry). map_by (current_marked g c)) own ∙ sym (finish_map c m r none) in
         record {
           answers = o.0 ∙ answered;
           hands = o.1 ∙ made_map_lem (finish_work 2 c m r) a 0 (sym none) refl y c m s.currents answered left;

@@ -43,7 +43,7 @@ module _ (c : List ℕ) (m : Map) (r : Pending) (f : Fit) (o : Fitting 2 2 c f) 
     meet_framed = o.framed fz
 
     own : f.geometry ≡ geometry_of c
-    own = meet_framed.geometry-is
+    own = meet_framed.geometry_is
 
     fits : 0 ≡ fit_refusal 2 2 c
     fits = sym fz ∙ o.refusal_is
@@ -83,7 +83,7 @@ module _ (c : List ℕ) (m : Map) (r : Pending) (f : Fit) (o : Fitting 2 2 c f) 
           unfolding is_pending
           pending_is =
               told
-              ∙ (λ i. eqb (wo.tail i) r.tail && (eqb (wo.count i) r.count && (e.known z).matched-is i))
+              ∙ (λ i. eqb (wo.tail i) r.tail && (eqb (wo.count i) r.count && (e.known z).matched_is i))
               ∙ ap (λ (y : Geometry). eqb (tail_of c) r.tail && (eqb (window_of y c) r.count && is_matched y c)) own
 
           pub meet_other : (s : Standing) → not t ≡ true → s.refusal ≡ 18 → Met c m r xs s
@@ -135,13 +135,13 @@ module _ (c : List ℕ) (m : Map) (r : Pending) (f : Fit) (o : Fitting 2 2 c f) 
                           window = wo;
                           numbers = ring_numbers;
                           matches =
-                              sym (e.known z).matched-is
+                              sym (e.known z).matched_is
                               ∙ and_right (eqb w.count r.count) _ (and_right (eqb w.tail r.tail) _ (sym told ∙ not-false t h));
                         };
                         pending = sym pending_is ∙ not-false t h;
                         map_is = own_map ∙ (e.known z).map_is;
-                        free_is = (e.known z).free-is ∙ ap free_count (sym (own_map ∙ (e.known z).map_is));
-                        currents_is = (e.known z).currents-is;
+                        free_is = (e.known z).free_is ∙ ap free_count (sym (own_map ∙ (e.known z).map_is));
+                        currents_is = (e.known z).currents_is;
                       };
                 }
 
@@ -162,7 +162,7 @@ module _ (c : List ℕ) (f : Fit) (o : Fitting 2 2 c f) where
 
     refusal_is : k ≡ open_refusal 2 c
     unfolding open_refusal
-    refusal_is = or_else_next k (fit_refusal 2 2 c) _ (sym fz ∙ o.refusal_is) (e ∙ ap (λ (y : Geometry). card_refusal y c) open_framed.geometry-is)
+    refusal_is = or_else_next k (fit_refusal 2 2 c) _ (sym fz ∙ o.refusal_is) (e ∙ ap (λ (y : Geometry). card_refusal y c) open_framed.geometry_is)
 
     pub open_refused : (k ≡ 0 → ⊥) → RefusedOpen k ≡ opened c
     open_refused h = told_refused k refusal_is h
@@ -170,4 +170,4 @@ module _ (c : List ℕ) (f : Fit) (o : Fitting 2 2 c f) where
     pub open_given : k ≡ 0 → Is (record { tail = f.tail; count = 0 }) ≡ opened c
     unfolding opened
     open_given z =
-        rw (eq-eqb (open_refusal 2 c) 0 (sym refusal_is ∙ z)) (ap (λ (t : ℕ). Is (record { tail = t; count = 0 })) open_framed.tail-is)
+        rw (eq-eqb (open_refusal 2 c) 0 (sym refusal_is ∙ z)) (ap (λ (t : ℕ). Is (record { tail = t; count = 0 })) open_framed.tail_is_lem)

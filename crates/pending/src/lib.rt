@@ -1,4 +1,6 @@
 // A save block by block: opened on a settled card, put one block after the other, and finished. Between the calls the station holds the record.
+#![tactic(auto)]
+
 ghost use Rattle.std.specs.Prelude.{◌≡◌, true, ◌&&◌, List, ℕ, ◌+◌, ◌<◌, eqb, length, get_or};
 ghost use Rattle.protocol.specs.Below.{each_below};
 ghost use Rattle.protocol.specs.Entry.{switched};
@@ -16,13 +18,13 @@ use protocol::{Answer, Geometry, Map, Opened, Pending, Stored};
 use ring::Window;
 
 // A pending save, by the record that the station holds.
-#[derive(Drop)]
+#[derive(Clone, Copy)]
 pub struct Save {
     pub held: Pending,
 }
 
 // What a put hands back: its answer, the map, and the record of the save, the next one where the put is done.
-#[derive(Drop)]
+#[derive(Clone, Copy)]
 pub struct Put {
     pub answer: Answer,
     pub map: Map,
@@ -31,7 +33,7 @@ pub struct Put {
 
 // What put and finish go on from: their refusal, and where there is none the card's geometry and window, how many of its data blocks are free, and the
 // map of its current blocks alone.
-#[derive(Drop)]
+#[derive(Clone, Copy)]
 pub struct Standing {
     pub refusal: u8,
     pub geometry: Geometry,

@@ -1,4 +1,6 @@
 // The answers of the cache's calls as plain structs, and the map and the record as words that a station lends: what the C interface is made of.
+#![tactic(auto)]
+
 ghost use Rattle.std.specs.Prelude.{◌≡◌};
 ghost use Rattle.plain.specs.Plain.{plain_answer, plain_outcome, plain_place, plain_state, plain_entry, plain_map, plain_record, lent_record, record_after, other_map, lent_map, words_of, words_after};
 
@@ -7,7 +9,7 @@ use protocol::{Answer, Condition, Map, Mapped, Opened, Outcome, Pending, Reporte
 
 // kind 0 done, with the stores made; 1 cut; 2 refused, with the number
 #[repr(C)]
-#[derive(Drop)]
+#[derive(Clone, Copy)]
 pub struct TincaAnswer {
     pub kind: u32,
     pub refusal: u32,
@@ -16,7 +18,7 @@ pub struct TincaAnswer {
 
 // kind 0 on the card, 1 on the disk, at offset; 2 refused, with the number
 #[repr(C)]
-#[derive(Drop)]
+#[derive(Clone, Copy)]
 pub struct TincaPlace {
     pub kind: u32,
     pub refusal: u32,
@@ -26,7 +28,7 @@ pub struct TincaPlace {
 
 // kind 0 settled: in use, modified; 1 unsettled: undoable, window; 2 refused, with the number
 #[repr(C)]
-#[derive(Drop)]
+#[derive(Clone, Copy)]
 pub struct TincaState {
     pub kind: u32,
     pub refusal: u32,
@@ -40,7 +42,7 @@ pub struct TincaState {
 
 // kind 0 made: the map's two words; 2 refused, with the number
 #[repr(C)]
-#[derive(Drop)]
+#[derive(Clone, Copy)]
 pub struct TincaMap {
     pub kind: u32,
     pub refusal: u32,
@@ -50,7 +52,7 @@ pub struct TincaMap {
 
 // kind 0 open: the record's Tail and count; 2 refused, with the number
 #[repr(C)]
-#[derive(Drop)]
+#[derive(Clone, Copy)]
 pub struct TincaRecord {
     pub kind: u32,
     pub refusal: u32,
@@ -60,7 +62,7 @@ pub struct TincaRecord {
 
 // kind 0 cached: the block's number, modified 1 or 0; 1 nothing; 2 refused, with the number
 #[repr(C)]
-#[derive(Drop)]
+#[derive(Clone, Copy)]
 pub struct TincaEntry {
     pub kind: u32,
     pub refusal: u32,

@@ -41,7 +41,7 @@ module _ (c d : List ℕ) (m : Map) (arranged : Bool) (xs : List ℕ) (f : Fit) 
     unfolding pair_refusal
     past_fit t p =
         or_else_next t (fit_refusal 2 2 c) _ (sym z ∙ o.refusal_is)
-        (p ∙ ap (λ (y : Geometry). disk_refusal y d or_else card_refusal y c) (o.framed z).geometry-is)
+        (p ∙ ap (λ (y : Geometry). disk_refusal y d or_else card_refusal y c) (o.framed z).geometry_is)
 
     pub met_disk : (r : Basis) → (s ≡ 0 → ⊥) → r.refusal ≡ s → Met c d m arranged xs r
     met_disk r h q = given s r (of_pair s (past_fit s (or_else_first s (disk_refusal f.geometry d) _ e h)) h) h q
@@ -61,7 +61,7 @@ module _ (c d : List ℕ) (m : Map) (arranged : Bool) (xs : List ℕ) (f : Fit) 
         same_is : same_map m (map_of c) ≡ t
         unfolding map_of
         same_is =
-            ap (same_map m) (sym ((x.known w).map_is ∙ ap (λ (j : Geometry). map_by (is_marked j c)) (o.framed z).geometry-is)) ∙ sym k
+            ap (same_map m) (sym ((x.known w).map_is ∙ ap (λ (j : Geometry). map_by (is_marked j c)) (o.framed z).geometry_is)) ∙ sym k
 
         pub met_other : (r : Basis) → not t ≡ true → r.refusal ≡ 15 → Met c d m arranged xs r
         unfolding map_refusal
@@ -82,12 +82,12 @@ module _ (c d : List ℕ) (m : Map) (arranged : Bool) (xs : List ℕ) (f : Fit) 
               let own : m ≡ map_by (is_marked f.geometry c) = map_eq m v.map (sym k ∙ not-false t h) ∙ (x.known w).map_is in
               record {
                 refusal_is = past_map 0 (refuse_passed 16 arranged (not-false arranged l));
-                geometry_is = λ j. (o.framed z).geometry-is;
+                geometry_is = λ j. (o.framed z).geometry_is;
                 searchable = λ j. record {
                   indexed = (x.known w).indexed;
                   whole = sym x.refusal_is ∙ w;
-                  head = (o.framed z).head-is;
+                  head = (o.framed z).head_is_lem;
                   map_is = own;
-                  free_is = (x.known w).free-is ∙ ap free_count (sym own);
+                  free_is = (x.known w).free_is ∙ ap free_count (sym own);
                 };
               }

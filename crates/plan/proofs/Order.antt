@@ -166,7 +166,7 @@ module _ (g : Geometry) (c xs : List ℕ) (m : Map) (ns : List ℕ) (size room :
     pub examined_passed : (r : ℕ) → not t ≡ false → ((y : List ℕ) → v.free ≡ free_count (map_by (is_marked g y)) → r ≡ sized_refusal g y ns size room)
         → Examined g c m ns size room xs r
     examined_passed r k s = record {
-      refusal_is = past_card r (or_else_next r _ _ (refuse_passed 15 _ (same_is ∙ not-false t k)) (s c (h.known z).free-is));
+      refusal_is = past_card r (or_else_next r _ _ (refuse_passed 15 _ (same_is ∙ not-false t k)) (s c (h.known z).free_is));
       indexed = λ y. (h.known z).indexed;
       map_is = λ y. map_eq m v.map (sym e ∙ not-false t k) ∙ (h.known z).map_is;
     }
@@ -186,7 +186,7 @@ module _ (c : List ℕ) (m : Map) (ns : List ℕ) (size room : ℕ) (xs : List �
     refusal_of_lem : (bs ch : List ℕ) → length bs ≡ size → choice_room ch ≡ room → r ≡ commit_refusal 2 c m ns bs ch
     unfolding commit_refusal map_refusal map_of sized_refusal
     refusal_of_lem bs ch l k =
-        let q = (o.framed z).geometry-is in
+        let q = (o.framed z).geometry_is in
         let good = ap good_geometry (sym q) ∙ (o.framed z).fitted.good in
         or_else_next r (fit_refusal 2 2 c) _ (sym z ∙ o.refusal_is)
         (x.refusal_is
@@ -215,11 +215,11 @@ module _ (c : List ℕ) (m : Map) (ns : List ℕ) (size room : ℕ) (xs : List �
 
       findable_of : Findable f.geometry c f.head xs m ns
       findable_of =
-          let q : f.geometry ≡ geometry_of c = (o.framed z).geometry-is in
+          let q : f.geometry ≡ geometry_of c = (o.framed z).geometry_is in
           record {
             plannable = record {
               fitted = (x.indexed y).fitted;
-              tail = passed_tail c m ns bytes quiet f.head none (o.framed z).head-is;
+              tail = passed_tail c m ns bytes quiet f.head none (o.framed z).head_is_lem;
               map_is = x.map_is y;
               room =
                   rw q
@@ -227,7 +227,7 @@ module _ (c : List ℕ) (m : Map) (ns : List ℕ) (size room : ℕ) (xs : List �
                   (or_else_none (refuse 11 (numbers_apart ns)) _ (or_else_none (refuse 10 (numbers_fit (geometry_of c) ns)) _ late).1).1);
               unused = rw q (unused_room (passed c m ns bytes quiet none));
             };
-            head = (o.framed z).head-is;
+            head = (o.framed z).head_is_lem;
             indexed = x.indexed y;
             numbers = rw q (refuse_none 10 _ (omega arith) (or_else_none (refuse 10 (numbers_fit (geometry_of c) ns)) _ late).0);
           }
@@ -235,7 +235,7 @@ module _ (c : List ℕ) (m : Map) (ns : List ℕ) (size room : ℕ) (xs : List �
     pub admit_examined : Admission c m ns size room xs (record { refusal = r; geometry = f.geometry; head = f.head })
     admit_examined = record {
       refusal_is = refusal_of_lem;
-      geometry_is = λ y. (o.framed z).geometry-is;
+      geometry_is = λ y. (o.framed z).geometry_is;
       findable = findable_of;
     }
 
@@ -258,7 +258,7 @@ module _ (c : List ℕ) (m : Map) (ns : List ℕ) (size : ℕ) (xs : List ℕ) (
   pub prepared_planned : (z : a.refusal ≡ 0) (es ps qs : List ℕ) (y : Map) → Planned a.geometry c ns es ps qs y
       → Prepared c m ns size (record { refusal = 0; plan = record { entries = es; previous = ps; blocks = qs } })
   prepared_planned z es ps qs y p =
-      let w = subst (λ (k : Geometry). Planned k c ns es ps qs y) (x.geometry-is z) p in
+      let w = subst (λ (k : Geometry). Planned k c ns es ps qs y) (x.geometry_is z) p in
       record {
         refusal_is = λ bs ch l k. sym z ∙ prepared_refusal bs ch l k;
         entries = λ v. w.entries;

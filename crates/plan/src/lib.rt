@@ -1,4 +1,6 @@
 // The plan of a commit, from the card at entry: its own refusals, and for each block its entry, its previous and its new data block.
+#![tactic(auto)]
+
 ghost use Rattle.std.specs.Prelude.{◌≡◌, Bool, true, List, ℕ, ◌+◌, ◌*◌, ◌/◌, ◌%◌, ◌≤◌, ◌<◌, length};
 ghost use Rattle.protocol.specs.Below.{around};
 ghost use Rattle.protocol.specs.Layout.{good_geometry, block_size};
@@ -151,7 +153,7 @@ pub fn next_unused(g: Geometry, card: &[u8], start: usize, from: usize) -> usize
 
 // Where one block of a commit is cached: its entry's place, 255 where it is not; and what a commit of it replaces: its data block, with 128 added
 // where it is modified, and 256 where it is not cached.
-#[derive(Drop)]
+#[derive(Clone, Copy)]
 pub struct Home {
     pub entry: u8,
     pub previous: u16,
@@ -287,7 +289,7 @@ fn examine(
 
 // What a commit is told before it is planned: its refusal, and where there is none the card's geometry and Head. The byte stands last: before the
 // geometry it makes the compiler copy the struct a byte off its fields' places, and wait for what was just stored there.
-#[derive(Drop)]
+#[derive(Clone, Copy)]
 pub struct Admitted {
     pub geometry: Geometry,
     pub head: u64,
@@ -324,7 +326,7 @@ pub fn admit(
 }
 
 // What a call on card and disk goes on from: its refusal, and where there is none the card's geometry, its Head and how many data blocks are free.
-#[derive(Drop)]
+#[derive(Clone, Copy)]
 pub struct Basis {
     pub refusal: u8,
     pub geometry: Geometry,
@@ -399,7 +401,7 @@ pub fn plan_of(
 }
 
 // A plan as a whole, for whoever shows it.
-#[derive(Drop)]
+#[derive(Clone, Copy)]
 pub struct Plan {
     pub entries: [u8; 128],
     pub previous: [u16; 128],
@@ -407,7 +409,7 @@ pub struct Plan {
 }
 
 // What a commit comes to: refused, or planned.
-#[derive(Drop)]
+#[derive(Clone, Copy)]
 pub struct Saving {
     pub refusal: u8,
     pub plan: Plan,

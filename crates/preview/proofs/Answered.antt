@@ -91,7 +91,7 @@ module _ (c : List ℕ) (m : Map) (ns bs out : List ℕ) (size : ℕ) (e : size 
     pub preview_counts : (good_geometry a.geometry ≡ true) × (length ns < a.geometry.slots)
     unfolding quiet
     preview_counts =
-        let q = x.geometry-is z in
+        let q = x.geometry_is z in
         let v = passed c m ns bs quiet (sym (refusal_same c m ns bs out quiet told-length (quiet_fits c)) ∙ none) in
         let l : Limits (geometry_of c) = limits (geometry_of c) v.fitted.good in
         rw q (v.fitted.good, omega (arith, v.count))
@@ -109,7 +109,7 @@ module _ (c : List ℕ) (m : Map) (ns bs out : List ℕ) (size : ℕ) (e : size 
       unfolding preview_answer blocks_after
       preview_done n found told t k w h =
           let g = a.geometry in
-          let q = x.geometry-is z in
+          let q = x.geometry_is z in
           let f = eq-eqb _ _ none in
           let long = length ns in
           let enough = enough_free g c preview_good m ready.map_is long ready.room in

@@ -1,4 +1,6 @@
 // The preview of a commit: what it would answer, and into which data block it would put each of its blocks. Nothing is stored.
+#![tactic(auto)]
+
 ghost use Rattle.std.specs.Prelude.{◌≡◌, cond, ◌≤◌, length, eqb};
 ghost use Rattle.protocol.specs.Preview.{preview_answer, blocks_after};
 ghost use Rattle.preview.specs.ToldBlocks.{ToldBlocks};

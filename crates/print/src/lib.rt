@@ -1,4 +1,6 @@
 // Prints the answers of the cache's calls to standard output, for the programs that show them.
+#![tactic(auto)]
+
 use libc::STDOUT_FILENO;
 use protocol::{Answer, Condition, Held, Outcome, Reported};
 

@@ -173,7 +173,7 @@ put_few {g} {r} {c} x w s p b bs ch a z =
     let st = (blocks_along (b ∷ []) bs x.inv (one x p b bs q) 1 (omega arith)).during a ch in
     let few = undoables_put (b ∷ []) bs x.inv (one x p b bs q) st.mid st.order in
     subst (λ (y : Geometry). undoables g (made_on card (made a ch (block_runs y c (b ∷ []) bs 0)) c) ≤ undoables g c + 1) (sym (geometry_is x.inv))
-    (omega (arith, few, st.order.a-low))
+    (omega (arith, few, st.order.a_low))
 
 -- a finish that is cut has switched some roles, which leaves every entry's kind
 finish_few : {g : Geometry} {r : Reckoned} {c d : List ℕ} → Reck g r c d → (w : ℕ) (s : Map) (p : Pending) (ch : List ℕ) (a : ℕ)
@@ -286,8 +286,8 @@ module _ {g : Geometry} {n : ℕ} (m : Media) (x : Few g n m.on_card) (w : ℕ) 
 parts_kept : {g : Geometry} {n : ℕ} (qs : List Request) (m : Media) → InParts qs → Few g n m.on_card → Few g (begun qs (answers qs m) n) (run qs m).on_card
 unfolding begun answers run
 parts_kept [] m e x = x
-parts_kept (q ∷ qs) m e x =
-    parts_kept qs (after q m) e.1 (unfold answer_to after in part_kept m x q.version q.map q.allowance q.call e.0)
+parts_kept {n = n} (q ∷ qs) m e x =
+    parts_kept {n = begun_by q.call (answer_to q m) n} qs (after q m) e.1 (unfold answer_to after in part_kept m x q.version q.map q.allowance q.call e.0)
 
 pub bounded_in_parts : BoundedInParts
 unfolding open_refusal

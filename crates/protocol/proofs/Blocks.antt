@@ -334,8 +334,8 @@ module _ {g : Geometry} {row : ℕ → List ℕ} {c d : List ℕ} (ns bs : List 
             (λ k. k)
             (λ w.
             absurd
-            (un w.0 (omega (arith, w.1, o.h-low))
-            (e_own w.0 i (omega (arith, w.1, o.h-low, o.a-low)) l (used_number g c i u ∙ ap some (sym w.2)))))
+            (un w.0 (omega (arith, w.1, o.h_low))
+            (e_own w.0 i (omega (arith, w.1, o.h_low, o.a_low)) l (used_number g c i u ∙ ap some (sym w.2)))))
             (in_window_lem x.number e))
             (still_window x.number)
 
@@ -357,7 +357,7 @@ module _ {g : Geometry} {row : ℕ → List ℕ} {c d : List ℕ} (ns bs : List 
         go (inl w) =
             let j = w.0 in
             subst (λ (z : ℕ). undone_kind (kind_at g c' z) ≡ undone_kind (kind_at g c z)) w.2
-            (ap undone_kind (kind_logged j w.1) ∙ was j (entered j (omega (arith, w.1, o.a-low))))
+            (ap undone_kind (kind_logged j w.1) ∙ was j (entered j (omega (arith, w.1, o.a_low))))
           where
             was : (j : ℕ) → Entered j → undone_kind (logKind j) ≡ undone_kind (kind_at g c (entry_found g c ns j))
             was j (fresh h u e q) =
@@ -391,7 +391,7 @@ module _ {g : Geometry} {row : ℕ → List ℕ} {c d : List ℕ} (ns bs : List 
         go : ((j : ℕ) × (j < a) × (entry_found g c ns j ≡ i)) ⊎ ((j : ℕ) → j < a → entry_found g c ns j ≡ i → ⊥) → ⊥
         go (inl w) =
             let j = w.0 in
-            let lj : j < length ns = omega (arith, w.1, o.a-low) in
+            let lj : j < length ns = omega (arith, w.1, o.a_low) in
             let f : previous_of (old_block g c ns j) ≡ some (new_block g c k) =
             sym (ap kind_previous (kind_logged j w.1)) ∙ ap (λ (z : ℕ). kind_previous (kind_at g c' z)) w.2 ∙ e in
             q_free k hi (entry_found g c ns j) (e_below j lj) (o_current j (new_block g c k) lj f)
@@ -413,10 +413,10 @@ module _ {g : Geometry} {row : ℕ → List ℕ} {c d : List ℕ} (ns bs : List 
           numbers_were = λ j l. en j (omega (arith, m.window_is)) ∙ m.numbers_were j l;
           numbers_are = λ j l. en (window_of g c + j) (omega (arith, m.window_is)) ∙ m.numbers_are j l;
           others = λ i l un. ee i l ∙ m.others i l un;
-          loggeds = λ j l. ee (entry_found g c ns j) (e_below j (omega (arith, o.a-low))) ∙ m.loggeds j l;
+          loggeds = λ j l. ee (entry_found g c ns j) (e_below j (omega (arith, o.a_low))) ∙ m.loggeds j l;
           blocks = λ j l.
-              eb (new_block g c j) (q_below j (omega (arith, o.a-low)))
-              (λ k lo hi e. let z : k ≡ j = q_apart k j hi (omega (arith, o.a-low)) e in omega arith)
+              eb (new_block g c j) (q_below j (omega (arith, o.a_low)))
+              (λ k lo hi e. let z : k ≡ j = q_apart k j hi (omega (arith, o.a_low)) e in omega arith)
               ∙ m.blocks j l;
           untouched = λ q l un. eb q l (λ j lo hi e. un j hi e) ∙ m.untouched q l un;
         }

@@ -49,7 +49,7 @@ not_refused : (v a : ℕ) (c : List ℕ) (s : Map) → recover_refusal v c s ≡
     → (after_on card a (recover_work v c s) c ≡ made_on card (take a (flat (to_recover c))) c) × (made_by a (recover_work v c s) ≡ take a (flat (to_recover c)))
 unfolding after_on made_by recover_work to_recover
 not_refused v a c s z =
-    let e = (singles (recover_fit v c s z)).made-first a [] in
+    let e = (singles (recover_fit v c s z)).made_first a [] in
     let y = eq-eqb _ _ z in
     (rw y (ap (λ (ss : List Store). made_on card ss c) e), rw y e)
 
@@ -133,7 +133,7 @@ module _ {g : Geometry} {w : ℕ} {rs : List Run} {m : Media} (x : Going g w rs 
       let ss = take a (flat (to_recover c)) in
       let e : after_on card a (recover_work w c (map_of c)) c ≡ made_on card ss c = (not_refused w a c (map_of c) accepted).0 in
       let same : made a [] (recover_runs g c) ≡ ss =
-      (singles whole_fit).made-first a [] ∙ ap (λ (qs : List Run). take a (flat qs)) (x.list ∙ sym listed) in
+      (singles whole_fit).made_first a [] ∙ ap (λ (qs : List Run). take a (flat qs)) (x.list ∙ sym listed) in
       let on = onward a c whole_fit in
       let here : made_on card (take a (flat (recover_runs g c))) c ≡ after_on card a (recover_work w c (map_of c)) c =
       ap (λ (qs : List Run). made_on card (take a (flat qs)) c) (x.list ∙ sym listed) ∙ sym e in

@@ -193,7 +193,7 @@ module _ {g : Geometry} {row : ℕ → List ℕ} {c d : List ℕ} (ns bs : List 
     pub few : undoables g c' ≤ length ns
 
   few_put : {a h : ℕ} {c' d' : List ℕ} → Mid ns bs v puts a h c' d' → Order ns bs v puts a h → undoables g c' ≤ length ns
-  few_put m o = omega (arith, undoables_put ns bs v puts m o, undoables_settled g c p.settled, o.a-low)
+  few_put m o = omega (arith, undoables_put ns bs v puts m o, undoables_settled g c p.settled, o.a_low)
 
   put_cut : {c' d' : List ℕ} → Stage ns bs v puts (length ns) c' d' → Cut c' d'
   put_cut s =

@@ -45,7 +45,7 @@ module _ {g : Geometry} {row : ℕ → List ℕ} {c d : List ℕ} (ns bs : List 
 
   module _ {ms xs : List ℕ} (t : Told g ms xs c) {a h : ℕ} {c' d' : List ℕ} (o : Order ns bs v p a h) (m : Mid ns bs v p a h c' d') where
     few : h ≤ length ns
-    few = omega (arith, o.h-low, o.a-low)
+    few = omega (arith, o.h_low, o.a_low)
 
     long : length (ms ++ take h ns) ≡ length ms + h
     long = length-append ms (take h ns) ∙ omega (arith, length-take-le h ns few)
@@ -62,7 +62,7 @@ module _ {g : Geometry} {row : ℕ → List ℕ} {c d : List ℕ} (ns bs : List 
         number = sym (ap (λ (x : Entry). x.number) is ∙ logged_number k) ∙ n
 
         low : k < length ns
-        low = omega (arith, o.a-low)
+        low = omega (arith, o.a_low)
 
         go : (j < length ms) ⊎ (length ms ≤ j) → block_at g c' (entry_at g c' i).current ≡ data_of g (xs ++ take (h * block_size g) bs) j
         go (inl s) = absurd (apart t j k s low (sym (number ∙ number_before ms (take h ns) j s)))

@@ -145,7 +145,7 @@ module _ (g : Geometry) (fit : Limits g) (b : ℕ) (bs : List ℕ) where
   sectors_confined : Confined disk (disk_place g b) (block_size g) (sectors g b bs).stores
   unfolding sectors
   sectors_confined =
-      subst (λ (n : ℕ). Confined disk (disk_place g b) n (units disk 512 (block_size g / 512) (disk_place g b) bs)) (whole g fit).in-sectors
+      subst (λ (n : ℕ). Confined disk (disk_place g b) n (units disk 512 (block_size g / 512) (disk_place g b) bs)) (whole g fit).in_sectors
       (units_confined disk 512 (block_size g / 512) (disk_place g b) bs)
 
   -- whichever of its stores are made, no other disk block has changed
@@ -166,4 +166,4 @@ module _ (g : Geometry) (fit : Limits g) (b : ℕ) (bs : List ℕ) where
   unfolding sectors disk_block
   sectors_stored d n e l =
       let h : disk_place g b + length bs ≤ length d = omega (arith, in_disk_lem g b l) in
-      ap (part _ (disk_place g b)) (sym n) ∙ units_stored disk 512 (block_size g / 512) (disk_place g b) bs d ((whole g fit).in-sectors ∙ sym n) h
+      ap (part _ (disk_place g b)) (sym n) ∙ units_stored disk 512 (block_size g / 512) (disk_place g b) bs d ((whole g fit).in_sectors ∙ sym n) h

@@ -441,7 +441,7 @@ singles_more s rs x =
     firsts (suc a) ch =
         let k : 1 ≤ suc a = omega arith in
         let e : suc a - 1 ≡ a = omega arith in
-        rw (le-leb 1 (suc a) k) (ap (λ (n : ℕ). s ∷ made n ch rs) e ∙ ap (λ (ss : List Store). s ∷ ss) (x.made-first a ch))
+        rw (le-leb 1 (suc a) k) (ap (λ (n : ℕ). s ∷ made n ch rs) e ∙ ap (λ (ss : List Store). s ∷ ss) (x.made_first a ch))
 
     rests : (a : ℕ) → flat (drop a (record { unordered = false; stores = s ∷ [] } ∷ rs)) ≡ drop a (s ∷ flat rs)
     rests zero = refl

@@ -68,11 +68,11 @@ module _ {g : Geometry} {c c' : List ℕ} {r : Region} (tb : tail_of c < g.slots
   unfolding window_of
   number_outside j l =
       let short : window_length g.slots (tail_of c) (head_of c) < g.slots = window_short g.slots (tail_of c) (head_of c) tb hb in
-      number_kept g c c' (head_kept x k.calm-head) (tail_kept x k.calm-tail) j
-      (slot_kept x (around g.slots (tail_of c) j) (around_below g.slots (tail_of c) j tb (omega arith)) (k.calm-slot _))
+      number_kept g c c' (head_kept x k.calm_head) (tail_kept x k.calm_tail) j
+      (slot_kept x (around g.slots (tail_of c) j) (around_below g.slots (tail_of c) j tb (omega arith)) (k.calm_slot _))
 
   pub window_outside : (b : ℕ) → in_window g c' b ≡ in_window g c b
-  window_outside = in_window_kept g c c' (head_kept x k.calm-head) (tail_kept x k.calm-tail) number_outside
+  window_outside = in_window_kept g c c' (head_kept x k.calm_head) (tail_kept x k.calm_tail) number_outside
 
 module _ {g : Geometry} {c c' d : List ℕ} (s : Shape g c d) where
   pub number_calm : {r : Region} → Changed g r c c' → Calm g r → (j : ℕ) → j < window_of g c → window_number g c' j ≡ window_number g c j
@@ -104,7 +104,7 @@ module _ {g : Geometry} {c c' d : List ℕ} (s : Shape g c d) where
       → ((i : ℕ) → i < g.blocks → good_entry (version_of c) g.blocks g.disk (entry_at g c' i) ≡ true)
       → Shape g c' d
   shape_calm {r} x k good =
-      shape_frame (header_kept x k.calm-header) x.sized (head_kept x k.calm-head) (tail_kept x k.calm-tail) (number_calm x k) good
+      shape_frame (header_kept x k.calm_header) x.sized (head_kept x k.calm_head) (tail_kept x k.calm_tail) (number_calm x k) good
 
 -- the window leaves one slot at least, and Head stands after its last
 pub window_below : {g : Geometry} {row : ℕ → List ℕ} {c d : List ℕ} → Inv g row c d → window_of g c < g.slots

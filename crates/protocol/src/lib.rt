@@ -1,10 +1,11 @@
 // The types of the cache's calls. What the calls mean stands in specs/, in the order of document 01; no code is here.
+#![tactic(auto)]
 
 // An entry's previous block where the block number was not cached before: no data block has this number.
 pub const FRESH: u32 = 0xFFFF_FFFF;
 
 // The geometry of a card and its disk: blocks of two to the power k bytes, the ring's slots, the card's data blocks, the disk's blocks.
-#[derive(Drop)]
+#[derive(Clone, Copy)]
 pub struct Geometry {
     pub k: u64,
     pub slots: u64,
@@ -13,7 +14,7 @@ pub struct Geometry {
 }
 
 // An entry's four fields: flag byte, disk block number, previous and current data block.
-#[derive(Drop)]
+#[derive(Clone, Copy)]
 pub struct Entry {
     pub flags: u8,
     pub number: u64,
@@ -22,7 +23,7 @@ pub struct Entry {
 }
 
 // The answer to a storing call: all its stores were made, and how many; the power failed before the last one; or a refusal's number.
-#[derive(Drop)]
+#[derive(Clone, Copy)]
 pub enum Answer {
     Done(u64),
     Cut,
@@ -30,63 +31,63 @@ pub enum Answer {
 }
 
 // A map of the card's data blocks, a bit for each: bit d mod 64, from the lowest, of word d / 64 is set unless data block d is free.
-#[derive(Drop)]
+#[derive(Clone, Copy)]
 pub struct Map {
     pub low: u64,
     pub high: u64,
 }
 
 // The map that a card gives, or a refusal's number.
-#[derive(Drop)]
+#[derive(Clone, Copy)]
 pub enum Mapped {
     Is(Map),
     Refused(u8),
 }
 
 // The record of a pending save: Tail's position and how many blocks were put.
-#[derive(Drop)]
+#[derive(Clone, Copy)]
 pub struct Pending {
     pub tail: u64,
     pub count: u64,
 }
 
 // The record of a save that was opened, or a refusal's number.
-#[derive(Drop)]
+#[derive(Clone, Copy)]
 pub enum Opened {
     Is(Pending),
     Refused(u8),
 }
 
 // What a storing call hands back: its answer, and the map.
-#[derive(Drop)]
+#[derive(Clone, Copy)]
 pub struct Stored {
     pub answer: Answer,
     pub map: Map,
 }
 
 // The answer to a call without a count: done, or a refusal's number.
-#[derive(Drop)]
+#[derive(Clone, Copy)]
 pub enum Outcome {
     Done,
     Refused(u8),
 }
 
 // A single entry as it was read: its fields, or a refusal's number.
-#[derive(Drop)]
+#[derive(Clone, Copy)]
 pub enum Decoded {
     Fields(Entry),
     Refused(u8),
 }
 
 // A single entry as it was written: sixteen bytes, all zero where it was refused.
-#[derive(Drop)]
+#[derive(Clone, Copy)]
 pub struct Encoded {
     pub outcome: Outcome,
     pub bytes: [u8; 16],
 }
 
 // Which medium held a block that was read.
-#[derive(Drop)]
+#[derive(Clone, Copy)]
 pub enum Held {
     Card,
     Disk,
@@ -94,21 +95,21 @@ pub enum Held {
 }
 
 // A card's condition: settled, with its in-use and modified entries, or unsettled, with its undoable entries and the window's slots.
-#[derive(Drop)]
+#[derive(Clone, Copy)]
 pub enum Condition {
     Settled { used: u64, modified: u64 },
     Unsettled { undoable: u64, window: u64 },
 }
 
 // The geometry together with the condition.
-#[derive(Drop)]
+#[derive(Clone, Copy)]
 pub struct State {
     pub geometry: Geometry,
     pub condition: Condition,
 }
 
 // A card's state, or a refusal's number.
-#[derive(Drop)]
+#[derive(Clone, Copy)]
 pub enum Reported {
     Is(State),
     Refused(u8),

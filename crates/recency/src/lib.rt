@@ -1,11 +1,13 @@
 // The table of recency: its check, one number or several moved to its front, and the table at start.
+#![tactic(auto)]
+
 ghost use Rattle.std.specs.Prelude.{◌≡◌, true, ◌++◌, ◌≤◌, ◌<◌, length, get_or, drop};
 ghost use Rattle.protocol.specs.Below.{all_below};
 ghost use Rattle.protocol.specs.Recency.{is_arranged, to_front, all_to_front, ascending};
 ghost use Rattle.recency.specs.Moved.{Marks, Flags, is_marked, Packed, latest, Places};
 
 // The station's table of recency: the numbers 0 to 127, each once, for the entries of these places, most recent first.
-#[derive(Drop)]
+#[derive(Clone, Copy)]
 pub struct Recency {
     pub order: [u8; 128],
 }

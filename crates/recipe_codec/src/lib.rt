@@ -1,4 +1,6 @@
 // A recipe's record in bytes: written from its fields, and looked at where one is said to stand.
+#![tactic(auto)]
+
 ghost use Rattle.std.specs.Prelude.{◌≡◌, true, ◌++◌, ◌+◌, ◌*◌, ◌≤◌, length};
 ghost use Rattle.numbers.specs.Bytes.{bytes_be, patch};
 ghost use Rattle.protocol.specs.Below.{each_below};

@@ -91,7 +91,7 @@ module _ (c : List ℕ) (r : ℕ) (f : Fit) (o : Opened 2 2 c f) where
 
   module _ (z : f.refusal ≡ 0) where
     own : f.geometry ≡ geometry_of c
-    own = (o.framed z).geometry-is
+    own = (o.framed z).geometry_is
 
     pub ranged_far : in_range f.geometry r ≡ false → Ranged c r (record { from = 0; bytes = 0 })
     ranged_far far =
@@ -115,7 +115,7 @@ module _ (c : List ℕ) (r : ℕ) (f : Fit) (o : Opened 2 2 c f) where
           record {
             from = λ y e. place_is ∙ ap (λ (g : Geometry). disk_place g (4 * r)) own;
             bytes = λ y e. ap (λ (k : ℕ). 4 * k) (es ∙ ap block_size own);
-            most = (omega (arith, place_is, m.disk-data), omega (arith, m.size));
+            most = (omega (arith, place_is, m.disk_data), omega (arith, m.size));
           }
 
 pub first_small : (r b : ℕ) (g : Geometry) → good_geometry g ≡ true → First r b → in_range g r ≡ true → b ≤ 65536

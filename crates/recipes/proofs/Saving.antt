@@ -60,7 +60,7 @@ module _ (c d : List ℕ) (r : ℕ) (x : Recipe) (f : Fit) (o : Opened 2 2 c f) 
 
   module _ (z : f.refusal ≡ 0) where
     own : f.geometry ≡ geometry_of c
-    own = (o.framed z).geometry-is
+    own = (o.framed z).geometry_is
 
     -- 19, or 3 to 7 before it
     pub asked_bad : (y : ℕ) → y ≡ pair_refusal 2 c d or_else 19 → in_range f.geometry r && good_recipe x ≡ false
@@ -252,7 +252,7 @@ module _ (c d : List ℕ) (r : ℕ) (name : List ℕ) (k : ℕ) (is gs : List �
   counts z = ap (λ (j : ℕ). recipe_from name j is gs) (good X (save_own (geometry_of c) r X (q.passed z)).1).ingredients
 
   pub save_allowed : o.refusal ≡ 0 → (good_geometry o.geometry ≡ true) × (save_refusal o.geometry r (recipe_from name (length is) is gs) ≡ 0)
-  save_allowed z = (q.good z, (λ t. save_refusal (q.geometry-is z t) r (counts z t)) ∙ q.passed z)
+  save_allowed z = (q.good z, (λ t. save_refusal (q.geometry_is z t) r (counts z t)) ∙ q.passed z)
 
   module _ (a : ℕ) (m : Map) (t ch : List ℕ) where
     pub save_stops : (o.refusal ≡ 0 → ⊥) → (s : Stored) → (s.answer ≡ Refused o.refusal) × (s.map ≡ handed_on (Refused o.refusal) m m)
@@ -267,7 +267,7 @@ module _ (c d : List ℕ) (r : ℕ) (name : List ℕ) (k : ℕ) (is gs : List �
     unfolding save_work table_after_recipe
     save_commits z c' d' t' s p =
         guard_passes a c d m t _ _ _ ch (q.passed z) c' d' t' s
-        (commits a c d m t _ _ _ _ ch c' d' t' s (λ i. saved_numbers (q.geometry-is z i) r (counts z i)) (λ i. saved_bytes (q.geometry-is z i) (counts z i)) p)
+        (commits a c d m t _ _ _ _ ch c' d' t' s (λ i. saved_numbers (q.geometry_is z i) r (counts z i)) (λ i. saved_bytes (q.geometry_is z i) (counts z i)) p)
 
 -- what a remove asks
 abbrev pub Refuses : List ℕ → List ℕ → ℕ → ℕ → Type 0

@@ -1,4 +1,6 @@
 // Recipes above the cache: save, remove and fetch, over the room-making commit and what a read tells. No byte of the card is looked at here.
+#![tactic(auto)]
+
 ghost use Rattle.std.specs.Prelude.{◌≡◌, true, List, ℕ, ◌+◌, ◌*◌, ◌≤◌, ◌<◌, length, replicate};
 ghost use Rattle.numbers.specs.Bytes.{part, patch};
 ghost use Rattle.protocol.specs.Layout.{good_geometry, geometry_of, block_size, disk_place};
@@ -32,7 +34,7 @@ fn in_range(g: Geometry, recipe: u64) -> bool
 }
 
 // How many blocks a record fills, and their bytes.
-#[derive(Drop)]
+#[derive(Clone, Copy)]
 pub struct Fill {
     pub blocks: usize,
     pub bytes: usize,
@@ -62,7 +64,7 @@ fn fill_of(size: usize, n: usize) -> Fill
 }
 
 // What a save asks before its commit: a refusal, or none and the geometry.
-#[derive(Drop)]
+#[derive(Clone, Copy)]
 pub struct Own {
     pub refusal: u8,
     pub geometry: Geometry,
@@ -193,7 +195,7 @@ pub fn save(
 }
 
 // Where a recipe's four blocks stand on the disk.
-#[derive(Drop)]
+#[derive(Clone, Copy)]
 pub struct Span {
     pub from: usize,
     pub bytes: usize,
@@ -232,7 +234,7 @@ fn window<'a>(card: &[u8], disk: &'a [u8], recipe: u64) -> &'a [u8]
 }
 
 // Where a recipe's blocks lie: refused, or found, with B.
-#[derive(Drop)]
+#[derive(Clone, Copy)]
 pub struct Place {
     pub refusal: u8,
     pub size: usize,
@@ -358,7 +360,7 @@ pub fn fetch<'a>(card: &'a [u8], disk: &'a [u8], recipe: u64, out: &mut [u8]) ->
 }
 
 // What a remove comes to: refused, or to be made, with B.
-#[derive(Drop)]
+#[derive(Clone, Copy)]
 pub struct Removal {
     pub refusal: u8,
     pub size: usize,

@@ -2,6 +2,8 @@
 // an allowance of one store, again and again, until a recovery answers done. Counted are these recoveries and the stores that they make together:
 // for n blocks at most n + 1 each. Then the three blocks are read: all as before the commit, all as it stored them, or torn. Blocks of 512 bytes,
 // eight slots, eight data blocks, sixteen disk blocks.
+#![tactic(auto)]
+
 ghost use Rattle.std.specs.Prelude.{◌+◌, ◌≤◌, ◌<◌};
 
 use libc::STDOUT_FILENO;
@@ -23,14 +25,14 @@ const SAVED: u8 = 2;
 const NEW: u8 = 3;
 
 // One recovery with an allowance of one store: whether it answered done, and the stores that it made.
-#[derive(Drop)]
+#[derive(Clone, Copy)]
 struct Recovery {
     done: bool,
     stores: u64,
 }
 
 // The recoveries up to the one that answered done, and the stores that they made together.
-#[derive(Drop)]
+#[derive(Clone, Copy)]
 struct Recoveries {
     steps: u64,
     stores: u64,
@@ -38,7 +40,7 @@ struct Recoveries {
 
 // What one allowance came to: whether the commit was done, the recoveries after it, and whether the blocks are read whole: all new where the commit
 // was done, all old where it was cut.
-#[derive(Drop)]
+#[derive(Clone, Copy)]
 struct Seen {
     done: bool,
     steps: u64,
@@ -47,7 +49,7 @@ struct Seen {
 }
 
 // Neighbouring allowances that came to the same.
-#[derive(Drop)]
+#[derive(Clone, Copy)]
 struct Range {
     from: u64,
     to: u64,
@@ -55,7 +57,7 @@ struct Range {
 }
 
 // Over all allowances: the commits that were cut, the most steps and the most stores after one, and how often the blocks were torn.
-#[derive(Drop)]
+#[derive(Clone, Copy)]
 struct Tally {
     cuts: u64,
     steps: u64,

@@ -60,7 +60,7 @@ module _ (c : List ℕ) (f : Fit) (o : Opened 1 2 c f) where
     fit_framed = o.framed fz
 
     own : f.geometry ≡ geometry_of c
-    own = fit_framed.geometry-is
+    own = fit_framed.geometry_is
 
     module _ (xs : List ℕ) (v : Verdict) (e : Inspected f.geometry c xs v) where
       refusal_is : v.refusal ≡ make_refusal 2 c

@@ -1,4 +1,6 @@
 // Recovery: takes back what a cut left half made, store by store, under an allowance of its own.
+#![tactic(auto)]
+
 ghost use Rattle.std.specs.Prelude.{◌≡◌, true, false, List, ℕ, ◌≤◌, ◌<◌, length};
 ghost use Rattle.numbers.specs.Bytes.{bytes_be, part, Bytes};
 ghost use Rattle.protocol.specs.Layout.{good_geometry};
@@ -18,7 +20,7 @@ use ring::Window;
 use stores::Run;
 
 // How far recovery has come: the stores that its list has so far, and what is left of the credit.
-#[derive(Drop)]
+#[derive(Clone, Copy)]
 pub struct Progress {
     pub count: u64,
     pub left: u64,
@@ -62,7 +64,7 @@ fn same(a: Entry, b: Entry) -> bool
 }
 
 // What recovery's list has at one place: nothing, the entry there as it becomes, or Tail's new value.
-#[derive(Drop)]
+#[derive(Clone, Copy)]
 pub enum Step {
     Nothing,
     Undo(Entry),
@@ -144,7 +146,7 @@ pub fn make_step(g: Geometry, card: &mut [u8], i: usize, u: Step, left: u64) -> 
 }
 
 // A step's store as bytes: where they go, how many of the sixteen they are.
-#[derive(Drop)]
+#[derive(Clone, Copy)]
 pub struct Spelled {
     pub place: u32,
     pub size: usize,
@@ -192,7 +194,7 @@ pub fn spell(g: Geometry, i: usize, u: Step) -> Spelled
 }
 
 // The data blocks that the list moves: those that undone entries give up, and those that they take.
-#[derive(Drop)]
+#[derive(Clone, Copy)]
 pub struct Moved {
     pub gone: Map,
     pub come: Map,
@@ -230,7 +232,7 @@ fn note_step(g: Geometry, card: &[u8], i: usize, u: Step, so: Moved) -> Moved
 }
 
 // What the whole list came to.
-#[derive(Drop)]
+#[derive(Clone, Copy)]
 pub struct Made {
     pub progress: Progress,
     pub moved: Moved,
@@ -269,7 +271,7 @@ fn make_list(g: Geometry, card: &mut [u8], w: Window, credit: u64) -> Made
 }
 
 // What recovery finds first: its refusal, and of a card that is not refused the geometry, the window and the map.
-#[derive(Drop)]
+#[derive(Clone, Copy)]
 pub struct Checked {
     pub refusal: u8,
     pub geometry: Geometry,

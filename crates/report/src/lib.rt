@@ -1,5 +1,7 @@
 // A card as it stands, in words and columns on standard output: as much of it as can be told. What the lines say comes from functions with
 // contracts.
+#![tactic(auto)]
+
 use faults::Fault;
 use libc::STDOUT_FILENO;
 use listing::{count, entry, plain, say};
@@ -127,7 +129,7 @@ fn known(undoable: bool, settled: u32) {
 }
 
 // What was printed of an entry or a data block: nothing, since the card has no such one; nothing; a line or a number.
-#[derive(Drop)]
+#[derive(Clone, Copy)]
 enum Shown {
     Past,
     Nothing,

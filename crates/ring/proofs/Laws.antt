@@ -241,7 +241,7 @@ window_end g c h t n p eh et en =
 pub framed_window : (c : List ℕ) (f : Fit) (n : ℕ) → Framed c f → f.head < f.geometry.slots → f.tail < f.geometry.slots
     → n ≡ window_length f.geometry.slots f.tail f.head → WindowOf f.geometry c (record { tail = f.tail; count = n; head = f.head })
 framed_window c f n h lh lt e =
-    window_end f.geometry c f.head f.tail n (record { head = rw h.head-is at lh; tail = rw h.tail-is at lt }) h.head-is h.tail-is
+    window_end f.geometry c f.head f.tail n (record { head = rw h.head_is_lem at lh; tail = rw h.tail_is_lem at lt }) h.head_is_lem h.tail_is_lem
     e
 
 pub window_on_ring : (g : Geometry) (c : List ℕ) (w : Window) (j : ℕ) → Fitted g c → WindowOf g c w → j < w.count
@@ -300,5 +300,5 @@ pub ring_end : (c : List ℕ) (f : Fit) (n : ℕ) (r : Bool) → Framed c f → 
     → n ≡ window_length f.geometry.slots f.tail f.head → r ≡ all_below (window_number_fits f.geometry c) n → r ≡ ring_fits f.geometry c
 unfolding ring_fits
 ring_end c f n r h lh lt w e =
-    rw (lt-ltb (head_of c) f.geometry.slots (rw h.head-is at lh), lt-ltb (tail_of c) f.geometry.slots (rw h.tail-is at lt))
+    rw (lt-ltb (head_of c) f.geometry.slots (rw h.head_is_lem at lh), lt-ltb (tail_of c) f.geometry.slots (rw h.tail_is_lem at lt))
     (e ∙ ap (all_below (window_number_fits f.geometry c)) (framed_window c f n h lh lt w).count)

@@ -1,4 +1,6 @@
 // Checks 1 to 4 of a card and its disk, and the window of its ring. Each answers its definition at every row of bytes, however damaged.
+#![tactic(auto)]
+
 ghost use Rattle.std.specs.Prelude.{◌≡◌, true, ◌+◌, ◌*◌, ◌≤◌, ◌<◌, length};
 ghost use Rattle.protocol.specs.Below.{all_below, around};
 ghost use Rattle.protocol.specs.Layout.{good_geometry, geometry_of, version_of, disk_length, good_header, zero_from};
@@ -98,7 +100,7 @@ fn length_refusal(g: Geometry, card: &[u8]) -> u8
 }
 
 // What checks 1 and 2 find, and where they find nothing the geometry, version, Head and Tail, each read once for whoever goes on.
-#[derive(Drop)]
+#[derive(Clone, Copy)]
 pub struct Fit {
     pub refusal: u8,
     pub geometry: Geometry,
@@ -167,7 +169,7 @@ pub fn disk_refusal(g: Geometry, disk: &[u8]) -> u8
 }
 
 // The window: where it starts, how many slots it has, and Head, where it ends.
-#[derive(Drop)]
+#[derive(Clone, Copy)]
 pub struct Window {
     pub tail: u64,
     pub count: u64,

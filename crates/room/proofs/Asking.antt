@@ -44,7 +44,7 @@ module _ (c d : List ℕ) (m : Map) (t ns : List ℕ) (size room : ℕ) (xs : Li
       unfolding asked_refusal
       past_met =
           or_else_next r (met_refusal c d m (is_arranged t)) _ (sym z ∙ met_is)
-          (q ∙ ap (λ (g : Geometry). request_refusal g ns size room) (x.geometry-is z))
+          (q ∙ ap (λ (g : Geometry). request_refusal g ns size room) (x.geometry_is z))
 
       pub asked_own : (u : Basis) → (r ≡ 0 → ⊥) → u.refusal ≡ r → Asked c d m t ns size room xs u
       asked_own u h k = record {
@@ -56,7 +56,7 @@ module _ (c d : List ℕ) (m : Map) (t ns : List ℕ) (size room : ℕ) (xs : Li
       pub asked_passed : r ≡ 0 → Asked c d m t ns size room xs s
       asked_passed y = record {
         refusal_is = z ∙ sym y ∙ past_met;
-        geometry_is = x.geometry-is;
+        geometry_is = x.geometry_is;
         searchable = x.searchable;
       }
 

@@ -40,12 +40,12 @@ module _ (c d : List ℕ) (m : Map) (t ns : List ℕ) (size room : ℕ) (xs : Li
   pub prepared_chosen : (z : s.refusal ≡ 0) (es ps vs : List ℕ) (r : Selection) → Chosen s.geometry c t ns es ps vs r
       → Prepared c d m t ns size room es ps vs (record { refusal = r.refusal; geometry = s.geometry; head = s.head; count = r.count })
   prepared_chosen z es ps vs r y =
-      let own : Chosen (geometry_of c) c t ns es ps vs r = subst (λ (g : Geometry). Chosen g c t ns es ps vs r) (x.geometry-is z) y in
+      let own : Chosen (geometry_of c) c t ns es ps vs r = subst (λ (g : Geometry). Chosen g c t ns es ps vs r) (x.geometry_is z) y in
       record {
         refusal_is = λ bs ch l k.
             or_else_next r.refusal (asked_refusal c d m t ns size room) _ (sym z ∙ x.refusal_is) own.refusal_is
             ∙ asked_all c d m t ns bs ch size room l k;
-        geometry_is = λ h. x.geometry-is z;
+        geometry_is = λ h. x.geometry_is z;
         head_is_lem = λ h. (x.searchable z).head;
         homes = own.homes;
         count = own.count;
@@ -76,8 +76,8 @@ module _ (c d : List ℕ) (m : Map) (t ns bs ch : List ℕ) (room : ℕ) (k : ro
     pub room_makeable : p.refusal ≡ 0 → Makeable c d m t ns bs ch es ps vs p
     room_makeable z = record {
       passes = sym refusal_is ∙ z;
-      geometry_is = x.geometry-is z;
-      head_is_lem = x.head-is z;
+      geometry_is = x.geometry_is z;
+      head_is_lem = x.head_is_lem z;
       homes = x.homes z;
       count = x.count z;
       places = x.places z;

@@ -237,7 +237,7 @@ module _ (g : Geometry) (c : List ℕ) (h : ℕ) (xs : List ℕ) (m : Map) (free
       where
         lack_is : lack ≡ missing g c ns
         unfolding missing
-        lack_is = e ∙ ap (λ (n : ℕ). length ns - n) (counted g c whole.0.good m s.map_is free s.free-is (length ns))
+        lack_is = e ∙ ap (λ (n : ℕ). length ns - n) (counted g c whole.0.good m s.map_is free s.free_is (length ns))
 
         found_is : Gathered g c t ns lack vs found
         found_is = f ns (sifting g c ns es ps marks whole.0 k y)

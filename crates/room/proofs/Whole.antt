@@ -121,7 +121,7 @@ module _ (c d : List ℕ) (m : Map) (t ns bs ch es ps vs : List ℕ) (p : Making
 
   pub make_clearing : Clearing p.geometry c d ch vs p.count
   make_clearing =
-      subst (λ (y : Geometry). Clearing y c d ch vs p.count) (sym v.geometry-is) (subst (Clearing g c d ch vs) (sym v.count) clearing)
+      subst (λ (y : Geometry). Clearing y c d ch vs p.count) (sym v.geometry_is) (subst (Clearing g c d ch vs) (sym v.count) clearing)
 
   pub make_few : p.count ≤ 128
   make_few = clear_few p.geometry c d ch vs p.count make_clearing
@@ -129,7 +129,7 @@ module _ (c d : List ℕ) (m : Map) (t ns bs ch es ps vs : List ℕ) (p : Making
   taken_room : taken_runs p.geometry c vs p.count ≡ rs
   unfolding room_runs clearing
   taken_room =
-      (λ i. taken_runs (v.geometry-is i) c vs (v.count i)) ∙ taken_is g c d ch vs (missing g c ns) clearing (missing g c ns) (omega arith)
+      (λ i. taken_runs (v.geometry_is i) c vs (v.count i)) ∙ taken_is g c d ch vs (missing g c ns) clearing (missing g c ns) (omega arith)
 
   runs_are : work.runs ≡ rs ++ qs
   unfolding room_work
@@ -194,7 +194,7 @@ module _ (c d : List ℕ) (m : Map) (t ns bs ch es ps vs : List ℕ) (p : Making
           freed_is : (i : ℕ) → i < missing g c ns → previous_of (get_or fs i 0) ≡ (entry_at g c (get_or (victims g c t ns) i 0)).current
           freed_is i h =
               x.freed i (subst (λ (b : ℕ). i < b) (sym v.count) h)
-              ∙ (λ j. (entry_at (v.geometry-is j) c (v.places i h j)).current)
+              ∙ (λ j. (entry_at (v.geometry_is j) c (v.places i h j)).current)
 
           left_is : left ≡ map_of c'
           unfolding released
@@ -241,16 +241,16 @@ module _ (c d : List ℕ) (m : Map) (t ns bs ch es ps vs : List ℕ) (p : Making
           }
 
           own_left : p.geometry ≡ geometry_of c₁
-          own_left = v.geometry-is ∙ sym (room_geometry c d m t ns bs ch v.passes) ∙ ap geometry_of (sym card_left)
+          own_left = v.geometry_is ∙ sym (room_geometry c d m t ns bs ch v.passes) ∙ ap geometry_of (sym card_left)
 
           pub make_savable : Savable p.geometry c₁ p.head left ns bs ch es ps
           make_savable = record {
             own = own_left;
-            head = v.head-is ∙ sym (room_head c d m t ns bs ch v.passes) ∙ ap head_of (sym card_left);
+            head = v.head_is_lem ∙ sym (room_head c d m t ns bs ch v.passes) ∙ ap head_of (sym card_left);
             passes = (λ i. commit_refusal 2 (card_left i) (left_is i) ns bs ch) ∙ room_commit c d m t ns bs ch v.passes;
             homes =
                 subst (λ (b : List ℕ). Homes p.geometry b ns es ps) (sym card_left)
-                (subst (λ (b : Geometry). Homes b c' ns es ps) (sym v.geometry-is) homes_left);
+                (subst (λ (b : Geometry). Homes b c' ns es ps) (sym v.geometry_is) homes_left);
           }
 
           -- ---- the commit behind them
@@ -258,7 +258,7 @@ module _ (c d : List ℕ) (m : Map) (t ns bs ch es ps vs : List ℕ) (p : Making
           module _ (s : Stored) (c₂ es' : List ℕ) (w : Saved c₁ left ns bs ch (a - n) s c₂ es') where
             entries_are : (i : ℕ) → i < length ns → get_or es' i 0 ≡ entry_found g c' ns i
             unfolding key_at
-            entries_are i h = w.entries i h ∙ (λ j. entry_found ((sym own_left ∙ v.geometry-is) j) (card_left j) ns i)
+            entries_are i h = w.entries i h ∙ (λ j. entry_found ((sym own_left ∙ v.geometry_is) j) (card_left j) ns i)
 
             saving : Work
             saving = commit_work 2 c₁ left ns bs ch
@@ -269,7 +269,7 @@ module _ (c d : List ℕ) (m : Map) (t ns bs ch es ps vs : List ℕ) (p : Making
 
             save_runs : saving.runs ≡ qs
             unfolding saving commit_work
-            save_runs = λ i. commit_runs ((sym own_left ∙ v.geometry-is) i) (card_left i) ns bs
+            save_runs = λ i. commit_runs ((sym own_left ∙ v.geometry_is) i) (card_left i) ns bs
 
             save_stores : length (flat saving.runs) ≡ length (flat qs)
             save_stores = ap (λ (b : List Run). length (flat b)) save_runs

@@ -1,5 +1,7 @@
 // The room-making commit: as many blocks are evicted as are missing, the least recently used ones outside the transaction, and then it is a commit
 // on the card so left.
+#![tactic(auto)]
+
 ghost use Rattle.std.specs.Prelude.{◌≡◌, true, List, ℕ, ◌+◌, ◌-◌, ◌≤◌, ◌<◌, length, get_or};
 ghost use Rattle.protocol.specs.Layout.{geometry_of};
 ghost use Rattle.protocol.specs.Check.{fit_refusal};
@@ -105,7 +107,7 @@ fn lacking(n: usize, free: u64) -> usize
 }
 
 // What a commit's victims come to: 14, or how many they are.
-#[derive(Drop)]
+#[derive(Clone, Copy)]
 pub struct Selection {
     pub refusal: u8,
     pub count: usize,
@@ -193,7 +195,7 @@ fn clear(
 }
 
 // What a room-making commit comes to: refused, or to be made, with the card's geometry and Head and how many victims it has.
-#[derive(Drop)]
+#[derive(Clone, Copy)]
 pub struct Making {
     pub refusal: u8,
     pub geometry: Geometry,

@@ -2,6 +2,8 @@
 // fails at each store. After each cut comes a start, which makes the map and recovers the card, and the three blocks are read: the label is the old
 // recipe or the new one, and torn if it were neither. Blocks of 512 bytes, eight slots, eight data blocks, which is room for both versions, and
 // sixteen disk blocks, which hold ones.
+#![tactic(auto)]
+
 ghost use Rattle.std.specs.Prelude.{◌+◌, ◌≤◌, ◌<◌};
 
 use pending::{Put, Save};
@@ -18,7 +20,7 @@ const NEW: u8 = 0x20;
 const FINISH: u8 = 4;
 
 // What one cut came to: whether the call answered so, and whether the old or the new recipe is read after the start.
-#[derive(Drop)]
+#[derive(Clone, Copy)]
 struct Seen {
     cut: bool,
     old: bool,
@@ -26,7 +28,7 @@ struct Seen {
 }
 
 // How often each was seen. A torn label is neither recipe.
-#[derive(Drop)]
+#[derive(Clone, Copy)]
 struct Tally {
     cuts: u64,
     old: u64,

@@ -1,4 +1,6 @@
 // A refusal in a sentence: what is wrong with the card or with what was asked of it, and who can cause it.
+#![tactic(auto)]
+
 use faults::Fault;
 use listing::{count, plain, say};
 

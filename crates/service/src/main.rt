@@ -1,5 +1,7 @@
 // Shows a card image, reads a block of it, foresees a save to it, recovers it, upgrades it, makes a new one. Files, arguments and their errors are here; what
 // is told and stored comes from functions with contracts.
+#![tactic(auto)]
+
 mod files;
 mod words;
 

@@ -5,7 +5,7 @@ use protocol::Geometry;
 use text::Parsed;
 
 // The commands.
-#[derive(Drop)]
+#[derive(Clone, Copy)]
 pub enum Word {
     Show,
     Block,

@@ -92,7 +92,7 @@ module _ (g : Geometry) (run : Run) (s ch : List ℕ) (a : ℕ) (c d : List ℕ)
         → ((m : Medium) → Did m (unfenced (units m 512 (size / 512) to (part c from (size / 512 * 512))) ∷ []) ch a d d' r) → Both g run s ch a c c d d' r
     unfolding told is_on
     sectors-made d' q x =
-        let w = (whole g (limits g good)).in-sectors in
+        let w = (whole g (limits g good)).in_sectors in
         let us : unfenced (units disk 512 (size / 512) to (part c from (size / 512 * 512))) ∷ [] ≡ told g run s c =
         ap (λ (n : ℕ). unfenced (units disk 512 (n / 512) to (part c from (n / 512 * 512))) ∷ []) e
         ∙ ap (λ (n : ℕ). unfenced (units disk 512 (block_size g / 512) to (part c from n)) ∷ []) w
@@ -137,5 +137,5 @@ module _ (g : Geometry) (run : Run) (n d s h : ℕ) (p : Placed g run n d s h) w
     sectors_asked q =
         let (x, y, z) = subst (λ (r : Run). Placed g r n d s h) q p in
         let l = limits g good in
-        let w = (whole g l).in-sectors in
+        let w = (whole g l).in_sectors in
         (omega arith, omega arith, omega arith, omega arith, omega arith)

@@ -1,5 +1,7 @@
 // Runs of stores made one after the other under a credit, and the rest of it handed on. Where it is 0 nothing is made, so that no caller asks
 // where the cut falls.
+#![tactic(auto)]
+
 ghost use Rattle.std.specs.Prelude.{◌≡◌, List, [], ◌∷◌, true, cond, ℕ, ◌+◌, ◌*◌, ◌/◌, ◌%◌, ◌^◌, ◌≤◌, ◌<◌, min, length, ltb};
 ghost use Rattle.numbers.specs.Bytes.{part};
 ghost use Rattle.protocol.specs.Layout.{good_geometry, block_size, entry_place, block_place, disk_place};
@@ -131,7 +133,7 @@ pub fn make_words(
 
 // A run of a call's list: the words of a data block, at a place of the card and from an offset of the data; the sectors of a disk block, at a place
 // of the disk and from a place of the card; an entry or a word at a place of the card; or nothing, where a list leaves a place out.
-#[derive(Drop)]
+#[derive(Clone, Copy)]
 pub enum Run {
     Nothing,
     Words(usize, usize),

@@ -1,6 +1,8 @@
 // A longer story: saves over each other, cuts at chosen places, also inside a run with some of its stores made, recoveries, loads, evicts and
 // refusals, with what each call answers and the first and last byte of the blocks that are read. Blocks of 512 bytes, four on the card, sixteen on the
 // disk, which holds ones. The map is made at start, handed on by each call, and made again after a cut.
+#![tactic(auto)]
+
 use protocol::{Answer, Map, Mapped, Stored};
 
 const AMPLE: u64 = 0xFFFF_FFFF_FFFF_FFFF;

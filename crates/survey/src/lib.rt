@@ -1,4 +1,6 @@
 // What stands on a card image of either version, at every row of bytes, however damaged.
+#![tactic(auto)]
+
 ghost use Rattle.std.specs.Prelude.{◌≡◌, cond, ◌≤◌, ◌<◌};
 ghost use Rattle.protocol.specs.Layout.{geometry_of, version_of, entry_place};
 ghost use Rattle.protocol.specs.Entry.{entry_at, is_unused};
@@ -8,21 +10,21 @@ ghost use Rattle.survey.specs.Raw.{field_in, ring_known, slot_of, line_in, line_
 use protocol::{Entry, Geometry};
 
 // A number on the card, where it can be read.
-#[derive(Drop)]
+#[derive(Clone, Copy)]
 pub enum Field {
     Missing,
     Is(u64),
 }
 
 // A slot of the window: its position and the number in it.
-#[derive(Drop)]
+#[derive(Clone, Copy)]
 pub enum Slot {
     Missing,
     At(u64, u64),
 }
 
 // An entry: out of reach, unused, as it stands, or with whether it is undoable and its settled block.
-#[derive(Drop)]
+#[derive(Clone, Copy)]
 pub enum Line {
     Missing,
     Unused,
@@ -31,7 +33,7 @@ pub enum Line {
 }
 
 // A data block.
-#[derive(Drop)]
+#[derive(Clone, Copy)]
 pub enum Block {
     Missing,
     Free,

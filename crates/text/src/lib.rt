@@ -1,4 +1,6 @@
 // The characters that a program prints: numbers in groups of three, bytes in hexadecimal, lines of a listing; and an argument as a number.
+#![tactic(auto)]
+
 ghost use Rattle.std.specs.Prelude.{◌≡◌, ◌/◌, ◌^◌, ◌<◌};
 ghost use Rattle.protocol.specs.Below.{first_below};
 ghost use Rattle.text.specs.Text.{decimal_mark, number_mark, number_field, plain_mark, plain_field, marked_at, glyph, hex_mark, hex_field};
@@ -229,7 +231,7 @@ pub fn list_line(bytes: &[u8; 16], at: u64) -> [u8; 75]
 }
 
 // An argument as a number, or wrong.
-#[derive(Drop)]
+#[derive(Clone, Copy)]
 pub enum Parsed {
     Number(u64),
     Wrong,

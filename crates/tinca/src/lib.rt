@@ -1,4 +1,6 @@
 // The C interface of the cache: its calls, with answers as plain structs. include/tinca.h declares it for C.
+#![tactic(auto)]
+
 ghost use Rattle.std.specs.Prelude.{◌≡◌};
 ghost use Rattle.protocol.specs.Table.{geometry};
 ghost use Rattle.protocol.specs.Store.{card as on_card, disk as on_disk, answer_of, after_on};

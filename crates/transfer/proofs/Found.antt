@@ -97,7 +97,7 @@ module _ (g : Geometry) (c : List ℕ) (h : ℕ) (xs : List ℕ) (m : Map) (free
       pub chosen_full : (r : Room) → free < 1 → r.refusal ≡ 14 → Chosen g c b r
       chosen_full r p q =
           record {
-            refusal_is = q ∙ past_cached 14 (refuse_failed 14 (room_for g c 1) (no_room g c good m k.map_is free k.free-is 1 p));
+            refusal_is = q ∙ past_cached 14 (refuse_failed 14 (room_for g c 1) (no_room g c good m k.map_is free k.free_is 1 p));
             free = λ z. absurd (omega arith);
           }
 
@@ -106,10 +106,10 @@ module _ (g : Geometry) (c : List ℕ) (h : ℕ) (xs : List ℕ) (m : Map) (free
         begins = (start_is g c h start (whole_tail g c h k.whole k.head) s.0, s.1)
 
         has_room : room_for g c 1 ≡ true
-        has_room = room g c good m k.map_is free k.free-is 1 p
+        has_room = room g c good m k.map_is free k.free_is 1 p
 
         pub choose_ready : (start < 128) × (1 ≤ 128) × ((i : ℕ) → i < 1 → taken_at m start i < 128)
-        choose_ready = take_ready g c good m k.map_is free k.free-is 1 p start begins
+        choose_ready = take_ready g c good m k.map_is free k.free_is 1 p start begins
 
         -- a card that passed check 6 has an unused entry for its free data block
         some_unused : unused_before g c 0 < length (unused_entries g c)
@@ -130,9 +130,9 @@ module _ (g : Geometry) (c : List ℕ) (h : ℕ) (xs : List ℕ) (m : Map) (free
                 free = λ z.
                     record {
                       geometry_is = refl;
-                      block = x.blocks 0 (omega arith) ∙ taken_block g c good m k.map_is free k.free-is 1 p start begins 0 (omega arith);
+                      block = x.blocks 0 (omega arith) ∙ taken_block g c good m k.map_is free k.free_is 1 p start begins 0 (omega arith);
                       entry = first_unused;
-                      map_is = x.map ∙ taken_map_lem g c good m k.map_is free k.free-is 1 p start begins;
+                      map_is = x.map ∙ taken_map_lem g c good m k.map_is free k.free_is 1 p start begins;
                     };
               }
 
@@ -165,7 +165,7 @@ module _ (c d : List ℕ) (m : Map) (ok : Bool) (b : ℕ) (ch : List ℕ) (xs : 
 
   module _ (z : s.refusal ≡ 0) where
     geometry : s.geometry ≡ geometry_of c
-    geometry = x.geometry-is z
+    geometry = x.geometry_is z
 
     pub examined_inside : b < s.geometry.disk
     examined_inside = subst (λ (h : Geometry). b < h.disk) (sym geometry) (shared c d m ok b ch (sym x.refusal_is ∙ z)).inside
@@ -193,19 +193,19 @@ module _ (c d : List ℕ) (m : Map) (b : ℕ) (ch : List ℕ) (xs : List ℕ) (s
   -- the place, or 13
   module _ (z : s.refusal ≡ 0) (at : ℕ) (e : at ≡ find_entry s.geometry c b) where
     finds : at ≡ find_entry (geometry_of c) c b
-    finds = e ∙ ap (λ (h : Geometry). find_entry h c b) (x.geometry-is z)
+    finds = e ∙ ap (λ (h : Geometry). find_entry h c b) (x.geometry_is z)
 
     past_shared : (t : ℕ) (k : Bool) → ltb at s.geometry.blocks ≡ k → t ≡ refuse 13 k → t ≡ evict_refusal 2 c d m b ch
     unfolding cached
     past_shared t k h p =
-        let same : k ≡ cached (geometry_of c) c b = sym h ∙ (λ j. ltb (finds j) (x.geometry-is z j).blocks) in
+        let same : k ≡ cached (geometry_of c) c b = sym h ∙ (λ j. ltb (finds j) (x.geometry_is z j).blocks) in
         or_else_next t (shared_refusal c d m true b ch) _ (sym z ∙ x.refusal_is) (p ∙ ap (refuse 13) same) ∙ sym (as_evict c d m b ch)
 
     pub located_found : at < s.geometry.blocks → Located c d m b ch (record { refusal = 0; geometry = s.geometry; at = at })
     located_found l =
         record {
           refusal_is = past_shared 0 true (lt-ltb at s.geometry.blocks l) (refuse_passed 13 true refl);
-          geometry_is = λ k. x.geometry-is z;
+          geometry_is = λ k. x.geometry_is z;
           at = λ k. finds;
         }
 
@@ -284,7 +284,7 @@ module _ (c d : List ℕ) (m : Map) (t : List ℕ) (b : ℕ) (ch : List ℕ) (r 
   pub load_goes : Fitted r.geometry c × (length d ≡ disk_length r.geometry) × (b < r.geometry.disk) × (r.block < r.geometry.blocks)
       × (r.entry < r.geometry.blocks) × (block_size r.geometry / 8 ≤ length ch)
   load_goes =
-      rw (x.free z).geometry-is (
+      rw (x.free z).geometry_is (
         ready.passed.fitted,
         ready.passed.disk,
         ready.passed.inside,
@@ -298,7 +298,7 @@ module _ (c d : List ℕ) (m : Map) (b : ℕ) (ch : List ℕ) (r : Place) (x : L
   held = evict_held c d m b ch (sym x.refusal_is ∙ z)
 
   q : r.geometry ≡ geometry_of c
-  q = x.geometry-is z
+  q = x.geometry_is z
 
   pub evict_place : Fitted r.geometry c × (r.at < r.geometry.blocks)
   evict_place = rw q (held.passed.fitted, subst (λ (i : ℕ). i < (geometry_of c).blocks) (sym (x.at z)) held.at)

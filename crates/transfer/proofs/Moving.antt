@@ -278,7 +278,7 @@ module _ (c d : List ℕ) (m : Map) (b : ℕ) (ch : List ℕ) (a : ℕ) where
         let f = x.free z in
         let done =
         finished (load_work 2 c d m t b ch) a m c d r.refusal x.refusal_is z c' d y r.map u
-        (subst (λ (rs : List Fenced). Moved rs ch a c c' d d y) (λ t. loaded_runs (f.geometry-is t) d b (f.block t) (f.entry t)) k)
+        (subst (λ (rs : List Fenced). Moved rs ch a c c' d d y) (λ t. loaded_runs (f.geometry_is t) d b (f.block t) (f.entry t)) k)
         (f.map_is ∙ sym (load_map c d m t b ch (sym x.refusal_is ∙ z)))
         h in
         (done, g ∙ table_is y (sym h.0 ∙ done.answer) f.entry)
@@ -296,6 +296,6 @@ module _ (c d : List ℕ) (m : Map) (b : ℕ) (ch : List ℕ) (a : ℕ) where
     unfolding evict_work
     evict_finished z e i new w c' d' y u k h =
         finished (evict_work 2 c d m b ch) a m c d r.refusal x.refusal_is z c' d' y new u
-        (subst (λ (j : Geometry). Moved (evict_runs j c b) ch a c c' d d' y) (x.geometry-is z) k)
+        (subst (λ (j : Geometry). Moved (evict_runs j c b) ch a c c' d d' y) (x.geometry_is z) k)
         (w ∙ evict_freed c d m b ch r x z e i)
         h

@@ -45,7 +45,7 @@ module _ (c d : List ℕ) (m : Map) (ok : Bool) (b : ℕ) (ch xs : List ℕ) (s 
     unfolding shared_refusal
     past_met p l =
         or_else_next p (met_refusal c d m ok) _ (sym z ∙ x.refusal_is)
-        (l ∙ ap (λ (j : Geometry). choice_refusal j ch or_else block_refusal j b) (x.geometry-is z))
+        (l ∙ ap (λ (j : Geometry). choice_refusal j ch or_else block_refusal j b) (x.geometry_is z))
 
     pub examined_good : good_geometry s.geometry ≡ true
     examined_good = (x.searchable z).indexed.fitted.good
@@ -80,7 +80,7 @@ module _ (c d : List ℕ) (m : Map) (ok : Bool) (b : ℕ) (ch xs : List ℕ) (s 
         examined_passed l =
             record {
               refusal_is = z ∙ past_choice 0 (refuse_passed 10 (ltb b s.geometry.disk) (lt-ltb b s.geometry.disk l));
-              geometry_is = x.geometry-is;
+              geometry_is = x.geometry_is;
               searchable = x.searchable;
             }
 

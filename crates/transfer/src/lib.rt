@@ -1,4 +1,6 @@
 // Load and evict: a block copied from disk to card, and from card to disk.
+#![tactic(auto)]
+
 ghost use Rattle.std.specs.Prelude.{◌≡◌, true, List, ℕ, ◌/◌, ◌≤◌, ◌<◌, length};
 ghost use Rattle.protocol.specs.Layout.{good_geometry, block_size, disk_length};
 ghost use Rattle.protocol.specs.Recency.{is_arranged, to_front, turned};
@@ -42,7 +44,7 @@ fn examine(
 }
 
 // Where a load puts its block on a card of this geometry, with the map in which that is marked, or its refusal.
-#[derive(Drop)]
+#[derive(Clone, Copy)]
 pub struct Room {
     pub refusal: u8,
     pub geometry: Geometry,
@@ -184,7 +186,7 @@ pub fn load(
 }
 
 // The place of an entry on a card of this geometry, or a refusal.
-#[derive(Drop)]
+#[derive(Clone, Copy)]
 pub struct Place {
     pub refusal: u8,
     pub geometry: Geometry,

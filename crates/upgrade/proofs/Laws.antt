@@ -79,8 +79,8 @@ module _ (c : List ℕ) (f : Fit) (o : Opened 1 1 c f) where
       let w = o.framed z in
       record {
         refusal_is =
-            or_else_next r (fit_refusal 1 1 c) _ (sym z ∙ o.refusal_is) (e ∙ ap (λ (y : Geometry). card_refusal y c) w.geometry-is);
-        own = λ q. w.geometry-is;
+            or_else_next r (fit_refusal 1 1 c) _ (sym z ∙ o.refusal_is) (e ∙ ap (λ (y : Geometry). card_refusal y c) w.geometry_is);
+        own = λ q. w.geometry_is;
         fitted = λ q. w.fitted;
       }
 

@@ -1,4 +1,6 @@
 // Upgrade: a settled version 1 card becomes one of version 2 by one store, of the header's first word.
+#![tactic(auto)]
+
 ghost use Rattle.std.specs.Prelude.{◌≡◌, true};
 ghost use Rattle.numbers.specs.Bytes.{bytes_be, part};
 ghost use Rattle.protocol.specs.Layout.{good_geometry};
@@ -27,7 +29,7 @@ pub fn word_bytes(g: Geometry) -> [u8; 16]
 }
 
 // What upgrade finds first: its refusal, and of a card that is not refused the geometry.
-#[derive(Drop)]
+#[derive(Clone, Copy)]
 pub struct Checked {
     pub refusal: u8,
     pub geometry: Geometry,

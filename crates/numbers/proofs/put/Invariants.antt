@@ -1,0 +1,10 @@
+-- `put` writes the number's bytes. The loop's invariant: all but the first `left` bytes are written, and `rest` has the others.
+use borrow.Author.Rules.{rules}
+use Rattle.numbers.proofs.Turns.{Written, put_start, put_turn, put_end, put_length, put_index}
+use Rattle.numbers.proofs.put.Given as goal
+
+abbrev pub invariant-loop-left : goal.invariant-loop-left
+invariant-loop-left l = Written l.initial.s l.at l.width l.v l.s l.rest l.left
+
+abbrev pub decreases-loop-left : goal.decreases-loop-left
+decreases-loop-left l = l.left

@@ -1,0 +1,14 @@
+-- `pack` reads the places from the last one down, and what is left of those read stands at the back. Assumes nothing.
+use Rattle.recency.specs.Moved.{is_marked}
+use Rattle.recency.proofs.Packing.{Packing, pack_start, pack_turn, pack_end}
+use borrow.Author.Rules.{rules}
+use Rattle.recency.proofs.pack.Goals as goal
+
+pub loop-from-init : goal.loop-from-init
+loop-from-init c = search (pack_start, rules)
+
+pub loop-from-preserved : goal.loop-from-preserved
+loop-from-preserved c = search (pack_turn, rules)
+
+pub returns : goal.returns
+returns c = search (pack_end, rules)
