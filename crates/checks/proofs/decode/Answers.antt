@@ -1,49 +1,14 @@
 -- `decode` answers what the pass over the entries finds. The invariant: check 5 allows the entries passed, their numbers stand in chains, and
 -- their current blocks are marked.
--- the three reads of a turn are the entry's fields
--- the number of the word, by the card's version
--- an entry that check 5 allows, with its number and whether it has R
--- the block marked is one of the card's
-use Rattle.std.proofs.Common.{◌-◌, ◌/◌, ◌%◌, ◌^◌, ◌<◌, ◌≤◌, eqb, sym, ap, ◌∙◌, subst, arith, rules}
+use Rattle.std.proofs.Common.{◌/◌, ◌%◌, ◌^◌, ◌<◌, eqb, sym, ap, ◌∙◌, subst, arith, rules}
 use Rattle.protocol.specs.Layout.{version_of}
 use Rattle.ring.proofs.Laws.{fitted_blocks, fitted_disk}
 use Rattle.checks.specs.Fields.{over_of, Numbered}
 use Rattle.checks.specs.Passed.{Decoded}
-use Rattle.checks.proofs.Laws.{Passing, pass_start, pass_unused, pass_used, pass_bad, pass_end}
+use Rattle.checks.proofs.Laws.{pass_start, pass_unused, pass_used, pass_bad, pass_end}
 use Rattle.checks.proofs.Fields.{Split, split_blank, split_rest, split_blocks, split_flags, Used, split_number}
-use Rattle.checks.proofs.Flags.{over_few, no_role, roles_more}
+use Rattle.checks.proofs.Flags.{over_few, roles_more}
 use Rattle.checks.proofs.decode.Goals as goal
-
-split-of : (c : goal.After-field_of-q invariant-loop decreases-loop)
-    → let a = c.args in
-    Split a.g a.card.now c.loop-i.i c.field_of-w.result c.field_of-p.result c.field_of-q.result
-split-of c =
-    record {
-      fitted = c.requires.0;
-      below = c.loop-i-test.true;
-      bytes = λ j m. omega (arith, c.type_inv.card j);
-      first = c.field_of-w.ensures;
-      second = c.field_of-p.ensures;
-      third = c.field_of-q.ensures;
-    }
-
-number-of : (c : goal.After-number_of-b invariant-loop decreases-loop)
-    → let a = c.args in
-    Numbered (version_of a.card.now) c.field_of-w.result a.g.disk c.number_of-b.result
-number-of c =
-    c.number_of-b.ensures _ (c.over_of-more.ensures ∙ ap over_of c.requires.2)
-
-used-of : (c : goal.Else-b invariant-loop decreases-loop)
-    → let a = c.args in
-    Used a.g a.card.now c.loop-i.i c.number_of-b.result c.field_of-q.result
-    (eqb (c.field_of-w.result / 2 ^ 56 % 2) 1)
-used-of c =
-    split_number (split-of c) c.if-w-eq0.false c.if-g-q.false _ (number-of c) ((number-of c).none c.if-b.false)
-
-few-of : (c : goal.After-narrow invariant-loop decreases-loop) → c.narrow.result < 128
-few-of c =
-    let u = used-of c in
-    omega (arith, c.narrow.ensures, u.current, u.allowed.current_below, fitted_blocks _ _ c.requires.0)
 
 pub overflow_sub-count : goal.overflow_sub-count
 overflow_sub-count c = search (fitted_blocks, rules)
@@ -56,21 +21,51 @@ loop-i-init c = (search rules, search (pass_start, rules))
 
 pub loop-i-preserved-else-p-q-ne0 : goal.loop-i-preserved-else-p-q-ne0
 loop-i-preserved-else-p-q-ne0 c =
-    (
+    let split_of' : let a = c.args in
+        Split a.g a.card.now c.loop-i.i c.field_of-w.result c.field_of-p.result c.field_of-q.result =
+    record {
+      fitted = c.requires.0;
+      below = c.loop-i-test.true;
+      bytes = λ j m. omega (arith, c.type_inv.card j);
+      first = c.field_of-w.ensures;
+      second = c.field_of-p.ensures;
+      third = c.field_of-q.ensures;
+    } in
+        (
       search rules,
       pass_unused _ _ _ _ _ _ _ _ c.requires.0 c.loop-i-test.true c.loop-i.invariant.1
-          (split_blank (split-of c) c.if-w-eq0.true c.if-p-q-ne0.false),
+          (split_blank (split_of') c.if-w-eq0.true c.if-p-q-ne0.false),
     )
 
 pub returns-then-p-q-ne0 : goal.returns-then-p-q-ne0
 returns-then-p-q-ne0 c =
-    pass_bad _ _ _ _ _ _ _ _ c.requires.0 c.loop-i-test.true c.loop-i.invariant.1 _ _
-    (split_rest (split-of c) c.if-w-eq0.true c.if-p-q-ne0.true) c.misfit.ensures
+    let split_of' : let a = c.args in
+        Split a.g a.card.now c.loop-i.i c.field_of-w.result c.field_of-p.result c.field_of-q.result =
+    record {
+      fitted = c.requires.0;
+      below = c.loop-i-test.true;
+      bytes = λ j m. omega (arith, c.type_inv.card j);
+      first = c.field_of-w.ensures;
+      second = c.field_of-p.ensures;
+      third = c.field_of-q.ensures;
+    } in
+        pass_bad _ _ _ _ _ _ _ _ c.requires.0 c.loop-i-test.true c.loop-i.invariant.1 _ _
+    (split_rest (split_of') c.if-w-eq0.true c.if-p-q-ne0.true) c.misfit.ensures
 
 pub returns-then-g-q : goal.returns-then-g-q
 returns-then-g-q c =
-    pass_bad _ _ _ _ _ _ _ _ c.requires.0 c.loop-i-test.true c.loop-i.invariant.1 _ _
-    (split_blocks (split-of c) c.if-w-eq0.false c.if-g-q.true) c.misfit-then-g-q.ensures
+    let split_of' : let a = c.args in
+        Split a.g a.card.now c.loop-i.i c.field_of-w.result c.field_of-p.result c.field_of-q.result =
+    record {
+      fitted = c.requires.0;
+      below = c.loop-i-test.true;
+      bytes = λ j m. omega (arith, c.type_inv.card j);
+      first = c.field_of-w.ensures;
+      second = c.field_of-p.ensures;
+      third = c.field_of-q.ensures;
+    } in
+        pass_bad _ _ _ _ _ _ _ _ c.requires.0 c.loop-i-test.true c.loop-i.invariant.1 _ _
+    (split_blocks (split_of') c.if-w-eq0.false c.if-g-q.true) c.misfit-then-g-q.ensures
 
 pub number_of-b-requires : goal.number_of-b-requires
 number_of-b-requires c =
@@ -78,12 +73,45 @@ number_of-b-requires c =
 
 pub returns-then-b : goal.returns-then-b
 returns-then-b c =
-    pass_bad _ _ _ _ _ _ _ _ c.requires.0 c.loop-i-test.true c.loop-i.invariant.1 _ _
-    (split_flags (split-of c) c.if-w-eq0.false c.if-g-q.false _ (number-of c)
+    let split_of' : let a = c.args in
+        Split a.g a.card.now c.loop-i.i c.field_of-w.result c.field_of-p.result c.field_of-q.result =
+    record {
+      fitted = c.requires.0;
+      below = c.loop-i-test.true;
+      bytes = λ j m. omega (arith, c.type_inv.card j);
+      first = c.field_of-w.ensures;
+      second = c.field_of-p.ensures;
+      third = c.field_of-q.ensures;
+    } in
+    let number_of' : let a = c.args in
+        Numbered (version_of a.card.now) c.field_of-w.result a.g.disk c.number_of-b.result =
+    c.number_of-b.ensures _ (c.over_of-more.ensures ∙ ap over_of c.requires.2) in
+        pass_bad _ _ _ _ _ _ _ _ c.requires.0 c.loop-i-test.true c.loop-i.invariant.1 _ _
+    (split_flags (split_of') c.if-w-eq0.false c.if-g-q.false _ (number_of')
     (omega (arith, c.if-b.true, fitted_disk _ _ c.requires.0))) c.misfit-then-b.ensures
 
 pub with-map-requires : goal.with-map-requires
-with-map-requires c = few-of c
+with-map-requires c = let split_of' : let a = c.args in
+        Split a.g a.card.now c.loop-i.i c.field_of-w.result c.field_of-p.result c.field_of-q.result =
+    record {
+      fitted = c.requires.0;
+      below = c.loop-i-test.true;
+      bytes = λ j m. omega (arith, c.type_inv.card j);
+      first = c.field_of-w.ensures;
+      second = c.field_of-p.ensures;
+      third = c.field_of-q.ensures;
+    } in
+    let number_of' : let a = c.args in
+        Numbered (version_of a.card.now) c.field_of-w.result a.g.disk c.number_of-b.result =
+    c.number_of-b.ensures _ (c.over_of-more.ensures ∙ ap over_of c.requires.2) in
+    let used_of' : let a = c.args in
+        Used a.g a.card.now c.loop-i.i c.number_of-b.result c.field_of-q.result
+        (eqb (c.field_of-w.result / 2 ^ 56 % 2) 1) =
+    split_number (split_of') c.if-w-eq0.false c.if-g-q.false _ (number_of') ((number_of').none c.if-b.false) in
+    let few_of' : c.narrow.result < 128 =
+    let u = used_of' in
+    omega (arith, c.narrow.ensures, u.current, u.allowed.current_below, fitted_blocks _ _ c.requires.0) in
+    few_of'
 
 pub enter-shared-requires : goal.enter-shared-requires
 enter-shared-requires c =
@@ -91,10 +119,27 @@ enter-shared-requires c =
 
 pub loop-i-preserved : goal.loop-i-preserved
 loop-i-preserved c =
-    (
+    let split_of' : let a = c.args in
+        Split a.g a.card.now c.loop-i.i c.field_of-w.result c.field_of-p.result c.field_of-q.result =
+    record {
+      fitted = c.requires.0;
+      below = c.loop-i-test.true;
+      bytes = λ j m. omega (arith, c.type_inv.card j);
+      first = c.field_of-w.ensures;
+      second = c.field_of-p.ensures;
+      third = c.field_of-q.ensures;
+    } in
+    let number_of' : let a = c.args in
+        Numbered (version_of a.card.now) c.field_of-w.result a.g.disk c.number_of-b.result =
+    c.number_of-b.ensures _ (c.over_of-more.ensures ∙ ap over_of c.requires.2) in
+    let used_of' : let a = c.args in
+        Used a.g a.card.now c.loop-i.i c.number_of-b.result c.field_of-q.result
+        (eqb (c.field_of-w.result / 2 ^ 56 % 2) 1) =
+    split_number (split_of') c.if-w-eq0.false c.if-g-q.false _ (number_of') ((number_of').none c.if-b.false) in
+        (
       search rules,
       pass_used _ _ _ _ _ _ _ _ c.requires.0 c.loop-i-test.true c.loop-i.invariant.1 _ _ _ _ _ _ _
-          (used-of c) c.narrow.ensures c.with-map.ensures c.enter-shared.ensures _ (roles_more c.loop-i.roles c.field_of-w.result),
+          (used_of') c.narrow.ensures c.with-map.ensures c.enter-shared.ensures _ (roles_more c.loop-i.roles c.field_of-w.result),
     )
 
 pub returns : goal.returns

@@ -1,5 +1,5 @@
 -- `enter` puts the entry at the end of its chain.
-use Rattle.std.proofs.Common.{◌+◌, get_or, set, rules}
+use Rattle.std.proofs.Common.{◌+◌, get_or, set}
 use Rattle.checks.proofs.enter.Goals as goal
 
 pub returns : goal.returns

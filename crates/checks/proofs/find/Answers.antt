@@ -1,5 +1,5 @@
 -- `find` answers the place of the entry: of numbers that are apart the last is the first.
-use Rattle.std.proofs.Common.{get_or, rules}
+use Rattle.std.proofs.Common.{get_or}
 use Rattle.checks.proofs.Chain.{end_of}
 use Rattle.checks.proofs.Search.{find_nowhere, find_there}
 use Rattle.checks.proofs.find.Goals as goal

@@ -3,6 +3,8 @@ use Rattle.std.proofs.Common.{◌≤◌, rules}
 use borrow.Author.Tests.{not-false}
 use Rattle.checks.proofs.Order.{ring_damaged, entry_damaged, block_damaged, number_damaged, comparable, passed_settled, unsettled, passed_unsettled}
 use Rattle.checks.proofs.Tally.{free_few}
+use mathlib.Core.Bool.{not}
+use Rattle.std.proofs.Common.{ap}
 use Rattle.checks.proofs.inspect.Goals as goal
 
 pub returns-then-not-ring_fits : goal.returns-then-not-ring_fits
@@ -24,20 +26,20 @@ numbers_differ-requires c = search (comparable, rules)
 
 pub returns-then-not-numbers_differ : goal.returns-then-not-numbers_differ
 returns-then-not-numbers_differ c =
-    number_damaged _ _ _ _ c.requires.0 c.ring_fits.ensures _ c.if-not-ring_fits.false c.decode-seen.ensures c.if-not-seen.false _
-    c.numbers_differ.ensures _ c.if-not-numbers_differ.true c.refused-then-not-numbers_differ.ensures
+    number_damaged _ _ _ _ c.requires.0 c.ring_fits.ensures _ (ap not c.if-not-ring_fits.false) c.decode-seen.ensures c.if-not-seen.false _
+    c.numbers_differ.ensures _ (ap not c.if-not-numbers_differ.true) c.refused-then-not-numbers_differ.ensures
 
 pub returns-then-f-seen : goal.returns-then-f-seen
 returns-then-f-seen c =
-    passed_settled _ _ _ _ c.requires.0 c.ring_fits.ensures _ c.if-not-ring_fits.false c.decode-seen.ensures c.if-not-seen.false _
-    c.numbers_differ.ensures _ c.free_count-free.ensures c.if-free-seen-ne128.false c.if-not-numbers_differ.false _ c.if-f-seen.true c.settled_verdict.ensures
+    passed_settled _ _ _ _ c.requires.0 c.ring_fits.ensures _ (ap not c.if-not-ring_fits.false) c.decode-seen.ensures c.if-not-seen.false _
+    c.numbers_differ.ensures _ c.free_count-free.ensures c.if-free-seen-ne128.false (ap not c.if-not-numbers_differ.false) _ c.if-f-seen.true c.settled_verdict.ensures
 
 pub unsettled_verdict-requires : goal.unsettled_verdict-requires
 unsettled_verdict-requires c =
-    unsettled _ _ _ _ c.requires.0 c.ring_fits.ensures _ c.if-not-ring_fits.false c.decode-seen.ensures c.if-not-seen.false _
-    c.numbers_differ.ensures _ c.free_count-free.ensures c.if-free-seen-ne128.false c.if-not-numbers_differ.false
+    unsettled _ _ _ _ c.requires.0 c.ring_fits.ensures _ (ap not c.if-not-ring_fits.false) c.decode-seen.ensures c.if-not-seen.false _
+    c.numbers_differ.ensures _ c.free_count-free.ensures c.if-free-seen-ne128.false (ap not c.if-not-numbers_differ.false)
 
 pub returns : goal.returns
 returns c =
-    passed_unsettled _ _ _ _ c.requires.0 c.ring_fits.ensures _ c.if-not-ring_fits.false c.decode-seen.ensures c.if-not-seen.false _
-    c.numbers_differ.ensures _ c.free_count-free.ensures c.if-free-seen-ne128.false c.if-not-numbers_differ.false _ c.if-f-seen.false c.unsettled_verdict.ensures
+    passed_unsettled _ _ _ _ c.requires.0 c.ring_fits.ensures _ (ap not c.if-not-ring_fits.false) c.decode-seen.ensures c.if-not-seen.false _
+    c.numbers_differ.ensures _ c.free_count-free.ensures c.if-free-seen-ne128.false (ap not c.if-not-numbers_differ.false) _ c.if-f-seen.false c.unsettled_verdict.ensures

@@ -1,8 +1,7 @@
 -- `mark_window` marks the entries that the window has. The invariant: those that the slots passed have are marked.
-use Rattle.std.proofs.Common.{◌≡◌, ◌-◌, ◌≤◌, rules}
+use Rattle.std.proofs.Common.{◌≡◌, ◌-◌, ◌≤◌}
 use Rattle.protocol.specs.Below.{all_below}
 use Rattle.checks.specs.Marks.{slot_once, Marked}
-use Rattle.checks.proofs.Marks.{mark_start, once_start, once_more, marks_end, once_end}
 use Rattle.checks.proofs.mark_window.Given as goal
 
 abbrev pub invariant-loop-j : goal.invariant-loop-j

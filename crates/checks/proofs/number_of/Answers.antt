@@ -22,5 +22,5 @@ pub returns : goal.returns
 returns c =
     λ v h.
     numbered_none _ _ _ c.requires.0 v h _ _ _ _ _ (search rules) (search rules) (search rules) (search rules) (search rules)
-    c.wrapping_sub_u64-modified.ensures c.wrapping_sub_u64-clean.ensures c.wrapping_sub_u64-over.ensures c.wrapping_sub_u64-logged.ensures
-    c.wrapping_sub_u64-last.ensures c.if-modified-disk.false c.if-clean-disk.false c.if-over-disk.false c.if-logged-disk.false c.if-last-disk.false
+    c.wrapping_sub_u64-modified.ensures.value c.wrapping_sub_u64-clean.ensures.value c.wrapping_sub_u64-over.ensures.value c.wrapping_sub_u64-logged.ensures.value
+    c.wrapping_sub_u64-last.ensures.value c.if-modified-disk.false c.if-clean-disk.false c.if-over-disk.false c.if-logged-disk.false c.if-last-disk.false

@@ -1,8 +1,8 @@
 -- `settle` answers what the pass over the marked entries finds. The invariant: the settled blocks of those passed are marked and counted.
-use Rattle.std.proofs.Common.{◌-◌, ◌≤◌, rules}
+use Rattle.std.proofs.Common.{◌≤◌, rules}
 use Rattle.ring.proofs.Laws.{fitted_blocks}
 use Rattle.checks.proofs.Tally.{free_few}
-use Rattle.checks.proofs.Undoing.{Undoing, undoing_start, undoing_skip, undoing_more, undoing_end}
+use Rattle.checks.proofs.Undoing.{undoing_start, undoing_skip, undoing_more, undoing_end}
 use Rattle.checks.proofs.settle.Goals as goal
 
 pub loop-i-init : goal.loop-i-init
