@@ -13,11 +13,11 @@ returns-then-not-is_arranged-clause-answer c =
 
 pub returns-then-not-is_arranged-clause-output : goal.returns-then-not-is_arranged-clause-output
 returns-then-not-is_arranged-clause-output c =
-    (read_untabled _ _ _ _ _ _ _ _ c.is_arranged.ensures (ap not c.if-not-is_arranged.true) c.find.ensures c.refuse_table.ensures).1
+    (read_untabled _ _ _ _ _ _ _ _ c.is_arranged.ensures (ap not c.if-not-is_arranged.true) c.find.ensures c.refuse_table.ensures).1.0
 
 pub returns-then-not-is_arranged-clause-table : goal.returns-then-not-is_arranged-clause-table
 returns-then-not-is_arranged-clause-table c =
-    (read_untabled _ _ _ _ _ _ _ _ c.is_arranged.ensures (ap not c.if-not-is_arranged.true) c.find.ensures c.refuse_table.ensures).2
+    (read_untabled _ _ _ _ _ _ _ _ c.is_arranged.ensures (ap not c.if-not-is_arranged.true) c.find.ensures c.refuse_table.ensures).1.1
 
 pub touch_found-requires : goal.touch_found-requires
 touch_found-requires c =
@@ -31,9 +31,9 @@ returns-clause-answer c =
 pub returns-clause-output : goal.returns-clause-output
 returns-clause-output c =
     (read_used _ _ _ _ _ (sym c.is_arranged.ensures ∙ c.if-not-is_arranged.false) _ _ _ c.fetch-f.ensures.answer c.fetch-f.ensures.output
-    c.touch_found.ensures).1
+    c.touch_found.ensures).1.0
 
 pub returns-clause-table : goal.returns-clause-table
 returns-clause-table c =
     (read_used _ _ _ _ _ (sym c.is_arranged.ensures ∙ c.if-not-is_arranged.false) _ _ _ c.fetch-f.ensures.answer c.fetch-f.ensures.output
-    c.touch_found.ensures).2
+    c.touch_found.ensures).1.1

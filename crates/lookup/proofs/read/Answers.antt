@@ -3,7 +3,7 @@ use borrow.Author.Rules.{rules}
 use Rattle.lookup.proofs.read.Goals as goal
 
 pub returns-clause-answer : goal.returns-clause-answer
-returns-clause-answer c = ((c.held.ensures _ _ _ c.fetch.ensures.answer, c.fetch.ensures.output)).0
+returns-clause-answer c = c.held.ensures _ _ _ c.fetch.ensures.answer
 
 pub returns-clause-output : goal.returns-clause-output
-returns-clause-output c = ((c.held.ensures _ _ _ c.fetch.ensures.answer, c.fetch.ensures.output)).1
+returns-clause-output c = c.fetch.ensures.output

@@ -3,10 +3,10 @@ use borrow.Author.Rules.{rules}
 use Rattle.lookup.proofs.read_recent.Goals as goal
 
 pub returns-clause-answer : goal.returns-clause-answer
-returns-clause-answer c = (let (f, rest) = (c.fetch_recent.ensures.answer, c.fetch_recent.ensures.output, c.fetch_recent.ensures.table) in (c.held.ensures _ _ _ f, rest)).0
+returns-clause-answer c = c.held.ensures _ _ _ c.fetch_recent.ensures.answer
 
 pub returns-clause-output : goal.returns-clause-output
-returns-clause-output c = (let (f, rest) = (c.fetch_recent.ensures.answer, c.fetch_recent.ensures.output, c.fetch_recent.ensures.table) in (c.held.ensures _ _ _ f, rest)).1
+returns-clause-output c = c.fetch_recent.ensures.output
 
 pub returns-clause-table : goal.returns-clause-table
-returns-clause-table c = (let (f, rest) = (c.fetch_recent.ensures.answer, c.fetch_recent.ensures.output, c.fetch_recent.ensures.table) in (c.held.ensures _ _ _ f, rest)).2
+returns-clause-table c = c.fetch_recent.ensures.table

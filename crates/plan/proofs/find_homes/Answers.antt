@@ -23,7 +23,7 @@ bounds-previous-i c = search (c.loop-i.invariant.1.long.1, c.requires.2, rules)
 
 pub loop-i-preserved : goal.loop-i-preserved
 loop-i-preserved c =
-    (search rules, found_turn _ _ _ _ _ _ c.loop-i.invariant.1 _ c.loop-i-test.true c.requires.2 c.Home-of.ensures)
+    (search rules, found_turn _ _ _ _ _ _ c.loop-i.invariant.1 _ c.loop-i-test.true c.requires.2 c.home_of-h.ensures)
 
 pub returns : goal.returns
 returns c = search (found_end, rules)

@@ -14,7 +14,7 @@ use Rattle.recovery.proofs.make_list.Given as goal
 abbrev pub invariant-loop-i : goal.invariant-loop-i
 invariant-loop-i l =
     (l.i ≤ l.n + 1)
-    × Went (each_below (runs_at l.g l.initial.card) l.i) l.credit l.initial.card l.card (record { l.count = l.count; l.left = l.left })
+    × Went (each_below (runs_at l.g l.initial.card) l.i) l.credit l.initial.card l.card (record { count = l.count; left = l.left })
     × (l.count ≤ l.i)
     × BlocksNoted l.g l.initial.card (min l.i l.g.blocks) l.moved
 

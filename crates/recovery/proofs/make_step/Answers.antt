@@ -11,7 +11,7 @@ entry_place-requires c =
 
 pub make_entry-requires : goal.make_entry-requires
 make_entry-requires c =
-    undo_placed c.args.g _ _ _ c.requires.0 (undo_fits c.args.g _ _ _ c.in-Undo.is c.requires.1) c.entry_IsPlace.ensures
+    undo_placed c.args.g _ _ _ c.requires.0 (undo_fits c.args.g _ _ _ c.in-Undo.is c.requires.1) c.entry_place.ensures
 
 pub make_word-requires : goal.make_word-requires
 make_word-requires c = search (tail_place_fits, rules)
@@ -21,7 +21,7 @@ returns-in-Nothing c = nothing_went _ _ _ _ _ c.in-Nothing.is
 
 pub returns-in-Undo : goal.returns-in-Undo
 returns-in-Undo c =
-    undo_went _ _ _ _ _ _ _ _ _ c.in-Undo.is c.entry_IsPlace.ensures c.make_entry.ensures
+    undo_went _ _ _ _ _ _ _ _ _ c.in-Undo.is c.entry_place.ensures c.make_entry.ensures
 
 pub returns-in-Tail : goal.returns-in-Tail
 returns-in-Tail c = tail_went _ _ _ _ _ _ _ _ c.in-Tail.is c.make_word.ensures

@@ -13,7 +13,7 @@ pub returns-in-Nothing : goal.returns-in-Nothing
 returns-in-Nothing c = run_nothing _ _ _ c.in-Nothing.is
 
 pub returns-in-Undo : goal.returns-in-Undo
-returns-in-Undo c = run_undo _ _ _ _ _ c.in-Undo.is c.entry_IsPlace.ensures
+returns-in-Undo c = run_undo _ _ _ _ _ c.in-Undo.is c.entry_place.ensures
 
 pub returns-in-Tail : goal.returns-in-Tail
 returns-in-Tail c = run_tail _ _ _ _ c.in-Tail.is

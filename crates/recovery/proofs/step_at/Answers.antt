@@ -10,6 +10,6 @@ returns-then-i-g c = search (listed_entry, rules)
 
 pub returns-else-i-g : goal.returns-else-i-g
 returns-else-i-g c =
-    let t = c.Tail-step.ensures in
+    let t = c.tail_step.ensures in
     listed_tail _ _ _ _ c.if-i-g.false
     (t.0 _ (λ j m. omega (arith, c.type_inv.card j)) (fitted_long _ _ c.requires.0) c.requires.1, t.1)
