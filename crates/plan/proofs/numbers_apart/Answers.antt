@@ -9,7 +9,7 @@ use Rattle.plan.proofs.Request.{test_passed, test_failed}
 use Rattle.plan.proofs.Seen.{Seen, seen_start, seen_few, seen_new, seen_turn}
 use borrow.Author.Rules.{rules}
 use Rattle.plan.proofs.numbers_apart.Goals as goal
-use Rattle.plan.proofs.numbers_apart.Goals.{then-seen-r-ne0, else-seen-r-ne0}
+use Rattle.plan.proofs.numbers_apart.Goals.{then-seen-r-ne0+else-not-is_new, else-seen-r-ne0}
 
 pub returns-then-numbers-lt2 : goal.returns-then-numbers-lt2
 returns-then-numbers-lt2 c = sym (search (seen_few, rules))
@@ -26,7 +26,7 @@ loop-i-preserved c =
     (
       search rules,
       elim c.if-seen-r-ne0.branch [
-        then-seen-r-ne0 w ↦ search (seen_turn, test_passed, w, rules)
+        then-seen-r-ne0+else-not-is_new w ↦ search (seen_turn, test_passed, w, rules)
       | else-seen-r-ne0 w ↦ search (seen_turn, seen_new, w, rules)
       ],
     )
