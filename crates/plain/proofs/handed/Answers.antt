@@ -7,12 +7,12 @@ use Rattle.plain.proofs.handed.Goals as goal
 
 pub returns-in-Done-clause-answer : goal.returns-in-Done-clause-answer
 returns-in-Done-clause-answer c =
-    (let s = c.args.s in
+    let s = c.args.s in
     let ws = c.args.words.now in
-    (c.answer.ensures, c.put_words.ensures ∙ ap (λ (a : Answer). words_after a s.map ws) (sym c.in-Done.is))).0
+    c.answer.ensures
 
 pub returns-in-Done-clause-words : goal.returns-in-Done-clause-words
 returns-in-Done-clause-words c =
-    (let s = c.args.s in
+    let s = c.args.s in
     let ws = c.args.words.now in
-    (c.answer.ensures, c.put_words.ensures ∙ ap (λ (a : Answer). words_after a s.map ws) (sym c.in-Done.is))).1
+    c.put_words.ensures ∙ ap (λ (a : Answer). words_after a s.map ws) (sym c.in-Done.is)

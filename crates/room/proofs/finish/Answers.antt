@@ -17,18 +17,18 @@ overflow_add-result c = search (c.requires.3 _ c.in-Done.is, rules)
 pub returns-in-Done-clause-answer : goal.returns-in-Done-clause-answer
 unfolding counted handed_on turned
 returns-in-Done-clause-answer c =
-    (let s = c.args in
+    let s = c.args in
     let e = sym c.in-Done.is in
     let moved = c.all_to_front.ensures in
-    ((ap (counted s.evicted) e, ap (λ (y : Answer). handed_on y s.map s.s.map) e), moved ∙ ap (λ (y : Answer). turned y s.table.now (all_to_front (λ i. get_or s.entries.now i 0) s.n s.table.now)) e)).0
+    (ap (counted s.evicted) e, ap (λ (y : Answer). handed_on y s.map s.s.map) e)
 
 pub returns-in-Done-clause-table : goal.returns-in-Done-clause-table
 unfolding counted handed_on turned
 returns-in-Done-clause-table c =
-    (let s = c.args in
+    let s = c.args in
     let e = sym c.in-Done.is in
     let moved = c.all_to_front.ensures in
-    ((ap (counted s.evicted) e, ap (λ (y : Answer). handed_on y s.map s.s.map) e), moved ∙ ap (λ (y : Answer). turned y s.table.now (all_to_front (λ i. get_or s.entries.now i 0) s.n s.table.now)) e)).1
+    moved ∙ ap (λ (y : Answer). turned y s.table.now (all_to_front (λ i. get_or s.entries.now i 0) s.n s.table.now)) e
 
 pub returns-in-Cut-clause-answer : goal.returns-in-Cut-clause-answer
 unfolding counted handed_on turned
@@ -41,13 +41,13 @@ returns-in-Cut-clause-table c = search rules
 pub returns-in-Refused-clause-answer : goal.returns-in-Refused-clause-answer
 unfolding counted handed_on turned
 returns-in-Refused-clause-answer c =
-    (let s = c.args in
+    let s = c.args in
     let e = sym c.in-Refused.is in
-    ((ap (counted s.evicted) e, ap (λ (y : Answer). handed_on y s.map s.s.map) e), ap (λ (y : Answer). turned y s.table.now (all_to_front (λ i. get_or s.entries.now i 0) s.n s.table.now)) e)).0
+    (ap (counted s.evicted) e, ap (λ (y : Answer). handed_on y s.map s.s.map) e)
 
 pub returns-in-Refused-clause-table : goal.returns-in-Refused-clause-table
 unfolding counted handed_on turned
 returns-in-Refused-clause-table c =
-    (let s = c.args in
+    let s = c.args in
     let e = sym c.in-Refused.is in
-    ((ap (counted s.evicted) e, ap (λ (y : Answer). handed_on y s.map s.s.map) e), ap (λ (y : Answer). turned y s.table.now (all_to_front (λ i. get_or s.entries.now i 0) s.n s.table.now)) e)).1
+    ap (λ (y : Answer). turned y s.table.now (all_to_front (λ i. get_or s.entries.now i 0) s.n s.table.now)) e

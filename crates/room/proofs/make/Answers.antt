@@ -40,12 +40,10 @@ finish-requires c =
 
 pub returns-clause-media : goal.returns-clause-media
 returns-clause-media c =
-    (let f = (c.finish.ensures.answer, c.finish.ensures.table) in
-    make_done _ _ _ _ _ _ _ _ _ _ _ c.requires _ _ c.weigh-count.ensures _ _ _ c.credit-credit.ensures _ _ c.clear.ensures
-    c.if-allowance-count.false _ c.release-left.ensures _ _ _ c.save-s.ensures _ _ f.0 f.1).0
+    (make_done _ _ _ _ _ _ _ _ _ _ _ c.requires _ _ c.weigh-count.ensures _ _ _ c.credit-credit.ensures _ _ c.clear.ensures
+    c.if-allowance-count.false _ c.release-left.ensures _ _ _ c.save-s.ensures _ _ c.finish.ensures.answer c.finish.ensures.table).0
 
 pub returns-clause-table : goal.returns-clause-table
 returns-clause-table c =
-    (let f = (c.finish.ensures.answer, c.finish.ensures.table) in
-    make_done _ _ _ _ _ _ _ _ _ _ _ c.requires _ _ c.weigh-count.ensures _ _ _ c.credit-credit.ensures _ _ c.clear.ensures
-    c.if-allowance-count.false _ c.release-left.ensures _ _ _ c.save-s.ensures _ _ f.0 f.1).1
+    (make_done _ _ _ _ _ _ _ _ _ _ _ c.requires _ _ c.weigh-count.ensures _ _ _ c.credit-credit.ensures _ _ c.clear.ensures
+    c.if-allowance-count.false _ c.release-left.ensures _ _ _ c.save-s.ensures _ _ c.finish.ensures.answer c.finish.ensures.table).1

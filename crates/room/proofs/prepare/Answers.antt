@@ -14,7 +14,7 @@ choose-v-requires c =
     let p = c.requires in
     let x = c.ask-x.ensures in
     let z = c.if-x-ne0.false in
-    let own = x.geometry-is z in
+    let own = x.geometry_is z in
     let none = sym x.refusal_is ∙ z in
     let f = asked_fits _ _ _ _ _ _ _ none in
     (own, asked_fit _ _ _ _ _ _ _ none, (_, x.searchable z), rw own f.1, f.0, p.0, p.1, p.2)
