@@ -17,10 +17,10 @@ pub returns-clause-card : goal.returns-clause-card
 returns-clause-card c =
     (let x = c.args in
     let e = finish_held _ _ _ _ _ _ _ c.lent_record.ensures c.finish.ensures in
-    lent_call (λ (m : Map). finish_work 2 x.card.now m (lent_record x.held.now)) _ _ _ _ _ _ _ c.lent-m.ensures e.answers e.hands (c.handed.ensures.answer, c.handed.ensures.words) _ e.leaves).1
+    lent_call (λ (m : Map). finish_work 2 x.card.now m (lent_record x.held.now)) _ _ _ _ _ _ _ c.lent-m.ensures e.answers e.hands (c.handed.ensures.answer, c.handed.ensures.words) _ e.leaves).1.0
 
 pub returns-clause-map : goal.returns-clause-map
 returns-clause-map c =
     (let x = c.args in
     let e = finish_held _ _ _ _ _ _ _ c.lent_record.ensures c.finish.ensures in
-    lent_call (λ (m : Map). finish_work 2 x.card.now m (lent_record x.held.now)) _ _ _ _ _ _ _ c.lent-m.ensures e.answers e.hands (c.handed.ensures.answer, c.handed.ensures.words) _ e.leaves).2
+    lent_call (λ (m : Map). finish_work 2 x.card.now m (lent_record x.held.now)) _ _ _ _ _ _ _ c.lent-m.ensures e.answers e.hands (c.handed.ensures.answer, c.handed.ensures.words) _ e.leaves).1.1
