@@ -170,6 +170,27 @@ fetch_stopped c d n r o there h l out =
     ∙ or_else_assoc (pair_refusal 2 c d) (refuse 19 (in_range (geometry_of c) r)) _)
     h
 
+-- ---- what the code asks on its way
+
+-- the size of a block that was found is a block's
+pub size_between : (c : List ℕ) (n r : ℕ) (o : Place) → Found4 c n r o → o.refusal ≡ 0 → (512 ≤ o.size) × (o.size ≤ 4096)
+size_between c n r o there none =
+    let d : List ℕ = replicate n 0 in
+    let l : length d ≡ n = length-replicate {A = ℕ} n 0 in
+    let (p, q) = or_else_none (pair_refusal 2 c d) _ (sym (there.refusal_is d l) ∙ none) in
+    let m : Limits (geometry_of c) = limits (geometry_of c) (pair_good c d p) in
+    (omega (arith, m.size, there.size_is none), omega (arith, m.size, there.size_is none))
+
+-- a record that stands has at most 250 ingredients
+pub record_between : (first : List ℕ) (k : ℕ) → block_refusal first ≡ 0 → k ≡ record_length (count_in first) → (0 < k) × (k ≤ 1528)
+unfolding block_refusal record_length
+record_between first k z e = go (either (is_blank first)) (either (good_record first))
+  where
+    go : (is_blank first ≡ true) ⊎ (is_blank first ≡ false) → (good_record first ≡ true) ⊎ (good_record first ≡ false) → (0 < k) × (k ≤ 1528)
+    go (inl b) q = let y : ◌≡◌ {A = ℕ} 20 0 = rw b at z in absurd (omega arith)
+    go (inr b) (inr q) = let y : ◌≡◌ {A = ℕ} 21 0 = rw (b, q) at z in absurd (omega arith)
+    go (inr b) (inl q) = (omega (arith, (laid first q).few), omega (arith, (laid first q).few))
+
 -- ---- the blocks that were found
 
 module _ (c : List ℕ) (n r : ℕ) (o : Place) (there : Found4 c n r o) (none : o.refusal ≡ 0) (w : List ℕ) (sized : length w ≡ 4 * o.size) where
