@@ -28,9 +28,9 @@ use Rattle.protocol.specs.Recover.{recover_refusal}
 use Rattle.protocol.specs.Load.{pair_refusal}
 use Rattle.protocol.specs.Room.{room_work}
 use Rattle.protocol.specs.History.{Call, make_room, Request, Media, work_of, answer_to, after, answers, fresh, Row, replaced, Reckoned, reckoned, with_row, with_cut, with_puts, reckon, reckon_all}
-use Rattle.protocol.specs.CutRule.{left, row_left, recovering as recall, Sound}
+use Rattle.protocol.specs.CutRule.{left, row_left, recovering as recall, Sound, SoundPair}
 use Rattle.protocol.proofs.Below.{either, same_or_other}
-use Rattle.protocol.proofs.CutRule.{cut_rule, left-more, row_more}
+use Rattle.protocol.proofs.CutRule.{cut_rule, pair_rule, left-more, row_more}
 use Rattle.protocol.proofs.Holds.{pass, none_first, or_else_assoc}
 use Rattle.protocol.proofs.Passed.{first_zero, passed}
 use Rattle.recipe.specs.declared.Fetched.{Fetched}
@@ -177,6 +177,9 @@ module _ (v : ℕ) (g : Geometry) (c d : List ℕ) (known : between 1 2 v ≡ tr
   sound : (rs : List Request) → Sound v g c d rs
   sound rs = cut_rule v g c d rs known ok sized
 
+  sound_pair : (rs : List Request) → SoundPair v g c d rs
+  sound_pair rs = pair_rule v g c d rs known ok sized
+
   fine : good_geometry g ≡ true
   fine = format_good g c ok
 
@@ -185,7 +188,7 @@ module _ (v : ℕ) (g : Geometry) (c d : List ℕ) (known : between 1 2 v ≡ tr
   one q m shelf x = go (step g fine m own q.version q.map q.allowance q.call)
     where
       own : geometry_of m.on_card ≡ g
-      own = ap (λ (y : Media). geometry_of y.on_card) (sym x.there) ∙ (sound x.calls).geometry
+      own = ap (λ (y : Media). geometry_of y.on_card) (sym x.there) ∙ (sound_pair x.calls).geometry
 
       reckoning : Reckoned
       reckoning = reckon_all g x.calls (answers x.calls (fresh v g c d)) (reckoned (disk_block g d))
@@ -278,7 +281,7 @@ module _ (v : ℕ) (g : Geometry) (c d : List ℕ) (known : between 1 2 v ≡ tr
   shelf = shelf_left v g c d past qs
 
   geometry_is : geometry_of m.on_card ≡ g
-  geometry_is = carried v g c d known ok sized past (λ y. geometry_of y.on_card ≡ g) qs (λ rs. (sound v g c d known ok sized rs).geometry)
+  geometry_is = carried v g c d known ok sized past (λ y. geometry_of y.on_card ≡ g) qs (λ rs. (sound_pair v g c d known ok sized rs).geometry)
 
   stands_on : is_settled g m.on_card ≡ true → (r : ℕ) → in_range g r ≡ true → standing_on m.on_card m.on_disk r ≡ shelf r
   unfolding standing_on
@@ -291,7 +294,7 @@ module _ (v : ℕ) (g : Geometry) (c d : List ℕ) (known : between 1 2 v ≡ tr
       ap (λ (y : ℕ). y or_else x)
       (carried v g c d known ok sized past
       (λ y. pair_refusal 2 y.on_card y.on_disk ≡ refuse 1 (eqb (version_of y.on_card) 2) or_else refuse 7 (is_settled g y.on_card)) qs
-      (λ rs. (sound v g c d known ok sized rs).pairs 2))
+      (λ rs. (sound_pair v g c d known ok sized rs).pairs 2))
       ∙ or_else_assoc (refuse 1 (eqb (version_of m.on_card) 2)) (refuse 7 (is_settled g m.on_card)) x
       ∙ ap (λ (y : ℕ). refuse 1 (eqb (version_of m.on_card) 2) or_else y) (none_first x (pass 7 settled))
 
