@@ -1,15 +1,13 @@
--- `ended`: what is put at the front of the zeros is shorter than they are, so that the last of them stays.
+-- What is put at the front of the zeros is shorter than they are, so that the last of them stays.
 use mathlib.Core.Path.{◌≡◌, refl, ap, ◌∙◌}
 use mathlib.Core.List.{List, ◌++◌}
 use Prim.Native.Nat.{ℕ, suc, ◌+◌, ◌-◌, ◌≤◌}
 use native.Mathlib.Omega.{arith}
 use lib.ListN.{length, get_or, drop, replicate, length-replicate, get_or-replicate}
 use lib.Seq.{get_or-append-add, get_or-drop}
-use borrow.Author.Rules.{rules}
 use Rattle.numbers.specs.Bytes.{part, patch}
 use Rattle.numbers.proofs.Laws.{part_all, patch_as_parts}
-use Rattle.kind.proofs.ended.Statement.{statement}
-use Rattle.kind.proofs.ended.Tie as tie
+use Rattle.kind.proofs.ended.Goals as goal
 
 abbrev zeros : ℕ → List ℕ
 zeros n = replicate n 0
@@ -29,14 +27,5 @@ put n p r h e =
     let whole : r ≡ patch (zeros (suc n)) 0 p = e ∙ ap (patch (zeros (suc n)) 0) (part_all p (length p) refl) in
     (whole, ap (λ (l : List ℕ). get_or l n 1) whole ∙ last-zero n p h)
 
-slice-aggregate-copy : tie.Need-slice-aggregate-copy
-slice-aggregate-copy c = search rules
-
-copy-requires : tie.Need-copy-requires
-copy-requires c κs = search rules
-
-returns : tie.Need-returns
-returns c = put 4095 c.before.before.before.before.args.path.now c.before.copy.new.0 (omega arith) c.before.copy.ensures
-
-pub ended-spec : {M : Type 1} → statement M
-ended-spec = tie.close (tie.spec slice-aggregate-copy copy-requires returns)
+pub returns : goal.returns
+returns c = put 4095 c.args.path.now c.copy.new.dst (omega arith) c.copy.ensures
