@@ -1,0 +1,7 @@
+-- `log_entry` answers the entry.
+use Rattle.protocol.specs.Entry.{entry_of}
+use borrow.Author.Rules.{rules}
+use Rattle.commit.proofs.log_entry.Goals as goal
+
+pub returns : goal.returns
+returns c = λ t. entry_of (c.log_flags.ensures t) c.args.number (c.previous_of-before.ensures t) c.args.block

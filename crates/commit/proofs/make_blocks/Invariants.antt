@@ -1,0 +1,20 @@
+-- `make_blocks` makes the stores of every block. The invariant: those of the blocks passed are made.
+use Prim.Native.Nat.{◌≤◌, ◌-◌}
+use mathlib.Core.Path.{◌≡◌, ap}
+use lib.ListN.{length}
+use Rattle.protocol.specs.declared.Entry.{Entry}
+use Rattle.protocol.specs.Below.{each_below}
+use Rattle.protocol.specs.Store.{Medium}
+use Rattle.stores.specs.Did.{Did}
+use Rattle.stores.proofs.Laws.{did_start}
+use Rattle.commit.specs.Making.{plan_by, planned_block}
+use Rattle.commit.proofs.Loops.{entry_on, block_on, data_on, block_turn, each_all}
+use borrow.Author.Rules.{rules}
+use Rattle.commit.proofs.make_blocks.Given as goal
+
+abbrev pub invariant-loop-i : goal.invariant-loop-i
+invariant-loop-i l =
+    (l.i ≤ length l.numbers) × (length l.card ≡ length l.initial.card) × Did Medium.card (each_below (planned_block l.g (plan_by l.entries l.previous l.blocks) l.head l.numbers l.«data») l.i) l.choice l.credit l.initial.card l.card l.a
+
+abbrev pub decreases-loop-i : goal.decreases-loop-i
+decreases-loop-i l = length l.numbers - l.i

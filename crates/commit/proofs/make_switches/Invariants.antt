@@ -1,0 +1,21 @@
+-- `make_switches` makes every role switch. The invariant: those of the blocks passed are made.
+use Prim.Native.Nat.{ℕ, ◌≤◌, ◌-◌}
+use mathlib.Core.List.{List}
+use mathlib.Core.Path.{◌≡◌}
+use lib.ListN.{length}
+use Rattle.protocol.specs.Below.{each_below}
+use Rattle.protocol.specs.Store.{Medium}
+use Rattle.stores.specs.Did.{Did}
+use Rattle.stores.proofs.Laws.{did_start}
+use Rattle.commit.specs.Making.{plan_by, planned_switch}
+use Rattle.commit.proofs.Loops.{entry_on, entry_lies, switch_turn, each_all}
+use native.Mathlib.Omega.{arith}
+use borrow.Author.Rules.{rules}
+use Rattle.commit.proofs.make_switches.Given as goal
+
+abbrev pub invariant-loop-i : goal.invariant-loop-i
+invariant-loop-i l =
+    (l.i ≤ length l.numbers) × (length l.card ≡ length l.initial.card) × ((ch : List ℕ) → Did Medium.card (each_below (planned_switch l.g (plan_by l.entries l.previous l.blocks) l.numbers) l.i) ch l.left l.initial.card l.card l.a)
+
+abbrev pub decreases-loop-i : goal.decreases-loop-i
+decreases-loop-i l = length l.numbers - l.i

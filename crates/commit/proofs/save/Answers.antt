@@ -1,0 +1,17 @@
+-- `save` makes a commit's plan, closed.
+use borrow.Author.Rules.{rules}
+use Rattle.commit.proofs.Whole.{save_fitted, save_few, save_makable, save-made}
+use Rattle.commit.proofs.save.Goals as goal
+
+pub count_of-count-requires : goal.count_of-count-requires
+count_of-count-requires c =
+    let v = c.requires in
+    ((save_fitted _ _ _ _ _ _ _ _ _ v).good, save_few _ _ _ _ _ _ _ _ _ v)
+
+pub make_save-requires : goal.make_save-requires
+make_save-requires c =
+    save_makable _ _ _ _ _ _ _ _ _ c.requires _ (search rules) _ c.count_of-count.ensures
+
+pub returns : goal.returns
+returns c =
+    save-made _ _ _ _ _ _ _ _ _ c.requires _ _ _ _ _ _ c.count_of-count.ensures c.make_save.ensures

@@ -1,0 +1,17 @@
+-- `window_fault` names the first slot whose number is not below D. The invariant: none of the slots passed is one.
+use Prim.Native.Nat.{◌≤◌, ◌-◌}
+use mathlib.Core.Bool.{false}
+use mathlib.Core.Path.{◌≡◌}
+use Rattle.protocol.specs.Below.{any_below}
+use Rattle.protocol.specs.Check.{window_number_fits}
+use Rattle.ring.proofs.Laws.{window_on_ring}
+use Rattle.faults.specs.Fault.{fails}
+use Rattle.faults.proofs.Named.{window_fault_lem, window_next, window_sound}
+use borrow.Author.Rules.{rules}
+use Rattle.faults.proofs.window_fault.Given as goal
+
+abbrev pub invariant-loop-j : goal.invariant-loop-j
+invariant-loop-j l = (l.j ≤ l.count) × (any_below (fails (window_number_fits l.g l.card)) l.j ≡ false)
+
+abbrev pub decreases-loop-j : goal.decreases-loop-j
+decreases-loop-j l = l.count - l.j

@@ -1,0 +1,15 @@
+-- `house` gives each number that is not cached the next unused entry. The invariant: those passed have theirs.
+use Prim.Native.Nat.{◌≤◌, ◌<◌, ◌-◌}
+use lib.ListN.{length}
+use Rattle.ring.proofs.Laws.{fitted_blocks}
+use Rattle.protocol.specs.Search.{unused_entries}
+use Rattle.plan.specs.Walked.{unused_before}
+use Rattle.plan.proofs.Housing.{Walking, walking_start, walking_room, walking_past, walking_housed, walking_end}
+use borrow.Author.Rules.{rules}
+use Rattle.plan.proofs.house.Given as goal
+
+abbrev pub invariant-loop-i : goal.invariant-loop-i
+invariant-loop-i l = (l.i ≤ l.n) × Walking l.g l.card l.initial.entries l.i l.entries l.walked
+
+abbrev pub decreases-loop-i : goal.decreases-loop-i
+decreases-loop-i l = l.n - l.i

@@ -1,0 +1,39 @@
+-- `make_list` makes all of recovery's stores. The loop's invariant: those of the places passed are made and counted, which leaves the window
+-- and the entries ahead as they stood, and the blocks that the entries passed give up and take are noted.
+use Prim.Native.Nat.{◌+◌, ◌≤◌, ◌-◌, min}
+use borrow.Author.Rules.{rules}
+use Rattle.protocol.specs.Below.{each_below}
+use Rattle.stores.proofs.Laws.{did_length}
+use Rattle.recovery.specs.Step.{runs_at}
+use Rattle.recovery.specs.Went.{Went}
+use Rattle.recovery.specs.Blocks.{BlocksNoted}
+use Rattle.recovery.proofs.Moving.{noted_none, good_stays, noted_next, noted_last}
+use Rattle.recovery.proofs.Turns.{turn_first, turn_next, turn_last, fitted_stays, window_stays, place_fits, count_fits_lem}
+use Rattle.recovery.proofs.make_list.Goals as goal
+
+pub loop-i-init : goal.loop-i-init
+loop-i-init c = search (turn_first, noted_none, rules)
+
+pub overflow_add-i : goal.overflow_add-i
+overflow_add-i c = search (place_fits, rules)
+
+pub step_at-u-requires : goal.step_at-u-requires
+step_at-u-requires c = search (fitted_stays, window_stays, rules)
+
+pub note_step-moved-requires : goal.note_step-moved-requires
+note_step-moved-requires c = search (fitted_stays, good_stays, rules)
+
+pub make_step-p-requires : goal.make_step-p-requires
+make_step-p-requires c = search (fitted_stays, rules)
+
+pub overflow_add-count : goal.overflow_add-count
+overflow_add-count c = search (count_fits_lem, rules)
+
+pub loop-i-preserved : goal.loop-i-preserved
+loop-i-preserved c = search (turn_next, noted_next, rules)
+
+pub shape_of-card : goal.shape_of-card
+shape_of-card c = search (did_length, rules)
+
+pub returns : goal.returns
+returns c = search (turn_last, noted_last, rules)

@@ -1,0 +1,16 @@
+-- `window_fits` answers whether every number in the window is below D. The invariant: those passed are.
+use Prim.Native.Nat.{◌≤◌, ◌-◌}
+use mathlib.Core.Bool.{true}
+use mathlib.Core.Path.{◌≡◌, sym}
+use Rattle.protocol.specs.Below.{all_below}
+use Rattle.protocol.specs.Check.{window_number_fits}
+use Rattle.protocol.proofs.Below.{all_more, all_fails, all_done}
+use Rattle.ring.proofs.Laws.{window_number_fits_lem, window_number_misfits}
+use borrow.Author.Rules.{rules}
+use Rattle.ring.proofs.window_fits.Given as goal
+
+abbrev pub invariant-loop-j : goal.invariant-loop-j
+invariant-loop-j l = (l.j ≤ l.count) × (all_below (window_number_fits l.g l.card) l.j ≡ true)
+
+abbrev pub decreases-loop-j : goal.decreases-loop-j
+decreases-loop-j l = l.count - l.j

@@ -1,0 +1,12 @@
+-- `weigh` counts the stores and notes the data blocks. The invariant: those of the victims passed are counted and noted.
+use Prim.Native.Nat.{◌≤◌, ◌-◌}
+use native.Mathlib.Omega.{arith}
+use Rattle.room.proofs.Clearing.{clear_few, place_below, Counting, counting_start, count_few, current_few, counting_turn, counting_end}
+use borrow.Author.Rules.{rules}
+use Rattle.room.proofs.weigh.Given as goal
+
+abbrev pub invariant-loop-k : goal.invariant-loop-k
+invariant-loop-k l = (l.k ≤ l.count) × Counting l.g l.card l.victims l.k l.freed l.stores
+
+abbrev pub decreases-loop-k : goal.decreases-loop-k
+decreases-loop-k l = l.count - l.k

@@ -1,0 +1,16 @@
+-- `make_chosen` makes the chosen units. The invariant: those of the units passed are made.
+use Prim.Native.Nat.{ℕ, ◌+◌, ◌≤◌, ◌<◌, ◌-◌, ◌*◌, ◌^◌}
+use mathlib.Core.Path.{◌≡◌, sym, subst}
+use lib.ListN.{length}
+use Rattle.numbers.specs.Bytes.{part}
+use Rattle.protocol.specs.Store.{Medium, made_on, chosen, units}
+use Rattle.stores.proofs.Laws.{unit_sum, unit_room, chosen-start, chosen_turn, chosen_passed, chosen_end}
+use borrow.Author.Rules.{rules}
+use Rattle.stores.proofs.make_chosen.Given as goal
+
+abbrev pub invariant-loop-i : goal.invariant-loop-i
+invariant-loop-i l =
+    (l.i ≤ l.count) × (length l.dst ≡ length l.initial.dst) × ((m : Medium) → l.dst ≡ made_on m (chosen l.choice (units m (2 ^ l.places) l.i l.to (part l.src l.from (l.count * 2 ^ l.places)))) l.initial.dst)
+
+abbrev pub decreases-loop-i : goal.decreases-loop-i
+decreases-loop-i l = l.count - l.i
