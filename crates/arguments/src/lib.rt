@@ -1,24 +1,40 @@
-// The program's arguments as numbers, and whether one came whole.
+// The program's arguments as numbers, how many there are, and whether one came whole.
 #![tactic(auto)]
 
-ghost use Rattle.std.specs.Prelude.{◌≡◌, true, ◌-◌, ◌≤◌, min};
-ghost use Rattle.io.specs.Counts.{IsPrefixLen};
+ghost use Rattle.std.specs.Prelude.{◌≡◌, true, ◌-◌, ◌≤◌, min, length};
 
+use std::env::FillError;
+use std::rt::Env;
 use text::Parsed;
 
-// Argument i as a number.
-pub fn number(i: usize) -> Parsed {
-    let mut buf = io::buffer();
-    let n = os::arg(i, &mut buf);
-    text::parse(&buf[..n])
+// How many arguments there are, the program's own name among them.
+pub fn count(env: &impl Env) -> usize {
+    for i in 0..usize::MAX {
+        if let Err(FillError::NotPresent) = env.arg(i, &mut [0u8; 1]) {
+            return i;
+        }
+    }
+    usize::MAX
 }
 
-// Whether the argument just read was whole; says so where it was not.
-pub fn is_whole(what: &[u8]) -> bool {
-    if os::errno() == 0 {
-        return true;
+// Argument i as a number.
+pub fn number(env: &impl Env, i: usize) -> Parsed {
+    let mut buf = [0u8; 4096];
+    match env.arg(i, &mut buf) {
+        Ok(n) => text::parse(&buf[..n]),
+        Err(_) => Parsed::Wrong,
     }
-    os::fail(what);
+}
+
+// Whether an argument was whole when it was read; says so where it was not.
+pub fn is_whole(err: &impl Print, what: &[u8], read: Result<usize, FillError>) -> bool {
+    let why: &[u8] = match read {
+        Ok(_) => return true,
+        Err(FillError::NotPresent) => b": Invalid argument\n",
+        Err(FillError::TooLong) => b": File name too long\n",
+    };
+    let _ = err.write_all(what);
+    let _ = err.write_all(why);
     false
 }
 
@@ -32,14 +48,14 @@ pub struct ArgumentList {
 
 // The numbers from argument 3 up to `end`. The first 256 are kept: no card takes a save of more than 255, and one that refuses 256 for their
 // count refuses more of them with the same number.
-pub fn numbers(end: usize) -> ArgumentList
-    ensures { (result.count ≤ 256) × IsPrefixLen result.count result.list × (result.all ≡ true → result.count ≡ min (end - 3) 256) }
+pub fn numbers(env: &impl Env, end: usize) -> ArgumentList
+    ensures { (result.count ≤ 256) × (result.count ≤ length result.list) × (result.all ≡ true → result.count ≡ min (end - 3) 256) }
 {
     let mut list = [0u64; 256];
     let mut kept: usize = 0;
     let mut i: usize = 3;
     while i < end {
-        let Parsed::Number(b) = number(i) else {
+        let Parsed::Number(b) = number(env, i) else {
             return ArgumentList {
                 all: false,
                 count: 0,

@@ -1,91 +1,104 @@
 // A card's file, opened and read, and what is wrong with it, in a line on standard error.
 #![tactic(auto)]
 
-ghost use Rattle.io.specs.Counts.{IsPrefixLen};
+ghost use Rattle.std.specs.Prelude.{◌≤◌, length, IfSome};
 
-use image::Got;
-use libc::STDERR_FILENO;
-use listing::{count, say};
+use listing::{count, fail, say};
+use std::fs::{File, OpenOptions};
+use std::io;
 
-pub fn err(s: &[u8]) {
-    say(STDERR_FILENO, s);
+pub fn err(rt: &HostRuntime, s: &[u8]) {
+    say(&rt.stderr(), s);
 }
 
 // Whether the path leads to what is no regular file; says so. Such a thing is never opened: a FIFO would keep the program waiting.
-pub fn is_special(path: &[u8]) -> bool {
-    if !kind::is_special(path) {
+pub fn is_special(rt: &HostRuntime, path: &[u8]) -> bool {
+    if !kind::is_special(rt, path) {
         return false;
     }
-    err(path);
-    err(b": not a regular file\n");
+    err(rt, path);
+    err(rt, b": not a regular file\n");
     true
 }
 
-// The file, open for reading; or -1, and it is said why.
-pub fn open(path: &[u8]) -> i32 {
-    if is_special(path) {
-        return -1;
-    }
-    let fd = os::open_read(path);
-    if fd < 0 {
-        os::fail(path);
-    }
-    fd
+fn open_as(rt: &HostRuntime, how: &OpenOptions, path: &[u8]) -> io::Result<File> {
+    how.open(rt, image::name(path)?)
 }
 
-// Reads the file behind fd, and says what went wrong.
-pub fn load(path: &[u8], fd: i32, buf: &mut [u8]) -> Got
-    ensures { IsPrefixLen result.count buf.new }
-{
-    let got = image::read(fd, buf);
-    if got.failed {
-        os::fail(path);
+// The file, open as is asked; or none, and it is said why.
+fn open_or_say(rt: &HostRuntime, how: &OpenOptions, path: &[u8]) -> Option<File> {
+    if is_special(rt, path) {
+        return None;
     }
-    got
+    match open_as(rt, how, path) {
+        Ok(file) => Some(file),
+        Err(e) => {
+            fail(&rt.stderr(), path, e);
+            None
+        }
+    }
+}
+
+// The file, open for reading; or none, and it is said why.
+pub fn open(rt: &HostRuntime, path: &[u8]) -> Option<File> {
+    open_or_say(rt, OpenOptions::new().read(true), path)
+}
+
+// The file, open for reading and for stores; or none, and it is said why.
+pub fn open_update(rt: &HostRuntime, path: &[u8]) -> Option<File> {
+    open_or_say(rt, OpenOptions::new().read(true).write(true), path)
+}
+
+// Reads the file, and returns how many bytes it put at the front of the buffer; or none, and it is said what went wrong.
+pub fn load(rt: &HostRuntime, path: &[u8], file: &mut File, buf: &mut [u8]) -> Option<usize>
+    ensures { IfSome result (λ count. count ≤ length buf.new) }
+{
+    match image::read(file, buf) {
+        Ok(count) => Some(count),
+        Err(e) => {
+            fail(&rt.stderr(), path, e);
+            None
+        }
+    }
 }
 
 // Opens the file, reads it and closes it, and says what went wrong.
-pub fn fetch(path: &[u8], buf: &mut [u8]) -> Got
-    ensures { IsPrefixLen result.count buf.new }
+pub fn fetch(rt: &HostRuntime, path: &[u8], buf: &mut [u8]) -> Option<usize>
+    ensures { IfSome result (λ count. count ≤ length buf.new) }
 {
-    let fd = open(path);
-    if fd < 0 {
-        return Got {
-            failed: true,
-            count: 0,
-        };
-    }
-    let got = load(path, fd, buf);
-    libc::close(fd);
-    got
+    let mut file = open(rt, path)?;
+    load(rt, path, &mut file, buf)
 }
 
 // Says so where no card has this length.
-pub fn is_long_enough(path: &[u8], n: usize) -> bool {
+pub fn is_long_enough(rt: &HostRuntime, path: &[u8], n: usize) -> bool {
     if (2304 <= n) & (n <= 528512) {
         return true;
     }
-    err(path);
+    err(rt, path);
     if n < 2304 {
-        err(b": ");
-        count(STDERR_FILENO, n as u64, 0);
-        err(b" bytes, and the smallest card has 2,304\n");
+        err(rt, b": ");
+        count(&rt.stderr(), n as u64, 0);
+        err(rt, b" bytes, and the smallest card has 2,304\n");
     } else {
-        err(b": longer than the largest card, which has 528,512 bytes\n");
+        err(
+            rt,
+            b": longer than the largest card, which has 528,512 bytes\n",
+        );
     }
     false
 }
 
 // A refusal on standard error, behind the file's name, by a call that takes versions from low to high: the card's fault, or what lies with the disk,
 // an earlier cut or the numbers asked for.
-pub fn refuse(path: &[u8], card: &[u8], low: u64, high: u64, r: u8) {
-    err(path);
-    err(b": ");
+pub fn refuse(rt: &HostRuntime, path: &[u8], card: &[u8], low: u64, high: u64, r: u8) {
+    err(rt, path);
+    err(rt, b": ");
     if (r == 3) | (7 <= r) {
-        sentence::refusal(STDERR_FILENO, r);
+        sentence::refusal(&rt.stderr(), r);
     } else {
         sentence::fault(
-            STDERR_FILENO,
+            &rt.stderr(),
             r,
             faults::fault_of(card, low, high),
             low,

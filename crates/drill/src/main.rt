@@ -1,20 +1,14 @@
 // The drill of document 01: what a power cut at each place of a save of one block leaves, once the card is recovered.
 #![tactic(auto)]
 
-use libc::STDOUT_FILENO;
 use protocol::{Answer, Map, Mapped};
+use std::io;
 
-fn say(a: Answer) {
+fn word(a: Answer) -> &'static str {
     match a {
-        Answer::Done(_) => {
-            io::write_all(STDOUT_FILENO, b"done");
-        }
-        Answer::Cut => {
-            io::write_all(STDOUT_FILENO, b"cut");
-        }
-        Answer::Refused(_) => {
-            io::write_all(STDOUT_FILENO, b"refused");
-        }
+        Answer::Done(_) => "done",
+        Answer::Cut => "cut",
+        Answer::Refused(_) => "refused",
     }
 }
 
@@ -27,10 +21,6 @@ fn stores_of(a: Answer) -> u64 {
     }
 }
 
-fn wide(x: u8) -> u64 {
-    x as u64
-}
-
 // The map that the card gives, as a station makes it when it starts.
 fn made(card: &[u8]) -> Map {
     match recovery::make_map(card) {
@@ -40,7 +30,7 @@ fn made(card: &[u8]) -> Map {
 }
 
 // One run: a fresh card over a zeroed disk, block 3 filled with 7 and saved under the allowance, recovered in full, read.
-fn run(allowance: u64) {
+fn run(rt: &impl Print, allowance: u64) -> io::Result<()> {
     let mut card = [0u8; 2304];
     let disk = [0u8; 8192];
     let numbers = [3u64; 1];
@@ -55,22 +45,20 @@ fn run(allowance: u64) {
     let undone = recovery::recover(&mut card, again, 0xFFFF_FFFF_FFFF_FFFF);
     let recovered = undone.answer;
     lookup::read(&card, &disk, 3, &mut out);
-    io::print_decimal(STDOUT_FILENO, allowance);
-    io::write_all(STDOUT_FILENO, b",");
-    say(committed);
-    io::write_all(STDOUT_FILENO, b",");
-    io::print_decimal(STDOUT_FILENO, stores_of(recovered));
-    io::write_all(STDOUT_FILENO, b",");
-    io::print_decimal(STDOUT_FILENO, wide(out[0]));
-    io::write_all(STDOUT_FILENO, b"\n");
+    let byte = out[0];
+    println!(rt;
+        "{allowance},{},{},{byte}",
+        word(committed),
+        stores_of(recovered)
+    )
 }
 
-fn main() {
-    io::write_all(STDOUT_FILENO, b"allowance,commit,recovery,byte\n");
-    run(64);
-    run(65);
-    run(66);
-    run(67);
-    run(68);
-    run(69);
+fn main(rt: HostRuntime) -> io::Result<()> {
+    println!(rt; "allowance,commit,recovery,byte")?;
+    run(&rt, 64)?;
+    run(&rt, 65)?;
+    run(&rt, 66)?;
+    run(&rt, 67)?;
+    run(&rt, 68)?;
+    run(&rt, 69)
 }

@@ -8,12 +8,10 @@ use mathlib.Core.Logic.{◌⊎◌, inl, inr}
 use native.Mathlib.Omega.{arith}
 use native.Mathlib.Numerals.{add-one}
 use lib.ListN.{length, length-append}
-use lib.Seq.{length-take-le}
 use lib.Dec.{leb}
 use borrow.Author.Tests.{leb-true, leb-false}
 use mir.Syntax.{w64}
 use mir.Val.{Fits}
-use Rattle.io.specs.Counts.{IsPrefixLen}
 use Rattle.protocol.specs.declared.Geometry.{Geometry}
 use Rattle.protocol.specs.Below.{each_below}
 use Rattle.protocol.specs.Store.{card, Store, Run, made_on, flat, made}
@@ -35,8 +33,8 @@ use Rattle.image.specs.Walked.{Walked}
 
 -- ---- a step's store
 
-pub sixteen_counts : (n : ℕ) (xs : List ℕ) → n ≤ 16 → length xs ≡ 16 → IsPrefixLen n xs
-sixteen_counts n xs h l = let k : n ≤ length xs = omega arith in (k, sym (length-take-le n xs k))
+pub sixteen_counts : (n : ℕ) (xs : List ℕ) → n ≤ 16 → length xs ≡ 16 → n ≤ length xs
+sixteen_counts n xs h l = omega arith
 
 -- ---- one step more
 

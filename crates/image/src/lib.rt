@@ -2,8 +2,7 @@
 // bytes; so each store is made in memory too, only after the file has it, and the contracts speak of that.
 #![tactic(auto)]
 
-ghost use Rattle.std.specs.Prelude.{◌≡◌, true, List, ◌++◌, ℕ, ◌+◌, ◌≤◌, ◌<◌, length};
-ghost use Rattle.io.specs.Counts.{IsPrefixLen};
+ghost use Rattle.std.specs.Prelude.{◌≡◌, true, List, ◌++◌, ℕ, ◌+◌, ◌≤◌, ◌<◌, length, IfOk};
 ghost use Rattle.protocol.specs.Store.{Run};
 ghost use Rattle.protocol.specs.Recover.{recover_runs};
 ghost use Rattle.recovery.specs.Step.{step_runs, undoes};
@@ -13,6 +12,11 @@ ghost use Rattle.image.specs.Walked.{Walked, Repaired, Upgraded};
 use protocol::Geometry;
 use recovery::Step;
 use ring::Window;
+use std::fs::{OpenFile, OpenOptions};
+use std::io::{ErrorKind, Read, Write};
+use std::os::unix::fs::FileExt;
+use std::rt::Files;
+use std::{fs, io, str};
 
 // Room for the largest card and one byte more, by which a longer file is seen to be longer.
 pub fn buffer() -> [u8; 528513]
@@ -21,45 +25,48 @@ pub fn buffer() -> [u8; 528513]
     [0; 528513]
 }
 
-// What a read of a file came to: whether it failed, and how many bytes it put at the front of the buffer.
-#[derive(Clone, Copy)]
-pub struct Got {
-    pub failed: bool,
-    pub count: usize,
+// The path as text, which is how std names a file. A name of other bytes is refused.
+pub fn name(path: &[u8]) -> io::Result<&str> {
+    match str::from_utf8(path) {
+        Ok(text) => Ok(text),
+        Err(_) => Err(io::Error::new(ErrorKind::InvalidInput, "the name is not UTF-8")),
+    }
 }
 
-// Reads the file's first bytes, as many as the buffer holds. The end of a file and a read that fails look alike at first; one more read
-// tells them apart.
-pub fn read(fd: i32, buf: &mut [u8]) -> Got
-    ensures { IsPrefixLen result.count buf.new }
+// Reads the file's first bytes, as many as the buffer holds, and returns how many it put at the front. Where a read fails, what was read
+// before it is of no use.
+pub fn read(file: &mut impl Read, buf: &mut [u8]) -> io::Result<usize>
+    ensures { IfOk result (λ count. count ≤ length buf.new) }
 {
-    let n = io::read_full(fd, buf);
-    if n < buf.len() {
-        let mut one = [0u8; 1];
-        return Got {
-            failed: libc::read(fd, &mut one) < 0,
-            count: n,
-        };
+    let mut count = 0;
+    while count < buf.len() {
+        let n = file.read(&mut buf[count..])?;
+        if n == 0 {
+            break;
+        }
+        count += n;
     }
-    Got {
-        failed: false,
-        count: n,
-    }
+    Ok(count)
+}
+
+// Writes all of the card, and waits until it is durable.
+fn write(file: &mut (impl Write + OpenFile), card: &[u8]) -> io::Result<()> {
+    file.write_all(card)?;
+    file.sync_all()
 }
 
 // Makes the file anew, with these bytes. A file of that name is left as it is, and one that cannot be written whole is removed.
-pub fn create(path: &[u8], card: &[u8]) -> bool {
-    let fd = os::create(path);
-    if fd < 0 {
-        os::fail(path);
-        return false;
+pub fn create(files: &impl Files, path: &[u8], card: &[u8]) -> io::Result<()> {
+    let path = name(path)?;
+    let mut file = OpenOptions::new()
+        .write(true)
+        .create_new(true)
+        .open(files, path)?;
+    let made = write(&mut file, card);
+    if made.is_err() {
+        let _ = fs::remove_file(files, path);
     }
-    if io::write_all(fd, card) & (libc::fsync(fd) == 0) & (libc::close(fd) == 0) {
-        return true;
-    }
-    os::fail(path);
-    os::unlink(path);
-    false
+    made
 }
 
 // How far the stores have come: how many the list has so far, how many of them are made, and whether a write to the file failed.
@@ -72,26 +79,28 @@ pub struct Walk {
 
 // Puts the first `size` bytes into the file, and waits until they are durable. A unit that went in part is put again, whole: half of an entry
 // may read as another.
-fn put(fd: i32, place: u32, bytes: &[u8], size: usize) -> bool
-    requires { IsPrefixLen size bytes.now }
+fn put(file: &(impl FileExt + OpenFile), place: u32, bytes: &[u8], size: usize) -> bool
+    requires { size ≤ length bytes.now }
 {
-    let whole = size as isize;
-    let first = libc::pwrite(fd, &bytes[..size], place as i64);
-    if first < 0 {
+    let unit = &bytes[..size];
+    let Ok(first) = file.write_at(unit, place as u64) else {
         return false;
-    }
-    if first != whole {
-        if libc::pwrite(fd, &bytes[..size], place as i64) != whole {
+    };
+    if first != size {
+        let Ok(again) = file.write_at(unit, place as u64) else {
+            return false;
+        };
+        if again != size {
             return false;
         }
     }
-    libc::fdatasync(fd) == 0
+    file.sync_data().is_ok()
 }
 
 // One step of the list, place `at`: in the file, and where that has it, in memory. Once the allowance is used up or a write has failed, no
 // more stores are made, as after a power cut.
 fn walk_step(
-    fd: i32,
+    file: &(impl FileExt + OpenFile),
     g: Geometry,
     card: &mut [u8],
     at: usize,
@@ -116,7 +125,7 @@ fn walk_step(
         };
     }
     let bytes = s.bytes;
-    if !put(fd, s.place, &bytes, size) {
+    if !put(file, s.place, &bytes, size) {
         return Walk {
             count: count,
             made: so.made,
@@ -132,7 +141,13 @@ fn walk_step(
 }
 
 // The whole list, in its order.
-fn walk_list(fd: i32, g: Geometry, card: &mut [u8], w: Window, allowance: u64) -> Walk
+fn walk_list(
+    file: &(impl FileExt + OpenFile),
+    g: Geometry,
+    card: &mut [u8],
+    w: Window,
+    allowance: u64,
+) -> Walk
     requires { Fitted g card.old × WindowOf g card.old w }
     ensures { Walked (recover_runs g card.old) allowance card.old card.new result }
 {
@@ -147,7 +162,7 @@ fn walk_list(fd: i32, g: Geometry, card: &mut [u8], w: Window, allowance: u64) -
         let at = i;
         i += 1;
         let u = recovery::step_at(g, card, w, at);
-        so = walk_step(fd, g, card, at, u, so, allowance);
+        so = walk_step(file, g, card, at, u, so, allowance);
     }
     so
 }
@@ -163,7 +178,7 @@ pub struct Repair {
 
 // Recovers the card in the file, whose bytes were read into `card`: the stores of recovery's list, in its order, each durable before the
 // next, as many as the allowance.
-pub fn recover(fd: i32, card: &mut [u8], allowance: u64) -> Repair
+pub fn recover(file: &(impl FileExt + OpenFile), card: &mut [u8], allowance: u64) -> Repair
     ensures { Repaired allowance card.old card.new result }
 {
     let s = recovery::examine(card);
@@ -175,7 +190,7 @@ pub fn recover(fd: i32, card: &mut [u8], allowance: u64) -> Repair
             failed: false,
         };
     }
-    let r = walk_list(fd, s.geometry, card, s.window, allowance);
+    let r = walk_list(file, s.geometry, card, s.window, allowance);
     Repair {
         refusal: 0,
         count: r.count,
@@ -196,7 +211,7 @@ fn stopped(failed: bool) -> Repair
 }
 
 // Upgrades the card in the file, whose bytes were read into `card`: its one store, durable, where the allowance lets it happen.
-pub fn upgrade(fd: i32, card: &mut [u8], allowance: u64) -> Repair
+pub fn upgrade(file: &(impl FileExt + OpenFile), card: &mut [u8], allowance: u64) -> Repair
     ensures { Upgraded allowance card.old card.new result }
 {
     let u = upgrade::examine(card);
@@ -212,7 +227,7 @@ pub fn upgrade(fd: i32, card: &mut [u8], allowance: u64) -> Repair
         return stopped(false);
     }
     let bytes = upgrade::word_bytes(u.geometry);
-    if !put(fd, 0, &bytes, 8) {
+    if !put(file, 0, &bytes, 8) {
         return stopped(true);
     }
     upgrade::upgrade(card, 1);

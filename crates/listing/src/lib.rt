@@ -1,8 +1,10 @@
-// Text and numbers in columns, a block's bytes as a listing, and recovery's list.
+// Text and numbers in columns, a block's bytes as a listing, recovery's list, and why a call failed.
 #![tactic(auto)]
 
+mod failure;
 mod list;
 mod marks;
 
+pub use failure::fail;
 pub use list::{block, stores, version};
 pub use marks::{count, entry, plain, say};

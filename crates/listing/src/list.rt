@@ -7,7 +7,6 @@ ghost use Rattle.protocol.specs.Recover.{recover_runs};
 ghost use Rattle.ring.specs.Fitted.{Fitted, WindowOf};
 
 use crate::marks::{entry, plain, say, word};
-use libc::STDOUT_FILENO;
 use protocol::{Entry, Geometry};
 use recovery::{Spelled, Step};
 use ring::Window;
@@ -23,56 +22,56 @@ fn sixteen(bytes: &[u8], at: usize) -> [u8; 16]
 }
 
 // A listing of bytes, sixteen a line. A block has a multiple of sixteen.
-pub fn block(bytes: &[u8]) {
+pub fn block(out: &impl Print, bytes: &[u8]) {
     let mut at: usize = 0;
     while 16 <= bytes.len() - at {
         let line = sixteen(bytes, at);
         let marks = text::list_line(&line, at as u64);
-        say(STDOUT_FILENO, &marks);
+        say(out, &marks);
         at += 16;
     }
 }
 
-fn undone(i: u64, e: Entry) {
-    say(STDOUT_FILENO, b"  entry ");
-    plain(STDOUT_FILENO, i, 0);
+fn undone(out: &impl Print, i: u64, e: Entry) {
+    say(out, b"  entry ");
+    plain(out, i, 0);
     if e.flags == 0 {
-        say(STDOUT_FILENO, b" zeroed\n");
+        say(out, b" zeroed\n");
     } else {
-        say(STDOUT_FILENO, b" back to data block ");
-        plain(STDOUT_FILENO, e.current as u64, 0);
-        say(STDOUT_FILENO, b"\n");
+        say(out, b" back to data block ");
+        plain(out, e.current as u64, 0);
+        say(out, b"\n");
     }
 }
 
-fn meaning(i: u64, u: Step) {
+fn meaning(out: &impl Print, i: u64, u: Step) {
     match u {
         Step::Nothing => {}
-        Step::Undo(e) => undone(i, e),
+        Step::Undo(e) => undone(out, i, e),
         Step::Tail(v) => {
-            say(STDOUT_FILENO, b"  Tail to Head, ");
-            plain(STDOUT_FILENO, v, 0);
-            say(STDOUT_FILENO, b"\n");
+            say(out, b"  Tail to Head, ");
+            plain(out, v, 0);
+            say(out, b"\n");
         }
     }
 }
 
 // One line of the list: its number, where the store goes, its bytes and what it does.
-fn line(number: u64, i: u64, u: Step, s: Spelled) {
+fn line(out: &impl Print, number: u64, i: u64, u: Step, s: Spelled) {
     let bytes = s.bytes;
-    plain(STDOUT_FILENO, number, 7);
-    plain(STDOUT_FILENO, s.place as u64, 7);
-    say(STDOUT_FILENO, b"  ");
+    plain(out, number, 7);
+    plain(out, s.place as u64, 7);
+    say(out, b"  ");
     if s.size == 8 {
-        word(STDOUT_FILENO, bytes);
+        word(out, bytes);
     } else {
-        entry(STDOUT_FILENO, bytes);
+        entry(out, bytes);
     }
-    meaning(i, u);
+    meaning(out, i, u);
 }
 
 // A line for each store of recovery's list, and their count.
-fn lines(g: Geometry, card: &[u8], w: Window) -> u64
+fn lines(out: &impl Print, g: Geometry, card: &[u8], w: Window) -> u64
     requires { Fitted g card.now × WindowOf g card.now w }
     ensures { result ≡ length (flat (recover_runs g card.now)) }
 {
@@ -86,40 +85,40 @@ fn lines(g: Geometry, card: &[u8], w: Window) -> u64
         let s = recovery::spell(g, at, u);
         if s.size != 0 {
             count += 1;
-            line(count, at as u64, u, s);
+            line(out, count, at as u64, u, s);
         }
     }
     count
 }
 
-fn heading() {
+fn heading(out: &impl Print) {
     say(
-        STDOUT_FILENO,
+        out,
         b"  store   byte  bytes                               what\n",
     );
 }
 
 // Upgrade's one store under the same heading.
-pub fn version(g: Geometry)
+pub fn version(out: &impl Print, g: Geometry)
     requires { good_geometry g ≡ true }
 {
-    heading();
-    plain(STDOUT_FILENO, 1, 7);
-    plain(STDOUT_FILENO, 0, 7);
-    say(STDOUT_FILENO, b"  ");
-    word(STDOUT_FILENO, upgrade::word_bytes(g));
-    say(STDOUT_FILENO, b"  version 2\n");
+    heading(out);
+    plain(out, 1, 7);
+    plain(out, 0, 7);
+    say(out, b"  ");
+    word(out, upgrade::word_bytes(g));
+    say(out, b"  version 2\n");
 }
 
 // Recovery's list under a heading, and the count of its stores.
-pub fn stores(g: Geometry, card: &[u8], w: Window) -> u64
+pub fn stores(out: &impl Print, g: Geometry, card: &[u8], w: Window) -> u64
     requires { Fitted g card.now × WindowOf g card.now w }
     ensures { result ≡ length (flat (recover_runs g card.now)) }
 {
-    heading();
-    let n = lines(g, card, w);
+    heading(out);
+    let n = lines(out, g, card, w);
     if n == 0 {
-        say(STDOUT_FILENO, b"  none\n");
+        say(out, b"  none\n");
     }
     n
 }

@@ -1,8 +1,9 @@
 // Text and numbers, in columns.
 ghost use Rattle.std.specs.Prelude.{◌≡◌, ◌-◌, ◌≤◌, min};
 
-pub fn say(fd: i32, s: &[u8]) {
-    io::write_all(fd, s);
+// What cannot be printed is let go: a recovery is not kept from its stores by a report that nobody can read.
+pub fn say(out: &impl Print, s: &[u8]) {
+    let _ = out.write_all(s);
 }
 
 // Where a text of `width` columns at the right end of a field starts, or earlier where the text is longer.
@@ -19,34 +20,34 @@ fn start(blank: usize, width: usize) -> usize
     }
 }
 
-fn column(fd: i32, field: [u8; 26], width: usize) {
+fn column(out: &impl Print, field: [u8; 26], width: usize) {
     let from = start(text::blank(&field), width);
-    io::write_all(fd, &field[from..26]);
+    say(out, &field[from..26]);
 }
 
 // A count or a length, as 65,536.
-pub fn count(fd: i32, n: u64, width: usize) {
-    column(fd, text::number(n), width);
+pub fn count(out: &impl Print, n: u64, width: usize) {
+    column(out, text::number(n), width);
 }
 
 // A block number, a place or a position, as 1001.
-pub fn plain(fd: i32, n: u64, width: usize) {
-    column(fd, text::plain(n), width);
+pub fn plain(out: &impl Print, n: u64, width: usize) {
+    column(out, text::plain(n), width);
 }
 
 // An entry's sixteen bytes as document 01 writes them: flag byte and number, previous, current.
-pub fn entry(fd: i32, bytes: [u8; 16]) {
+pub fn entry(out: &impl Print, bytes: [u8; 16]) {
     let hex = text::hex(&bytes);
-    say(fd, &hex[0..16]);
-    say(fd, b" ");
-    say(fd, &hex[16..24]);
-    say(fd, b" ");
-    say(fd, &hex[24..32]);
+    say(out, &hex[0..16]);
+    say(out, b" ");
+    say(out, &hex[16..24]);
+    say(out, b" ");
+    say(out, &hex[24..32]);
 }
 
 // A word's eight bytes, as wide as an entry.
-pub fn word(fd: i32, bytes: [u8; 16]) {
+pub fn word(out: &impl Print, bytes: [u8; 16]) {
     let hex = text::hex(&bytes);
-    say(fd, &hex[0..16]);
-    say(fd, b"                  ");
+    say(out, &hex[0..16]);
+    say(out, b"                  ");
 }

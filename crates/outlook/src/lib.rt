@@ -5,7 +5,6 @@ ghost use Rattle.std.specs.Prelude.{◌≤◌, length};
 ghost use Rattle.outlook.specs.Foreseen.{Foreseen};
 
 use cardfile::{fetch, is_long_enough, refuse};
-use libc::STDOUT_FILENO;
 use listing::{count, plain, say};
 use plan::{Plan, Saving};
 use protocol::Mapped;
@@ -29,78 +28,72 @@ pub fn foresee(card: &[u8], numbers: &[u64]) -> Saving
     }
 }
 
-fn out(s: &[u8]) {
-    say(STDOUT_FILENO, s);
-}
-
 // "save of 2 blocks", and the names of the columns.
-fn heading(n: usize) {
-    out(b"save of ");
-    count(STDOUT_FILENO, n as u64, 0);
+fn heading(out: &impl Print, n: usize) {
+    say(out, b"save of ");
+    count(out, n as u64, 0);
     if n == 1 {
-        out(b" block\n");
+        say(out, b" block\n");
     } else {
-        out(b" blocks\n");
+        say(out, b" blocks\n");
     }
-    out(b"  number  data block  entry  replaces\n");
+    say(out, b"  number  data block  entry  replaces\n");
 }
 
 // The previous data block has 128 added where it is modified, and is 256 for FRESH.
-fn row(number: u64, block: u8, entry: u8, previous: u16) {
-    plain(STDOUT_FILENO, number, 8);
-    plain(STDOUT_FILENO, block as u64, 12);
-    plain(STDOUT_FILENO, entry as u64, 7);
+fn row(out: &impl Print, number: u64, block: u8, entry: u8, previous: u16) {
+    plain(out, number, 8);
+    plain(out, block as u64, 12);
+    plain(out, entry as u64, 7);
     if previous < 256 {
-        plain(STDOUT_FILENO, (previous % 128) as u64, 10);
+        plain(out, (previous % 128) as u64, 10);
     } else {
-        out(b"      none");
+        say(out, b"      none");
     }
-    out(b"\n");
+    say(out, b"\n");
 }
 
 // A line for each number, in the order given.
-fn rows(numbers: &[u64], p: Plan)
+fn rows(out: &impl Print, numbers: &[u64], p: Plan)
     requires { length numbers.now ≤ 128 }
 {
     let mut i: usize = 0;
     while i < numbers.len() {
-        row(numbers[i], p.blocks[i], p.entries[i], p.previous[i]);
+        row(out, numbers[i], p.blocks[i], p.entries[i], p.previous[i]);
         i += 1;
     }
 }
 
 // The count of the save's stores.
-fn total(m: u64) {
-    out(b"stores ");
-    count(STDOUT_FILENO, m, 0);
-    out(b"\n");
+fn total(out: &impl Print, m: u64) {
+    say(out, b"stores ");
+    count(out, m, 0);
+    say(out, b"\n");
 }
 
 // The save on a card that was read, or why it is refused.
-fn tell(path: &[u8], card: &[u8], numbers: &[u64])
+fn tell(rt: &HostRuntime, path: &[u8], card: &[u8], numbers: &[u64])
     requires { length numbers.now ≤ 256 }
 {
     let s = foresee(card, numbers);
     if s.refusal != 0 {
-        refuse(path, card, 2, 2, s.refusal);
+        refuse(rt, path, card, 2, 2, s.refusal);
         return;
     }
     let p = s.plan;
-    heading(numbers.len());
-    rows(numbers, p);
-    total(plan::count_of(ring::geometry_of(card), numbers.len()));
+    heading(rt, numbers.len());
+    rows(rt, numbers, p);
+    total(rt, plan::count_of(ring::geometry_of(card), numbers.len()));
 }
 
-pub fn preview(path: &[u8], numbers: &[u64])
+pub fn preview(rt: &HostRuntime, path: &[u8], numbers: &[u64])
     requires { length numbers.now ≤ 256 }
 {
     let mut buf = image::buffer();
-    let got = fetch(path, &mut buf);
-    if got.failed {
+    let Some(n) = fetch(rt, path, &mut buf) else {
         return;
-    }
-    let n = got.count;
-    if is_long_enough(path, n) {
-        tell(path, &buf[..n], numbers);
+    };
+    if is_long_enough(rt, path, n) {
+        tell(rt, path, &buf[..n], numbers);
     }
 }

@@ -6,8 +6,8 @@
 
 ghost use Rattle.std.specs.Prelude.{◌+◌, ◌≤◌, ◌<◌};
 
-use libc::STDOUT_FILENO;
 use protocol::{Answer, Map, Mapped, Stored};
+use std::io;
 
 const AMPLE: u64 = 0xFFFF_FFFF_FFFF_FFFF;
 
@@ -181,52 +181,51 @@ fn same(s: Seen, t: Seen) -> bool {
     (s.done == t.done) & (s.steps == t.steps) & (s.stores == t.stores) & (s.whole == t.whole)
 }
 
-fn show_field(n: u64) {
-    io::print_decimal(STDOUT_FILENO, n);
-    print::text(b",");
+fn show_field(rt: &impl Print, n: u64) -> io::Result<()> {
+    print!(rt; "{n},")
 }
 
-fn show_either(yes: bool, a: &[u8], b: &[u8]) {
+fn show_either(rt: &impl Print, yes: bool, a: &[u8], b: &[u8]) -> io::Result<()> {
     if yes {
-        print::text(a);
+        print::text(rt, a)
     } else {
-        print::text(b);
+        print::text(rt, b)
     }
 }
 
-fn show_blocks(done: bool, whole: bool) {
+fn show_blocks(rt: &impl Print, done: bool, whole: bool) -> io::Result<()> {
     if whole {
-        show_either(done, b"new\n", b"old\n");
+        show_either(rt, done, b"new\n", b"old\n")
     } else {
-        print::text(b"torn\n");
+        print::text(rt, b"torn\n")
     }
 }
 
-fn show_range(r: Range) {
+fn show_range(rt: &impl Print, r: Range) -> io::Result<()> {
     let s = r.seen;
-    show_field(r.from);
-    show_field(r.to);
-    show_either(s.done, b"done,", b"cut,");
-    show_field(s.steps);
-    show_field(s.stores);
-    show_blocks(s.done, s.whole);
+    show_field(rt, r.from)?;
+    show_field(rt, r.to)?;
+    show_either(rt, s.done, b"done,", b"cut,")?;
+    show_field(rt, s.steps)?;
+    show_field(rt, s.stores)?;
+    show_blocks(rt, s.done, s.whole)
 }
 
 // Adds an allowance to the range before it, which is shown where the allowance came to something else and begins a range of its own.
-fn extend(r: Range, allowance: u64, s: Seen) -> Range {
+fn extend(rt: &impl Print, r: Range, allowance: u64, s: Seen) -> io::Result<Range> {
     if same(r.seen, s) {
-        return Range {
+        return Ok(Range {
             from: r.from,
             to: allowance,
             seen: s,
-        };
+        });
     }
-    show_range(r);
-    Range {
+    show_range(rt, r)?;
+    Ok(Range {
         from: allowance,
         to: allowance,
         seen: s,
-    }
+    })
 }
 
 fn larger(m: u64, n: u64) -> u64 {
@@ -254,7 +253,7 @@ fn add(t: Tally, s: Seen) -> Tally
 }
 
 // Every allowance, from none of the stores to all of them.
-fn sweep(first: u8) -> Tally {
+fn sweep(rt: &impl Print, first: u8) -> io::Result<Tally> {
     let s0 = run(first, 0);
     let mut t = add(
         Tally {
@@ -274,41 +273,51 @@ fn sweep(first: u8) -> Tally {
     while a <= STORES {
         let s = run(first, a);
         t = add(t, s);
-        r = extend(r, a, s);
+        r = extend(rt, r, a, s)?;
         a += 1;
     }
-    show_range(r);
-    t
+    show_range(rt, r)?;
+    Ok(t)
 }
 
 // A word, and the number that it is about.
-fn show(word: &[u8], n: u64) {
-    print::text(word);
-    print::number(n);
+fn show(rt: &impl Print, word: &[u8], n: u64) -> io::Result<()> {
+    print::text(rt, word)?;
+    print::number(rt, n)
 }
 
-fn show_tally(t: Tally) {
-    show(b"cuts", t.cuts);
-    show(b", most steps", t.steps);
-    show(b", most stores", t.stores);
-    show(b", torn", t.torn);
-    print::text(b"\n");
+fn show_tally(rt: &impl Print, t: Tally) -> io::Result<()> {
+    show(rt, b"cuts", t.cuts)?;
+    show(rt, b", most steps", t.steps)?;
+    show(rt, b", most stores", t.stores)?;
+    show(rt, b", torn", t.torn)?;
+    print::text(rt, b"\n")
 }
 
-fn part(title: &[u8], first: u8) {
-    print::text(title);
-    print::text(b"from,to,commit,steps,stores,blocks\n");
-    show_tally(sweep(first));
+fn part(rt: &impl Print, title: &[u8], first: u8) -> io::Result<()> {
+    print::text(rt, title)?;
+    print::text(rt, b"from,to,commit,steps,stores,blocks\n")?;
+    show_tally(rt, sweep(rt, first)?)
 }
 
-fn main() {
+fn main(rt: HostRuntime) -> io::Result<()> {
     print::text(
+        &rt,
         b"commit of n = 3 blocks, allowance 0 to 205, then recoveries with allowance 1 until one is done\n",
-    );
-    print::text(b"steps: these recoveries; stores: theirs together; each at most n + 1\n");
-    part(b"-- blocks 1, 2 and 3 not cached, on a fresh card\n", DISK);
+    )?;
+    print::text(
+        &rt,
+        b"steps: these recoveries; stores: theirs together; each at most n + 1\n",
+    )?;
     part(
+        &rt,
+        b"-- blocks 1, 2 and 3 not cached, on a fresh card\n",
+        DISK,
+    )?;
+    part(
+        &rt,
         b"-- block 1 cached and modified, block 2 cached and clean, block 3 not cached\n",
         SAVED,
-    );
+    )?;
+    Ok(())
 }

@@ -3,23 +3,18 @@
 #![tactic(auto)]
 
 use faults::Fault;
-use libc::STDOUT_FILENO;
 use listing::{count, entry, plain, say};
 use protocol::{Condition, Entry, FRESH, Reported};
 use sentence::fault;
 use survey::{Block, Field, Line, Slot};
 
-fn out(s: &[u8]) {
-    say(STDOUT_FILENO, s);
-}
-
-fn field(name: &[u8], f: Field) {
-    out(name);
+fn field(out: &impl Print, name: &[u8], f: Field) {
+    say(out, name);
     match f {
-        Field::Is(n) => count(STDOUT_FILENO, n, 8),
-        Field::Missing => out(b"       -"),
+        Field::Is(n) => count(out, n, 8),
+        Field::Missing => say(out, b"       -"),
     }
-    out(b"\n");
+    say(out, b"\n");
 }
 
 // B, where k is one that it can be told from.
@@ -36,28 +31,28 @@ fn block_size(k: Field) -> Field {
     }
 }
 
-fn header(card: &[u8]) {
+fn header(out: &impl Print, card: &[u8]) {
     let k = survey::field_in(card, 5, 1);
-    out(b"\nheader\n");
-    field(b"  length   ", survey::field_in(card, 0, 4));
-    field(b"  version  ", survey::field_in(card, 4, 1));
-    field(b"  k        ", k);
-    field(b"  B        ", block_size(k));
-    field(b"  S        ", survey::field_in(card, 6, 2));
-    field(b"  N        ", survey::field_in(card, 8, 4));
-    field(b"  D        ", survey::field_in(card, 12, 4));
-    field(b"  Head     ", survey::field_in(card, 64, 8));
-    field(b"  Tail     ", survey::field_in(card, 72, 8));
+    say(out, b"\nheader\n");
+    field(out, b"  length   ", survey::field_in(card, 0, 4));
+    field(out, b"  version  ", survey::field_in(card, 4, 1));
+    field(out, b"  k        ", k);
+    field(out, b"  B        ", block_size(k));
+    field(out, b"  S        ", survey::field_in(card, 6, 2));
+    field(out, b"  N        ", survey::field_in(card, 8, 4));
+    field(out, b"  D        ", survey::field_in(card, 12, 4));
+    field(out, b"  Head     ", survey::field_in(card, 64, 8));
+    field(out, b"  Tail     ", survey::field_in(card, 72, 8));
 }
 
 // One slot of the window, and whether there was one.
-fn slot(card: &[u8], j: u64) -> bool {
+fn slot(out: &impl Print, card: &[u8], j: u64) -> bool {
     match survey::slot_of(card, j) {
         Slot::At(p, n) => {
-            plain(STDOUT_FILENO, p, 6);
-            out(b" ");
-            plain(STDOUT_FILENO, n, 7);
-            out(b"\n");
+            plain(out, p, 6);
+            say(out, b" ");
+            plain(out, n, 7);
+            say(out, b"\n");
             true
         }
         Slot::Missing => false,
@@ -65,10 +60,10 @@ fn slot(card: &[u8], j: u64) -> bool {
 }
 
 // The window's slots, from Tail on, and whether there are any.
-fn window(card: &[u8]) -> bool {
+fn window(out: &impl Print, card: &[u8]) -> bool {
     let mut j: u64 = 0;
     while j < 256 {
-        if !slot(card, j) {
+        if !slot(out, card, j) {
             return j != 0;
         }
         j += 1;
@@ -76,18 +71,18 @@ fn window(card: &[u8]) -> bool {
     true
 }
 
-fn bytes(e: Entry) {
+fn bytes(out: &impl Print, e: Entry) {
     let mut raw = [0u8; 16];
     codec::put_entry(&mut raw, 0, e);
-    out(b"  ");
-    entry(STDOUT_FILENO, raw);
+    say(out, b"  ");
+    entry(out, raw);
 }
 
-fn flag(set: bool, letter: &[u8]) {
+fn flag(out: &impl Print, set: bool, letter: &[u8]) {
     if set {
-        out(letter);
+        say(out, letter);
     } else {
-        out(b" -");
+        say(out, b" -");
     }
 }
 
@@ -95,37 +90,37 @@ fn wide(x: u32) -> u64 {
     x as u64
 }
 
-fn data_block(p: u32, none: &[u8]) {
-    out(b" ");
+fn data_block(out: &impl Print, p: u32, none: &[u8]) {
+    say(out, b" ");
     if p == FRESH {
-        out(none);
+        say(out, none);
     } else {
-        plain(STDOUT_FILENO, wide(p), 9);
+        plain(out, wide(p), 9);
     }
 }
 
-fn fields(i: u64, e: Entry) {
-    plain(STDOUT_FILENO, i, 7);
-    bytes(e);
-    out(b" ");
-    flag(codec::in_use(e), b" V");
-    flag(codec::was_modified(e), b" P");
-    flag(codec::is_modified(e), b" M");
-    flag(codec::has_log_role(e), b" R");
-    out(b" ");
-    plain(STDOUT_FILENO, e.number, 7);
-    data_block(e.previous, b"    FRESH");
-    out(b" ");
-    plain(STDOUT_FILENO, wide(e.current), 8);
+fn fields(out: &impl Print, i: u64, e: Entry) {
+    plain(out, i, 7);
+    bytes(out, e);
+    say(out, b" ");
+    flag(out, codec::in_use(e), b" V");
+    flag(out, codec::was_modified(e), b" P");
+    flag(out, codec::is_modified(e), b" M");
+    flag(out, codec::has_log_role(e), b" R");
+    say(out, b" ");
+    plain(out, e.number, 7);
+    data_block(out, e.previous, b"    FRESH");
+    say(out, b" ");
+    plain(out, wide(e.current), 8);
 }
 
-fn known(undoable: bool, settled: u32) {
+fn known(out: &impl Print, undoable: bool, settled: u32) {
     if undoable {
-        out(b"       yes");
+        say(out, b"       yes");
     } else {
-        out(b"        no");
+        say(out, b"        no");
     }
-    data_block(settled, b"     none");
+    data_block(out, settled, b"     none");
 }
 
 // What was printed of an entry or a data block: nothing, since the card has no such one; nothing; a line or a number.
@@ -136,41 +131,41 @@ enum Shown {
     Something,
 }
 
-fn line(card: &[u8], i: u64) -> Shown {
+fn line(out: &impl Print, card: &[u8], i: u64) -> Shown {
     match survey::line_of(card, i) {
         Line::Missing => Shown::Past,
         Line::Unused => Shown::Nothing,
         Line::Raw(e) => {
-            fields(i, e);
-            out(b"         -         -\n");
+            fields(out, i, e);
+            say(out, b"         -         -\n");
             Shown::Something
         }
         Line::Full(e, undoable, settled) => {
-            fields(i, e);
-            known(undoable, settled);
-            out(b"\n");
+            fields(out, i, e);
+            known(out, undoable, settled);
+            say(out, b"\n");
             Shown::Something
         }
     }
 }
 
-fn free_block(card: &[u8], p: u64) -> Shown {
+fn free_block(out: &impl Print, card: &[u8], p: u64) -> Shown {
     match survey::block_of(card, p) {
         Block::Missing => Shown::Past,
         Block::Taken => Shown::Nothing,
         Block::Free => {
-            plain(STDOUT_FILENO, p, 4);
+            plain(out, p, 4);
             Shown::Something
         }
     }
 }
 
 // One of the two, by what is asked for.
-fn one(card: &[u8], blocks: bool, i: u64) -> Shown {
+fn one(out: &impl Print, card: &[u8], blocks: bool, i: u64) -> Shown {
     if blocks {
-        free_block(card, i)
+        free_block(out, card, i)
     } else {
-        line(card, i)
+        line(out, card, i)
     }
 }
 
@@ -191,11 +186,11 @@ fn is_something(s: Shown) -> bool {
 }
 
 // Every entry that is not all zero, or every free data block, and whether there are any.
-fn all(card: &[u8], blocks: bool) -> bool {
+fn all(out: &impl Print, card: &[u8], blocks: bool) -> bool {
     let mut any = false;
     let mut i: u64 = 0;
     while i < 128 {
-        let s = one(card, blocks, i);
+        let s = one(out, card, blocks, i);
         i += 1;
         if is_past(s) {
             return any;
@@ -205,71 +200,75 @@ fn all(card: &[u8], blocks: bool) -> bool {
     any
 }
 
-fn told(c: Condition) {
+fn told(out: &impl Print, c: Condition) {
     match c {
         Condition::Settled { used, modified } => {
-            out(b"settled, entries in use ");
-            count(STDOUT_FILENO, used, 0);
-            out(b", modified ");
-            count(STDOUT_FILENO, modified, 0);
+            say(out, b"settled, entries in use ");
+            count(out, used, 0);
+            say(out, b", modified ");
+            count(out, modified, 0);
         }
         Condition::Unsettled { undoable, window } => {
-            out(b"unsettled, undoable entries ");
-            count(STDOUT_FILENO, undoable, 0);
-            out(b", slots in the window ");
-            count(STDOUT_FILENO, window, 0);
+            say(out, b"unsettled, undoable entries ");
+            count(out, undoable, 0);
+            say(out, b", slots in the window ");
+            count(out, window, 0);
         }
     }
-    out(b"\n");
+    say(out, b"\n");
 }
 
 // Why the card's state is not told: it is an earlier version's, which is only recovered and upgraded, or it is refused.
-fn unstated(card: &[u8]) {
+fn unstated(out: &impl Print, card: &[u8]) {
     let u = upgrade::examine(card);
     if u.refusal == 0 {
-        out(b"condition  version 1, settled: to be upgraded\n");
+        say(out, b"condition  version 1, settled: to be upgraded\n");
     } else if u.refusal == 7 {
-        out(b"condition  version 1, not settled: to be recovered, then upgraded\n");
+        say(
+            out,
+            b"condition  version 1, not settled: to be recovered, then upgraded\n",
+        );
     } else {
         let s = recovery::examine(card);
-        fault(STDOUT_FILENO, s.refusal, faults::fault_of(card, 1, 2), 1, 2);
+        fault(out, s.refusal, faults::fault_of(card, 1, 2), 1, 2);
     }
 }
 
 // The card's condition in one line, or why it is refused.
-pub fn condition(card: &[u8]) {
+pub fn condition(out: &impl Print, card: &[u8]) {
     match lookup::state(card) {
         Reported::Is(s) => {
             let c = s.condition;
-            out(b"condition  ");
-            told(c);
+            say(out, b"condition  ");
+            told(out, c);
         }
-        Reported::Refused(_) => unstated(card),
+        Reported::Refused(_) => unstated(out, card),
     }
 }
 
-fn ring(card: &[u8]) {
-    out(b"\nwindow\n  slot  number\n");
-    if !window(card) {
-        out(b"  empty\n");
+fn ring(out: &impl Print, card: &[u8]) {
+    say(out, b"\nwindow\n  slot  number\n");
+    if !window(out, card) {
+        say(out, b"  empty\n");
     }
 }
 
-fn entries(card: &[u8]) {
-    out(
+fn entries(out: &impl Print, card: &[u8]) {
+    say(
+        out,
         b"\nentries: V in use, P previous modified, M modified, R log role\n  place  bytes                               flags    number  previous  current  undoable   settled\n",
     );
-    if !all(card, false) {
-        out(b"  none in use\n");
+    if !all(out, card, false) {
+        say(out, b"  none in use\n");
     }
 }
 
-fn blocks(card: &[u8]) {
-    out(b"\nfree data blocks\n ");
-    if !all(card, true) {
-        out(b" none");
+fn blocks(out: &impl Print, card: &[u8]) {
+    say(out, b"\nfree data blocks\n ");
+    if !all(out, card, true) {
+        say(out, b" none");
     }
-    out(b"\n");
+    say(out, b"\n");
 }
 
 // Whether the header can be trusted and the first entry is there.
@@ -288,30 +287,30 @@ fn is_sound(card: &[u8]) -> bool {
 }
 
 // The length behind the name. Of a file longer than any card no more is read.
-fn title(n: usize) {
+fn title(out: &impl Print, n: usize) {
     if n <= 528512 {
-        out(b": ");
-        count(STDOUT_FILENO, n as u64, 0);
-        out(b" bytes\n");
+        say(out, b": ");
+        count(out, n as u64, 0);
+        say(out, b" bytes\n");
     } else {
-        out(b": more than 528,512 bytes\n");
+        say(out, b": more than 528,512 bytes\n");
     }
 }
 
 // All that can be told of the card.
-pub fn card(name: &[u8], card: &[u8]) {
-    out(name);
-    title(card.len());
-    header(card);
+pub fn card(out: &impl Print, name: &[u8], card: &[u8]) {
+    say(out, name);
+    title(out, card.len());
+    header(out, card);
     if survey::ring_known(card) {
-        ring(card);
+        ring(out, card);
     }
     if has_entries(card) {
-        entries(card);
+        entries(out, card);
     }
     if is_sound(card) {
-        blocks(card);
+        blocks(out, card);
     }
-    out(b"\n");
-    condition(card);
+    say(out, b"\n");
+    condition(out, card);
 }

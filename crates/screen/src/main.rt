@@ -8,6 +8,7 @@ ghost use Rattle.std.specs.Prelude.{◌+◌, ◌≤◌, ◌<◌};
 
 use pending::{Put, Save};
 use protocol::{Answer, Map, Mapped, Opened, Pending, Stored};
+use std::io;
 
 const AMPLE: u64 = 0xFFFF_FFFF_FFFF_FFFF;
 
@@ -239,237 +240,262 @@ fn sweep(j: u8, choice: u8, stores: u64) -> Tally {
 }
 
 // A word, and the number that it is about.
-fn show(word: &[u8], n: u64) {
-    print::text(word);
-    print::number(n);
+fn show(rt: &impl Print, word: &[u8], n: u64) -> io::Result<()> {
+    print::text(rt, word)?;
+    print::number(rt, n)
 }
 
-fn name(j: u8) {
+fn name(rt: &impl Print, j: u8) -> io::Result<()> {
     if j < FINISH {
-        show(b"put", j as u64);
+        show(rt, b"put", j as u64)
     } else {
-        print::text(b"finish");
+        print::text(rt, b"finish")
     }
 }
 
-fn show_sweep(j: u8, choice: u8) {
+fn show_sweep(rt: &impl Print, j: u8, choice: u8) -> io::Result<()> {
     let n = stores_of(j);
     let t = sweep(j, choice, n);
-    name(j);
-    show(b": stores", n);
-    show(b", cuts", t.cuts);
-    show(b", old", t.old);
-    show(b", new", t.new);
-    show(b", torn", t.torn);
-    print::text(b"\n");
+    name(rt, j)?;
+    show(rt, b": stores", n)?;
+    show(rt, b", cuts", t.cuts)?;
+    show(rt, b", old", t.old)?;
+    show(rt, b", new", t.new)?;
+    show(rt, b", torn", t.torn)?;
+    print::text(rt, b"\n")
 }
 
-fn show_answer(p: Put) -> Put {
+fn show_answer(rt: &impl Print, p: Put) -> io::Result<Put> {
     let a = p.answer;
-    print::answer(a);
-    p
+    print::answer(rt, a)?;
+    Ok(p)
 }
 
-fn show_record(p: Put) -> Put {
+fn show_record(rt: &impl Print, p: Put) -> io::Result<Put> {
     let save = p.save;
     let r = save.held;
-    show(b"record: Tail", r.tail);
-    show(b", count", r.count);
-    print::text(b"\n");
-    p
+    show(rt, b"record: Tail", r.tail)?;
+    show(rt, b", count", r.count)?;
+    print::text(rt, b"\n")?;
+    Ok(p)
 }
 
-fn show_open(card: &[u8], map: Map) -> Put {
-    print::text(b"open");
-    show_answer(open(card, map))
+fn show_open(rt: &impl Print, card: &[u8], map: Map) -> io::Result<Put> {
+    print::text(rt, b"open")?;
+    show_answer(rt, open(card, map))
 }
 
-fn show_call(card: &mut [u8], p: Put, j: u8) -> Put {
-    name(j);
-    show_answer(call(card, p, j, 0, AMPLE))
+fn show_call(rt: &impl Print, card: &mut [u8], p: Put, j: u8) -> io::Result<Put> {
+    name(rt, j)?;
+    show_answer(rt, call(card, p, j, 0, AMPLE))
 }
 
-fn show_step(card: &mut [u8], p: Put, j: u8) -> Put {
-    show_record(show_call(card, p, j))
+fn show_step(rt: &impl Print, card: &mut [u8], p: Put, j: u8) -> io::Result<Put> {
+    show_record(rt, show_call(rt, card, p, j)?)
 }
 
 // The call under an allowance. A cut call hands back the map and the record that it got.
-fn show_cut(card: &mut [u8], p: Put, j: u8, allowance: u64) -> Put {
-    name(j);
-    show(b" allowance", allowance);
-    show_answer(call(card, p, j, 0, allowance))
+fn show_cut(rt: &impl Print, card: &mut [u8], p: Put, j: u8, allowance: u64) -> io::Result<Put> {
+    name(rt, j)?;
+    show(rt, b" allowance", allowance)?;
+    show_answer(rt, call(card, p, j, 0, allowance))
 }
 
-fn show_commit(card: &mut [u8], map: Map) {
-    print::text(b"commit of the old recipe");
+fn show_commit(rt: &impl Print, card: &mut [u8], map: Map) -> io::Result<()> {
+    print::text(rt, b"commit of the old recipe")?;
     let s = commit_old(card, map);
     let a = s.answer;
-    print::answer(a);
+    print::answer(rt, a)
 }
 
-fn show_label(card: &[u8], disk: &[u8]) {
+fn show_label(rt: &impl Print, card: &[u8], disk: &[u8]) -> io::Result<()> {
     if holds_all(card, disk, OLD) {
-        print::text(b"label old\n");
-        return;
+        return print::text(rt, b"label old\n");
     }
     if holds_all(card, disk, NEW) {
-        print::text(b"label new\n");
-        return;
+        return print::text(rt, b"label new\n");
     }
-    print::text(b"label torn\n");
+    print::text(rt, b"label torn\n")
 }
 
-fn show_start(card: &mut [u8], disk: &[u8]) {
-    print::text(b"recover");
+fn show_start(rt: &impl Print, card: &mut [u8], disk: &[u8]) -> io::Result<()> {
+    print::text(rt, b"recover")?;
     let s = start(card);
     let a = s.answer;
-    print::answer(a);
-    show_label(card, disk);
+    print::answer(rt, a)?;
+    show_label(rt, card, disk)
 }
 
-fn show_read(card: &[u8], disk: &[u8]) {
+fn show_read(rt: &impl Print, card: &[u8], disk: &[u8]) -> io::Result<()> {
     let mut out = [0u8; 512];
-    show(b"read", 1);
-    print::held(lookup::read(card, disk, 1, &mut out));
-    print::text(b"\n");
+    show(rt, b"read", 1)?;
+    print::held(rt, lookup::read(card, disk, 1, &mut out))?;
+    print::text(rt, b"\n")
 }
 
 // The old recipe on a fresh card.
-fn before(card: &mut [u8], disk: &[u8]) {
-    print::text(b"-- the old recipe\nformat");
-    print::outcome(format::format(9, 8, 8, 16, card));
+fn before(rt: &impl Print, card: &mut [u8], disk: &[u8]) -> io::Result<()> {
+    print::text(rt, b"-- the old recipe\nformat")?;
+    print::outcome(rt, format::format(9, 8, 8, 16, card))?;
     let map = made(card);
-    show_commit(card, map);
-    show_label(card, disk);
+    show_commit(rt, card, map)?;
+    show_label(rt, card, disk)
 }
 
 // The new one over it, with the record that each call hands on.
-fn puts(card: &mut [u8]) -> Put {
-    print::text(b"-- the new recipe, block by block\n");
+fn puts(rt: &impl Print, card: &mut [u8]) -> io::Result<Put> {
+    print::text(rt, b"-- the new recipe, block by block\n")?;
     let map = made(card);
-    let p0 = show_record(show_open(card, map));
-    let p1 = show_step(card, p0, 1);
-    let p2 = show_step(card, p1, 2);
-    show_step(card, p2, 3)
+    let p0 = show_record(rt, show_open(rt, card, map)?)?;
+    let p1 = show_step(rt, card, p0, 1)?;
+    let p2 = show_step(rt, card, p1, 2)?;
+    show_step(rt, card, p2, 3)
 }
 
-fn finished(card: &mut [u8], disk: &[u8], p: Put) -> Put {
-    print::state(lookup::state(card));
-    let r = show_call(card, p, FINISH);
-    print::state(lookup::state(card));
-    show_label(card, disk);
-    r
+fn finished(rt: &impl Print, card: &mut [u8], disk: &[u8], p: Put) -> io::Result<Put> {
+    print::state(rt, lookup::state(card))?;
+    let r = show_call(rt, card, p, FINISH)?;
+    print::state(rt, lookup::state(card))?;
+    show_label(rt, card, disk)?;
+    Ok(r)
 }
 
 // A second finish with the same record, and one of a save into which nothing was put.
-fn finishes(card: &mut [u8], p: Put) {
-    print::text(b"-- finished twice, and with nothing put\n");
-    let p1 = show_call(card, p, FINISH);
-    let p2 = show_record(show_open(card, p1.map));
-    show_call(card, p2, FINISH);
+fn finishes(rt: &impl Print, card: &mut [u8], p: Put) -> io::Result<()> {
+    print::text(rt, b"-- finished twice, and with nothing put\n")?;
+    let p1 = show_call(rt, card, p, FINISH)?;
+    let p2 = show_record(rt, show_open(rt, card, p1.map)?)?;
+    show_call(rt, card, p2, FINISH)?;
+    Ok(())
 }
 
 // While a save is pending the calls that need a settled card are refused, and so is a put of a number that the save has.
-fn unsettled(card: &mut [u8], disk: &[u8], p: Put) {
-    show_commit(card, p.map);
-    show_read(card, disk);
-    show_call(card, p, 1);
+fn unsettled(rt: &impl Print, card: &mut [u8], disk: &[u8], p: Put) -> io::Result<()> {
+    show_commit(rt, card, p.map)?;
+    show_read(rt, card, disk)?;
+    show_call(rt, card, p, 1)?;
+    Ok(())
 }
 
 // At the end a put with the record of a save that the recovery abandoned.
-fn refusals(card: &mut [u8], disk: &[u8]) {
-    print::text(b"-- refusals while the save is pending\n");
-    let p = show_record(up_to(card, 3));
-    unsettled(card, disk, p);
-    show_start(card, disk);
-    show_call(card, p, 3);
+fn refusals(rt: &impl Print, card: &mut [u8], disk: &[u8]) -> io::Result<()> {
+    print::text(rt, b"-- refusals while the save is pending\n")?;
+    let p = show_record(rt, up_to(card, 3))?;
+    unsettled(rt, card, disk, p)?;
+    show_start(rt, card, disk)?;
+    show_call(rt, card, p, 3)?;
+    Ok(())
 }
 
 // Call j cut at this allowance, and made again with the record and the map that it handed back.
-fn again(card: &mut [u8], j: u8, allowance: u64) -> Put {
+fn again(rt: &impl Print, card: &mut [u8], j: u8, allowance: u64) -> io::Result<Put> {
     let p = up_to(card, j);
-    let r = show_record(show_cut(card, p, j, allowance));
-    show_call(card, r, j)
+    let r = show_record(rt, show_cut(rt, card, p, j, allowance)?)?;
+    show_call(rt, card, r, j)
 }
 
 // Up to the end of a block's words the entries and the ring are as before, and the put that is made again is done.
-fn put_again(card: &mut [u8], disk: &[u8], title: &[u8], allowance: u64) {
-    print::text(title);
-    let p2 = again(card, 2, allowance);
-    let p3 = show_call(card, p2, 3);
-    show_call(card, p3, FINISH);
-    show_label(card, disk);
+fn put_again(
+    rt: &impl Print,
+    card: &mut [u8],
+    disk: &[u8],
+    title: &[u8],
+    allowance: u64,
+) -> io::Result<()> {
+    print::text(rt, title)?;
+    let p2 = again(rt, card, 2, allowance)?;
+    let p3 = show_call(rt, card, p2, 3)?;
+    show_call(rt, card, p3, FINISH)?;
+    show_label(rt, card, disk)
 }
 
 // Before its first role switch a finish finds the save as it was.
-fn finish_again(card: &mut [u8], disk: &[u8], title: &[u8], allowance: u64) {
-    print::text(title);
-    again(card, FINISH, allowance);
-    show_label(card, disk);
+fn finish_again(
+    rt: &impl Print,
+    card: &mut [u8],
+    disk: &[u8],
+    title: &[u8],
+    allowance: u64,
+) -> io::Result<()> {
+    print::text(rt, title)?;
+    again(rt, card, FINISH, allowance)?;
+    show_label(rt, card, disk)
 }
 
 // Behind the entry of a put, or behind a role switch, the entries with R do not match the window's numbers, and only a recovery goes on.
-fn abandoned(card: &mut [u8], disk: &[u8], title: &[u8], j: u8, allowance: u64) {
-    print::text(title);
-    again(card, j, allowance);
-    show_start(card, disk);
+fn abandoned(
+    rt: &impl Print,
+    card: &mut [u8],
+    disk: &[u8],
+    title: &[u8],
+    j: u8,
+    allowance: u64,
+) -> io::Result<()> {
+    print::text(rt, title)?;
+    again(rt, card, j, allowance)?;
+    show_start(rt, card, disk)
 }
 
-fn cut_puts(card: &mut [u8], disk: &[u8]) {
-    put_again(card, disk, b"-- put 2 cut in its words\n", 30);
-    put_again(card, disk, b"-- put 2 cut before its entry\n", 64);
-    abandoned(card, disk, b"-- put 2 cut behind its entry\n", 2, 65);
-    abandoned(card, disk, b"-- put 2 cut before Head's store\n", 2, 66);
+fn cut_puts(rt: &impl Print, card: &mut [u8], disk: &[u8]) -> io::Result<()> {
+    put_again(rt, card, disk, b"-- put 2 cut in its words\n", 30)?;
+    put_again(rt, card, disk, b"-- put 2 cut before its entry\n", 64)?;
+    abandoned(rt, card, disk, b"-- put 2 cut behind its entry\n", 2, 65)?;
+    abandoned(rt, card, disk, b"-- put 2 cut before Head's store\n", 2, 66)
 }
 
-fn cut_finishes(card: &mut [u8], disk: &[u8]) {
-    finish_again(card, disk, b"-- finish cut before its stores\n", 0);
+fn cut_finishes(rt: &impl Print, card: &mut [u8], disk: &[u8]) -> io::Result<()> {
+    finish_again(rt, card, disk, b"-- finish cut before its stores\n", 0)?;
     abandoned(
+        rt,
         card,
         disk,
         b"-- finish cut behind a role switch\n",
         FINISH,
         1,
-    );
+    )?;
     abandoned(
+        rt,
         card,
         disk,
         b"-- finish cut before Tail's store\n",
         FINISH,
         3,
-    );
+    )
 }
 
 // The finish has no run, and takes no choice.
-fn sweeps() {
-    print::text(b"-- each call cut at each store, no word of a cut run made\n");
-    show_sweep(1, 0);
-    show_sweep(2, 0);
-    show_sweep(3, 0);
-    show_sweep(FINISH, 0);
-    print::text(b"-- the puts, all words of a cut run made\n");
-    show_sweep(1, 1);
-    show_sweep(2, 1);
-    show_sweep(3, 1);
+fn sweeps(rt: &impl Print) -> io::Result<()> {
+    print::text(
+        rt,
+        b"-- each call cut at each store, no word of a cut run made\n",
+    )?;
+    show_sweep(rt, 1, 0)?;
+    show_sweep(rt, 2, 0)?;
+    show_sweep(rt, 3, 0)?;
+    show_sweep(rt, FINISH, 0)?;
+    print::text(rt, b"-- the puts, all words of a cut run made\n")?;
+    show_sweep(rt, 1, 1)?;
+    show_sweep(rt, 2, 1)?;
+    show_sweep(rt, 3, 1)
 }
 
-fn uncut(card: &mut [u8], disk: &[u8]) {
-    before(card, disk);
-    let put = puts(card);
-    let done = finished(card, disk, put);
-    finishes(card, done);
+fn uncut(rt: &impl Print, card: &mut [u8], disk: &[u8]) -> io::Result<()> {
+    before(rt, card, disk)?;
+    let put = puts(rt, card)?;
+    let done = finished(rt, card, disk, put)?;
+    finishes(rt, card, done)
 }
 
-fn single(card: &mut [u8], disk: &[u8]) {
-    uncut(card, disk);
-    refusals(card, disk);
-    cut_puts(card, disk);
-    cut_finishes(card, disk);
+fn single(rt: &impl Print, card: &mut [u8], disk: &[u8]) -> io::Result<()> {
+    uncut(rt, card, disk)?;
+    refusals(rt, card, disk)?;
+    cut_puts(rt, card, disk)?;
+    cut_finishes(rt, card, disk)
 }
 
-fn main() {
+fn main(rt: HostRuntime) -> io::Result<()> {
     let mut card = [0u8; 4416];
     let disk = [1u8; 8192];
-    single(&mut card, &disk);
-    sweeps();
+    single(&rt, &mut card, &disk)?;
+    sweeps(&rt)
 }

@@ -1,8 +1,14 @@
 // The program's arguments. Each command answers whether its arguments could be read.
+ghost use Rattle.std.specs.Prelude.{◌≤◌, length, IfSome};
+
 use crate::files;
 use arguments::{is_whole, number};
 use protocol::Geometry;
+use std::rt::Env;
 use text::Parsed;
+
+// Room for an argument: no path that the system takes is longer.
+const ROOM: usize = 4096;
 
 // The commands.
 #[derive(Clone, Copy)]
@@ -38,97 +44,105 @@ fn spoken(s: &[u8]) -> Word {
     Word::Other
 }
 
-pub fn command() -> Word {
-    let mut buf = io::buffer();
-    let n = os::arg(1, &mut buf);
-    spoken(&buf[..n])
+pub fn command(rt: &HostRuntime) -> Word {
+    let mut buf = [0u8; ROOM];
+    match rt.arg(1, &mut buf) {
+        Ok(n) => spoken(&buf[..n]),
+        Err(_) => Word::Other,
+    }
 }
 
-pub fn show() -> bool {
-    let mut path = io::buffer();
-    let n = os::arg(2, &mut path);
-    if is_whole(b"CARD") {
-        files::show(&path[..n]);
+// Argument i at the front of the buffer, and its length; or none, and it is said that it did not come whole.
+fn take(rt: &HostRuntime, i: usize, what: &[u8], buf: &mut [u8]) -> Option<usize>
+    ensures { IfSome result (λ n. n ≤ length buf.new) }
+{
+    let read = rt.arg(i, buf);
+    if is_whole(&rt.stderr(), what, read) {
+        read.ok()
+    } else {
+        None
+    }
+}
+
+pub fn show(rt: &HostRuntime) -> bool {
+    let mut path = [0u8; ROOM];
+    if let Some(n) = take(rt, 2, b"CARD", &mut path) {
+        files::show(rt, &path[..n]);
     }
     true
 }
 
-pub fn block() -> bool {
-    let mut card = io::buffer();
-    let mut disk = io::buffer();
-    let Parsed::Number(b) = number(4) else {
+pub fn block(rt: &HostRuntime) -> bool {
+    let mut card = [0u8; ROOM];
+    let mut disk = [0u8; ROOM];
+    let Parsed::Number(b) = number(rt, 4) else {
         return false;
     };
-    let c = os::arg(2, &mut card);
-    if !is_whole(b"CARD") {
+    let Some(c) = take(rt, 2, b"CARD", &mut card) else {
         return true;
-    }
-    let d = os::arg(3, &mut disk);
-    if is_whole(b"DISK") {
-        files::block(&card[..c], &disk[..d], b);
+    };
+    if let Some(d) = take(rt, 3, b"DISK", &mut disk) {
+        files::block(rt, &card[..c], &disk[..d], b);
     }
     true
 }
 
-pub fn preview(count: usize) -> bool {
-    let s = arguments::numbers(count);
+pub fn preview(rt: &HostRuntime, count: usize) -> bool {
+    let s = arguments::numbers(rt, count);
     if !s.all {
         return false;
     }
-    let mut path = io::buffer();
-    let n = os::arg(2, &mut path);
+    let mut path = [0u8; ROOM];
     let list = s.list;
     let k = s.count;
-    if is_whole(b"CARD") {
-        outlook::preview(&path[..n], &list[..k]);
+    if let Some(n) = take(rt, 2, b"CARD", &mut path) {
+        outlook::preview(rt, &path[..n], &list[..k]);
     }
     true
 }
 
 // Without an allowance a recovery or an upgrade is made in full.
-fn allowance(count: usize) -> Parsed {
+fn allowance(rt: &HostRuntime, count: usize) -> Parsed {
     if count == 3 {
         return Parsed::Number(0xFFFF_FFFF_FFFF_FFFF);
     }
-    number(3)
+    number(rt, 3)
 }
 
 // A recovery, or an upgrade.
-pub fn update(count: usize, anew: bool) -> bool {
-    let Parsed::Number(a) = allowance(count) else {
+pub fn update(rt: &HostRuntime, count: usize, anew: bool) -> bool {
+    let Parsed::Number(a) = allowance(rt, count) else {
         return false;
     };
-    let mut path = io::buffer();
-    let n = os::arg(2, &mut path);
-    if is_whole(b"CARD") {
-        files::update(&path[..n], anew, a);
+    let mut path = [0u8; ROOM];
+    if let Some(n) = take(rt, 2, b"CARD", &mut path) {
+        files::update(rt, &path[..n], anew, a);
     }
     true
 }
 
-pub fn format() -> bool {
-    let Parsed::Number(k) = number(3) else {
+pub fn format(rt: &HostRuntime) -> bool {
+    let Parsed::Number(k) = number(rt, 3) else {
         return false;
     };
-    let Parsed::Number(slots) = number(4) else {
+    let Parsed::Number(slots) = number(rt, 4) else {
         return false;
     };
-    let Parsed::Number(blocks) = number(5) else {
+    let Parsed::Number(blocks) = number(rt, 5) else {
         return false;
     };
-    let Parsed::Number(disk) = number(6) else {
+    let Parsed::Number(disk) = number(rt, 6) else {
         return false;
     };
-    let mut path = io::buffer();
-    let n = os::arg(2, &mut path);
+    let mut path = [0u8; ROOM];
     let g = Geometry {
         k: k,
         slots: slots,
         blocks: blocks,
         disk: disk,
     };
-    if is_whole(b"CARD") {
-        files::format(&path[..n], g);
+    if let Some(n) = take(rt, 2, b"CARD", &mut path) {
+        files::format(rt, &path[..n], g);
     }
     true
 }

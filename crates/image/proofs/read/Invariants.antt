@@ -1,0 +1,9 @@
+-- `read` stays within the buffer, and each turn reads a byte at least.
+use Rattle.std.proofs.Common.{◌-◌, ◌≤◌, length}
+use Rattle.image.proofs.read.Given as goal
+
+abbrev pub invariant-loop-count : goal.invariant-loop-count
+invariant-loop-count g l = l.count ≤ length l.buf
+
+abbrev pub decreases-loop-count : goal.decreases-loop-count
+decreases-loop-count g l = length l.initial.buf - l.count
