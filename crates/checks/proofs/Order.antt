@@ -99,7 +99,7 @@ module _ (f : Fit) (c xs : List ℕ) (r : Bool) (frame : Framed c f) (ring : r �
 
       settled_test : eqb f.head f.tail && s.quiet ≡ is_settled f.geometry c
       unfolding is_settled
-      settled_test = λ i. eqb (frame.head_is_lem i) (frame.tail_is_lem i) && d.quiet on i
+      settled_test = λ i. eqb (frame.head_is i) (frame.tail_is i) && d.quiet on i
 
       pub comparable : Comparable f.geometry c xs (not (eqb s.shared 0))
       comparable = record {

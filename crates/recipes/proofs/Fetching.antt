@@ -234,17 +234,17 @@ module _ (c : List ℕ) (n r : ℕ) (o : Place) (there : Found4 c n r o) (none :
   reached i h f (outside p z l) = absurd (near some_disk some_long i h l)
   reached i h f (on_card_lem at j p z l m e) =
       record {
-        on_card_lem = λ q k j' y.
+        on_card = λ q k j' y.
             let a : q ≡ at = cc in
             let b : k ≡ block_size (geometry_of c) = cc in
             omega arith;
-        on_disk_lem = λ q k y. let x : ◌≡◌ {A = ℕ} 0 1 = cc in absurd (omega arith);
+        on_disk = λ q k y. let x : ◌≡◌ {A = ℕ} 0 1 = cc in absurd (omega arith);
         long = ap (λ (y : Found). length (held_in c w (i * o.size) y)) p ∙ length_part c at (block_size (geometry_of c)) m ∙ sym size_is;
       }
   reached i h f (on_disk_lem p z l m e) =
       record {
-        on_card_lem = λ q k j' y. let x : ◌≡◌ {A = ℕ} 0 1 = cc in absurd (omega arith);
-        on_disk_lem = λ q k y.
+        on_card = λ q k j' y. let x : ◌≡◌ {A = ℕ} 0 1 = cc in absurd (omega arith);
+        on_disk = λ q k y.
             let b : k ≡ block_size (geometry_of c) = cc in
             omega (arith, in_window_lem i h);
         long = ap (λ (y : Found). length (held_in c w (i * o.size) y)) p ∙ length_part w (i * o.size) (block_size (geometry_of c)) (in_window_lem i h) ∙ sym size_is;

@@ -59,8 +59,8 @@ held_in c w at (Outside n) = []
 
 -- and they are there, `size` of them
 pub record Reached (c w : List ℕ) (at size : ℕ) (f : Found) : Type 0 where
-  pub on_card_lem : (p n i : ℕ) → f ≡ Card p n i → p + n ≤ length c
-  pub on_disk_lem : (p n : ℕ) → f ≡ Disk p n → at + n ≤ length w
+  pub on_card : (p n i : ℕ) → f ≡ Card p n i → p + n ≤ length c
+  pub on_disk : (p n : ℕ) → f ≡ Disk p n → at + n ≤ length w
   pub long : length (held_in c w at f) ≡ size
 
 -- block i of four

@@ -246,7 +246,7 @@ module _ (c d : List ℕ) (m : Map) (t ns bs ch es ps vs : List ℕ) (p : Making
           pub make_savable : Savable p.geometry c₁ p.head left ns bs ch es ps
           make_savable = record {
             own = own_left;
-            head = v.head_is_lem ∙ sym (room_head c d m t ns bs ch v.passes) ∙ ap head_of (sym card_left);
+            head = v.head_is ∙ sym (room_head c d m t ns bs ch v.passes) ∙ ap head_of (sym card_left);
             passes = (λ i. commit_refusal 2 (card_left i) (left_is i) ns bs ch) ∙ room_commit c d m t ns bs ch v.passes;
             homes =
                 subst (λ (b : List ℕ). Homes p.geometry b ns es ps) (sym card_left)
