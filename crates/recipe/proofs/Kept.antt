@@ -1,15 +1,15 @@
 -- The cut rule recipe by recipe. A list of saves, removes and the cache's other calls leaves what some list of the cache's calls leaves: a save or a
 -- remove that passes its own checks is a room-making commit, and one that does not changes nothing. So the cut rule of the cache holds of it, and what
 -- stands for each recipe in the row is what the answers say. By induction over the list; no byte of the card is looked at. Assumes nothing.
-use Prim.Native.Nat.{ℕ, zero, suc, ◌+◌, ◌*◌, ◌≤◌, ◌<◌}
-use mathlib.Core.List.{List, [], ◌∷◌, ◌++◌, append_assoc}
+use Prim.Native.Nat.{ℕ, zero, suc, ◌+◌, ◌*◌, ◌≤◌}
+use mathlib.Core.List.{List, [], ◌∷◌, ◌++◌}
 use mathlib.Core.Bool.{Bool, true, false, cond}
 use mathlib.Core.Path.{◌≡◌, refl, sym, ap, subst, ◌∙◌}
 use mathlib.Core.Logic.{◌⊎◌, inl, inr}
 use native.Mathlib.Omega.{arith}
 use lib.ListN.{length, replicate}
-use lib.Dec.{eqb, ltb}
-use borrow.Author.Tests.{eqb-true, eqb-false, eq-eqb, ne_eqb, ltb-true}
+use lib.Dec.{eqb}
+use borrow.Author.Tests.{eqb-true, eq-eqb, ne_eqb, ltb-true}
 use Rattle.numbers.specs.Bytes.{patch}
 use Rattle.numbers.proofs.Laws.{patch_nil}
 use Rattle.protocol.specs.declared.Answer.{Answer}
@@ -33,13 +33,11 @@ use Rattle.protocol.proofs.Below.{either, same_or_other}
 use Rattle.protocol.proofs.CutRule.{cut_rule, pair_rule, left-more, row_more}
 use Rattle.protocol.proofs.Holds.{pass, none_first, or_else_assoc}
 use Rattle.protocol.proofs.Passed.{first_zero, passed}
-use Rattle.recipe.specs.declared.Fetched.{Fetched}
-use Rattle.recipe.specs.declared.Fetched.TheVariants.{Is, Refused}
 use Rattle.recipe.specs.Record.{Recipe, record_bytes}
 use Rattle.recipe.specs.Shelf.{in_range, blocks_of, Standing, nothing, broken, stands, standing, standing_refusal, standing_bytes}
-use Rattle.recipe.specs.Calls.{guarded, saved_numbers, saved_bytes, save_refusal, save_work, remove_refusal, remove_work, standing_on, fetch_refusal, fetched, fetched_output}
+use Rattle.recipe.specs.Calls.{saved_numbers, saved_bytes, save_refusal, save_work, remove_refusal, remove_work, standing_on, fetch_refusal, fetched, fetched_output}
 use Rattle.recipe.specs.Uses.{Use, save, remove, load, evict, recover, upgrade, open_save, Asked, work_for, answer_for, media_after, media_left, answers_to, Shelf, placed, shelve, shelve_all}
-use Rattle.recipe.specs.Kept.{used_left, shelf_left, recovering, answered_as, Kept, RecipeRule}
+use Rattle.recipe.specs.Kept.{used_left, shelf_left, recovering, answered_as, RecipeRule}
 use Rattle.recipe.proofs.Fewest.{record_blocks}
 use Rattle.recipe.proofs.Record.{good}
 use Rattle.recipe.proofs.Refusals.{guarded_passes, guarded_stops, save_own}

@@ -1,22 +1,22 @@
 -- What a fetch copies: each block from where it lies, on the card or in the window of the disk, is the block's contents, and the record is that which
 -- stands for the recipe. Assumes nothing.
 use Prim.Native.Nat.{ℕ, zero, suc, ◌+◌, ◌*◌, ◌-◌, ◌/◌, ◌≤◌, ◌<◌}
-use mathlib.Core.List.{List, [], ◌∷◌, ◌++◌}
-use mathlib.Core.Bool.{Bool, true, false, cond, not}
+use mathlib.Core.List.{List, [], ◌++◌}
+use mathlib.Core.Bool.{true, false, cond}
 use mathlib.Core.Path.{◌≡◌, refl, sym, ap, subst, ◌∙◌}
 use mathlib.Core.Logic.{◌⊎◌, inl, inr}
 use native.Mathlib.Nat.{add-mul, suc-mul, mul-le-mul_right, div-eq_of_lt-le}
 use native.Mathlib.Numerals.{add-one}
 use native.Mathlib.Omega.{arith}
-use lib.ListN.{length, take, drop, replicate, length-replicate, length-append}
+use lib.ListN.{length, take, drop, replicate, length-replicate}
 use lib.Seq.{take-append-add}
-use lib.Dec.{eqb, ltb}
+use lib.Dec.{eqb}
 use borrow.Author.Tests.{eq-eqb, ne_eqb, ltb-true}
 use Rattle.numbers.specs.Bytes.{part, patch}
-use Rattle.numbers.proofs.Laws.{length_part, length-patch, part_all, patch_append}
+use Rattle.numbers.proofs.Laws.{length_part, part_all, patch_append}
 use Rattle.protocol.specs.declared.Geometry.{Geometry}
 use Rattle.protocol.specs.Below.{each_below}
-use Rattle.protocol.specs.Layout.{good_geometry, geometry_of, block_size, disk_place, disk_block, disk_length}
+use Rattle.protocol.specs.Layout.{good_geometry, geometry_of, block_size, disk_place, disk_length}
 use Rattle.protocol.specs.Ring.{contents}
 use Rattle.protocol.specs.Check.{refuse, ◌or_else◌, fit_refusal}
 use Rattle.protocol.specs.Load.{pair_refusal}
@@ -28,18 +28,16 @@ use Rattle.protocol.proofs.Region.{block_ends}
 use Rattle.ring.specs.declared.Fit.{Fit}
 use Rattle.ring.specs.Fitted.{Opened}
 use Rattle.lookup.specs.declared.Found.{Found}
-use Rattle.lookup.specs.declared.Found.TheVariants.{Refused, Outside, Card, Disk}
+use Rattle.lookup.specs.declared.Found.TheVariants.{Card, Disk}
 use Rattle.lookup.specs.Place.{found_in}
 use Rattle.lookup.proofs.Reading.{disk_long}
 use Rattle.extent.specs.declared.Extent.{Extent}
-use Rattle.extent.specs.Four.{Four}
 use Rattle.extent.proofs.Laws.{Lies, refused, outside, on_card_lem, on_disk_lem, lies, disk_four}
-use Rattle.recipe.specs.declared.Fetched.{Fetched}
 use Rattle.recipe.specs.declared.Fetched.TheVariants.{Is, Refused as RefusedFetch}
 use Rattle.recipe.specs.Record.{good_record, record_length, count_in}
-use Rattle.recipe.specs.Shelf.{in_range, blocks_for, is_blank, joined, length_of, record_of, Standing, nothing, broken, stands, standing, standing_refusal, standing_bytes}
+use Rattle.recipe.specs.Shelf.{in_range, blocks_for, is_blank, joined, length_of, record_of, nothing, broken, stands, standing, standing_refusal}
 use Rattle.recipe.specs.Calls.{standing_on, fetch_refusal, fetched, fetched_output}
-use Rattle.recipe.proofs.Fewest.{Fewest, fewest, record_blocks}
+use Rattle.recipe.proofs.Fewest.{Fewest, record_blocks}
 use Rattle.recipe.proofs.Lists.{each_long}
 use Rattle.recipe.proofs.Record.{laid}
 use Rattle.recipe.proofs.Refusals.{pair_good}

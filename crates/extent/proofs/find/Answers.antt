@@ -1,6 +1,5 @@
 -- `find` answers where the four lie, after checks 1 to 7 in their order. Assumes nothing.
 use mathlib.Core.Path.{refl}
-use borrow.Author.Rules.{rules}
 use Rattle.lookup.proofs.Laws.{find_unfit, find_no_disk, find_sought}
 use Rattle.extent.proofs.Laws.{four_all, four_map}
 use Rattle.extent.proofs.find.Goals as goal

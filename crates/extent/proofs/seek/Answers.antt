@@ -1,5 +1,4 @@
 -- `seek` answers where the four lie, after checks 4 to 7 in their order. Assumes nothing.
-use borrow.Author.Rules.{rules}
 use Rattle.lookup.proofs.Laws.{sought_refused}
 use Rattle.extent.proofs.Laws.{four_all, four_sought}
 use Rattle.extent.proofs.seek.Goals as goal

@@ -1,10 +1,6 @@
 -- `good_name` answers its definition: false of another length, and else whether each byte is printable. The invariant: the bytes passed are.
 -- Assumes nothing.
-use Prim.Native.Nat.{◌≤◌, ◌-◌}
-use mathlib.Core.Bool.{true}
-use mathlib.Core.Path.{◌≡◌}
 use Rattle.protocol.specs.Below.{all_below}
-use Rattle.recipe.specs.Record.{is_printable}
 use Rattle.recipe_codec.proofs.Laws.{name_length, name_fails, name_turn, name_end}
 use borrow.Author.Rules.{rules}
 use Rattle.recipe_codec.proofs.good_name.Goals as goal

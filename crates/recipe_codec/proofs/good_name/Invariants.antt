@@ -5,8 +5,6 @@ use mathlib.Core.Bool.{true}
 use mathlib.Core.Path.{◌≡◌}
 use Rattle.protocol.specs.Below.{all_below}
 use Rattle.recipe.specs.Record.{is_printable}
-use Rattle.recipe_codec.proofs.Laws.{name_length, name_fails, name_turn, name_end}
-use borrow.Author.Rules.{rules}
 use Rattle.recipe_codec.proofs.good_name.Given as goal
 
 abbrev pub invariant-loop-i : goal.invariant-loop-i

@@ -1,5 +1,4 @@
 -- `good_recipe` answers its definition, from what its tests answer. Assumes nothing.
-use borrow.Author.Rules.{rules}
 use Rattle.recipe_codec.proofs.Laws.{recipe_end}
 use Rattle.recipe_codec.proofs.good_recipe.Goals as goal
 

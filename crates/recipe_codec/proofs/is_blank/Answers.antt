@@ -1,10 +1,5 @@
 -- `is_blank` answers its definition. The invariant: the bytes passed are zero. Assumes nothing.
-use Prim.Native.Nat.{◌≤◌, ◌-◌}
-use mathlib.Core.Bool.{true}
-use mathlib.Core.Path.{◌≡◌}
-use lib.ListN.{length}
 use Rattle.protocol.specs.Below.{all_below}
-use Rattle.recipe.specs.Shelf.{zero_at}
 use Rattle.recipe_codec.proofs.Laws.{blank_fails, blank_turn, blank_end}
 use native.Mathlib.Omega.{arith}
 use borrow.Author.Rules.{rules}

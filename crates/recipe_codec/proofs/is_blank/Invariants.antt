@@ -5,9 +5,6 @@ use mathlib.Core.Path.{◌≡◌}
 use lib.ListN.{length}
 use Rattle.protocol.specs.Below.{all_below}
 use Rattle.recipe.specs.Shelf.{zero_at}
-use Rattle.recipe_codec.proofs.Laws.{blank_fails, blank_turn, blank_end}
-use native.Mathlib.Omega.{arith}
-use borrow.Author.Rules.{rules}
 use Rattle.recipe_codec.proofs.is_blank.Given as goal
 
 abbrev pub invariant-loop-i : goal.invariant-loop-i

@@ -1,10 +1,4 @@
 -- `put_lines` writes one line behind the other. The invariant: the first i lines are written, and `at` is the place behind them. Assumes nothing.
-use Prim.Native.Nat.{◌+◌, ◌*◌, ◌≤◌, ◌-◌}
-use mathlib.Core.Path.{◌≡◌}
-use lib.ListN.{length}
-use Rattle.numbers.specs.Bytes.{patch}
-use Rattle.protocol.specs.Below.{each_below}
-use Rattle.recipe.specs.Record.{recipe_from, line_bytes}
 use Rattle.recipe_codec.proofs.Laws.{lines_start, lines_turn, lines_end}
 use borrow.Author.Rules.{rules}
 use Rattle.recipe_codec.proofs.put_lines.Goals as goal

@@ -5,8 +5,6 @@ use lib.ListN.{length}
 use Rattle.numbers.specs.Bytes.{patch}
 use Rattle.protocol.specs.Below.{each_below}
 use Rattle.recipe.specs.Record.{recipe_from, line_bytes}
-use Rattle.recipe_codec.proofs.Laws.{lines_start, lines_turn, lines_end}
-use borrow.Author.Rules.{rules}
 use Rattle.recipe_codec.proofs.put_lines.Given as goal
 
 abbrev pub invariant-loop-i : goal.invariant-loop-i

@@ -1,7 +1,5 @@
 -- `ask` finds 1, 2 and 19, and 3 to 7 before 19. Assumes nothing.
-use borrow.Author.Rules.{rules}
 use mathlib.Core.Path.{sym, ◌∙◌}
-use borrow.Author.Tests.{not-true, not-false}
 use Rattle.recipes.proofs.Saving.{asked_unfit, asked_far, asked_wrong, asked_well}
 use Rattle.recipes.proofs.ask.Goals as goal
 

@@ -1,5 +1,4 @@
 -- `ask_removal` answers 1 to 7, 19 and 20, by where the blocks lie and what the first holds. Assumes nothing.
-use borrow.Author.Rules.{rules}
 use mathlib.Core.Path.{refl}
 use native.Mathlib.Omega.{arith}
 use Rattle.recipes.proofs.Saving.{removal_stops, removal_blank, removal_passes}

@@ -1,5 +1,4 @@
 -- `block_of` hands back the part where the block was found, or an empty one. Assumes nothing.
-use borrow.Author.Rules.{rules}
 use native.Mathlib.Omega.{arith}
 use Rattle.recipes.proofs.Fetching.{held_card, held_disk}
 use Rattle.recipes.proofs.block_of.Goals as goal

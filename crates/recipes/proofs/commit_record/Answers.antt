@@ -1,5 +1,4 @@
 -- `commit_record` is the room-making commit of the record in its fewest blocks, zeros behind it. Assumes nothing.
-use borrow.Author.Rules.{rules}
 use native.Mathlib.Omega.{arith}
 use Rattle.recipe.proofs.Refusals.{save_own}
 use Rattle.recipes.proofs.Laws.{small}

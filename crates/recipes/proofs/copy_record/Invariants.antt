@@ -1,16 +1,11 @@
 -- `copy_record` copies whole blocks while more than one is left, and then what is left. The invariant: the blocks passed stand at the front. Assumes
 -- nothing.
-use borrow.Author.Rules.{rules}
 use Prim.Native.Nat.{◌*◌, ◌-◌, ◌<◌}
-use mathlib.Core.Path.{◌≡◌, refl, sym, ap, ◌∙◌}
-use native.Mathlib.Nat.{add-mul}
-use native.Mathlib.Omega.{arith}
+use mathlib.Core.Path.{◌≡◌}
 use lib.ListN.{length}
 use Rattle.numbers.specs.Bytes.{patch}
-use Rattle.numbers.proofs.Laws.{patch_nil, length-patch}
 use Rattle.protocol.specs.Below.{each_below}
 use Rattle.recipes.specs.Reach.{block_in}
-use Rattle.recipes.proofs.Fetching.{places_few, there, block_long, copy_turn, copy_end}
 use Rattle.recipes.proofs.copy_record.Given as goal
 
 abbrev pub invariant-loop-at : goal.invariant-loop-at

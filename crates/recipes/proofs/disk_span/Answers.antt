@@ -1,8 +1,6 @@
 -- `disk_span` answers where the four blocks stand, or an empty part. Assumes nothing.
-use borrow.Author.Rules.{rules}
 use mathlib.Core.Path.{sym, ◌∙◌}
 use native.Mathlib.Omega.{arith}
-use borrow.Author.Tests.{not-true, not-false}
 use Rattle.protocol.proofs.Checks.{limits}
 use Rattle.recipes.proofs.Fetching.{ranged_far, ranged_near, first_small}
 use Rattle.recipes.proofs.disk_span.Goals as goal

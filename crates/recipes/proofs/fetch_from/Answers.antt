@@ -1,7 +1,7 @@
 -- `fetch_from` answers what a fetch does, on every disk whose window it was lent: refused by 1 to 7 and 19, by the first block or by the output's
 -- length, or the record copied.
-use Rattle.std.proofs.Common.{◌≡◌, ◌≤◌, sym, ap, ◌∙◌, arith}
-use Rattle.recipes.specs.Reach.{held_in, nth_of}
+use Rattle.std.proofs.Common.{sym, ap, ◌∙◌, arith}
+use Rattle.recipes.specs.Reach.{held_in}
 use Rattle.recipes.proofs.Fetching.{fetch_stopped, window_wrong, size_between, record_between, reachable, there, block_long, fetch_own, fetch_nine, fetch_done}
 use Rattle.recipes.proofs.fetch_from.Goals as goal
 

@@ -1,5 +1,4 @@
 -- `find` answers by where the last of the four blocks lies. Assumes nothing.
-use borrow.Author.Rules.{rules}
 use Rattle.recipes.proofs.Laws.{found_refused, found_outside, found_card, found_disk}
 use Rattle.recipes.proofs.find.Goals as goal
 

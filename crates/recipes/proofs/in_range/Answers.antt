@@ -1,5 +1,4 @@
 -- `in_range` answers whether all four blocks are below D. Assumes nothing.
-use borrow.Author.Rules.{rules}
 use Rattle.recipes.proofs.Laws.{small, range_told}
 use Rattle.recipes.proofs.in_range.Goals as goal
 

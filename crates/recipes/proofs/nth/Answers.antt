@@ -3,8 +3,6 @@ use Rattle.recipes.proofs.Fetching.{nth_first, nth_second, nth_third, nth_fourth
 use Rattle.recipes.proofs.nth.Goals as goal
 
 -- `nth` answers the block of that place. Assumes nothing.
-use Rattle.recipes.proofs.nth.Statement.{statement}
-use Rattle.recipes.proofs.nth.Tie as tie
 
 pub returns-then-i-eq0 : goal.returns-then-i-eq0
 returns-then-i-eq0 c = search (nth_first, rules)

@@ -1,5 +1,4 @@
 -- `pair_or` answers 1 to 7 by where any block is found. Assumes nothing.
-use borrow.Author.Rules.{rules}
 use mathlib.Core.Path.{sym, ap}
 use Rattle.recipes.proofs.Laws.{pair_told, is_found, pair_passes}
 use Rattle.recipes.proofs.pair_or.Goals as goal

@@ -1,5 +1,4 @@
 -- `remove` is refused, or is the commit of one block of zeros. Assumes nothing.
-use borrow.Author.Rules.{rules}
 use Rattle.recipes.proofs.Saving.{remove_stops, size_small, zeros_long, remove_commits}
 use Rattle.recipes.proofs.remove.Goals as goal
 

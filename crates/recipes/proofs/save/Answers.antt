@@ -1,5 +1,4 @@
 -- `save` is refused, or is its commit. Assumes nothing.
-use borrow.Author.Rules.{rules}
 use Rattle.recipes.proofs.Saving.{save_stops, save_allowed, save_commits}
 use Rattle.recipes.proofs.save.Goals as goal
 

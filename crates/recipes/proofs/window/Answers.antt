@@ -1,5 +1,4 @@
 -- `window` hands back the four blocks, or nothing where the disk does not have them. Assumes nothing.
-use borrow.Author.Rules.{rules}
 use Rattle.recipes.proofs.Fetching.{window_none, window_whole}
 use Rattle.recipes.proofs.window.Goals as goal
 

@@ -2,7 +2,6 @@
 use Rattle.protocol.specs.declared.Map.{Map}
 use Rattle.protocol.specs.Commit.{commit_work}
 use Rattle.plain.proofs.Lending.{lent_call}
-use borrow.Author.Rules.{rules}
 use Rattle.tinca.proofs.tinca_commit.Goals as goal
 
 pub returns-clause-answer : goal.returns-clause-answer

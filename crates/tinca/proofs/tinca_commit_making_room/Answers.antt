@@ -3,7 +3,6 @@ use mathlib.Core.Path.{ap, ◌∙◌}
 use Rattle.protocol.specs.declared.Map.{Map}
 use Rattle.protocol.specs.Room.{room_work, table_after_save}
 use Rattle.plain.proofs.Lending.{lent_both}
-use borrow.Author.Rules.{rules}
 use Rattle.tinca.proofs.tinca_commit_making_room.Goals as goal
 
 pub returns-clause-answer : goal.returns-clause-answer
@@ -40,6 +39,6 @@ returns-clause-table c =
     let told =
     lent_both (λ (m : Map). room_work 2 x.card.now x.disk.now m x.table.now x.numbers.now x.bytes.now x.choice.now) _ _ _ _ _ _ _
     c.lent-m.ensures c.commit.ensures.media.answer c.commit.ensures.media.map (c.handed.ensures.answer, c.handed.ensures.words) _ _ _ c.commit.ensures.media.card c.commit.ensures.media.disk in c.commit.ensures.table
-                ∙ ap
-                (λ (m : Map). table_after_save x.allowance x.card.now x.disk.now m x.table.now x.numbers.now x.bytes.now x.choice.now)
-                c.lent-m.ensures
+    ∙ ap
+    (λ (m : Map). table_after_save x.allowance x.card.now x.disk.now m x.table.now x.numbers.now x.bytes.now x.choice.now)
+    c.lent-m.ensures

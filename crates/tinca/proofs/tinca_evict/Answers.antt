@@ -2,7 +2,6 @@
 use Rattle.protocol.specs.declared.Map.{Map}
 use Rattle.protocol.specs.Load.{evict_work}
 use Rattle.plain.proofs.Lending.{lent_both}
-use borrow.Author.Rules.{rules}
 use Rattle.tinca.proofs.tinca_evict.Goals as goal
 
 pub returns-clause-answer : goal.returns-clause-answer

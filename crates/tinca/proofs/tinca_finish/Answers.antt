@@ -4,7 +4,6 @@ use Rattle.protocol.specs.Pending.{finish_work}
 use Rattle.plain.specs.Plain.{lent_record}
 use Rattle.plain.proofs.Lending.{lent_call}
 use Rattle.tinca.proofs.Held.{finish_held}
-use borrow.Author.Rules.{rules}
 use Rattle.tinca.proofs.tinca_finish.Goals as goal
 
 pub returns-clause-answer : goal.returns-clause-answer

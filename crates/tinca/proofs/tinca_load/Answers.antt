@@ -3,7 +3,6 @@ use mathlib.Core.Path.{ap, ◌∙◌}
 use Rattle.protocol.specs.declared.Map.{Map}
 use Rattle.protocol.specs.Load.{load_work, table_after_load}
 use Rattle.plain.proofs.Lending.{lent_call}
-use borrow.Author.Rules.{rules}
 use Rattle.tinca.proofs.tinca_load.Goals as goal
 
 pub returns-clause-answer : goal.returns-clause-answer
@@ -33,4 +32,4 @@ returns-clause-table c =
     let told =
     lent_call (λ (m : Map). load_work 2 x.card.now x.disk.now m x.table.now x.block x.choice.now) _ _ _ _ _ _ _ c.lent-m.ensures
     c.load.ensures.media.answer c.load.ensures.media.map (c.handed.ensures.answer, c.handed.ensures.words) _ c.load.ensures.media.card in c.load.ensures.table
-              ∙ ap (λ (m : Map). table_after_load x.allowance x.card.now x.disk.now m x.table.now x.block x.choice.now) c.lent-m.ensures
+    ∙ ap (λ (m : Map). table_after_load x.allowance x.card.now x.disk.now m x.table.now x.block x.choice.now) c.lent-m.ensures

@@ -5,7 +5,6 @@ use Rattle.protocol.specs.Pending.{put_work}
 use Rattle.plain.specs.Plain.{lent_record}
 use Rattle.plain.proofs.Lending.{lent_call}
 use Rattle.tinca.proofs.Held.{lent_held, put_held}
-use borrow.Author.Rules.{rules}
 use Rattle.tinca.proofs.tinca_put.Goals as goal
 
 pub returns-clause-answer : goal.returns-clause-answer

@@ -1,7 +1,6 @@
 -- The place, the output and the table are those of `fetch_recent`.
 use mathlib.Core.Path.{ap, ◌∙◌}
 use Rattle.plain.specs.Plain.{plain_place}
-use borrow.Author.Rules.{rules}
 use Rattle.tinca.proofs.tinca_read.Goals as goal
 
 pub returns-clause-answer : goal.returns-clause-answer
