@@ -1,4 +1,4 @@
-//! Links the proved library (`rt lib` in crates/tinca writes it) and, where their headers are installed, LMDB and libpmemobj.
+//! Links the proved library (`rt lib --cpu x86-64` in crates/tinca writes it) and, where their headers are installed, LMDB and libpmemobj.
 
 use std::process::Command;
 

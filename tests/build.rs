@@ -1,4 +1,4 @@
-//! Links the proved library: `rt lib` in crates/tinca writes it.
+//! Links the proved library: `rt lib --cpu x86-64` in crates/tinca writes it.
 
 fn main() {
     let folder = std::env::var("CARGO_MANIFEST_DIR").unwrap();
