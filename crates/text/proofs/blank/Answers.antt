@@ -1,6 +1,5 @@
 -- `blank` finds the first mark. The invariant: the columns passed are blank.
-use Prim.Native.Nat.{◌≤◌, ◌-◌}
-use Rattle.text.proofs.Laws.{Blank, blank_start, blank_turn, blank_found, blank_whole}
+use Rattle.text.proofs.Laws.{blank_start, blank_turn, blank_found, blank_whole}
 use borrow.Author.Rules.{rules}
 use Rattle.text.proofs.blank.Goals as goal
 

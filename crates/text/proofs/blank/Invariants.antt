@@ -1,7 +1,6 @@
 -- `blank` finds the first mark. The invariant: the columns passed are blank.
 use Prim.Native.Nat.{◌≤◌, ◌-◌}
-use Rattle.text.proofs.Laws.{Blank, blank_start, blank_turn, blank_found, blank_whole}
-use borrow.Author.Rules.{rules}
+use Rattle.text.proofs.Laws.{Blank}
 use Rattle.text.proofs.blank.Given as goal
 
 abbrev pub invariant-loop-j : goal.invariant-loop-j

@@ -1,8 +1,7 @@
 -- `hex` fills its field with sixteen bytes in hexadecimal. The invariant: the columns passed are those of the field.
 use Prim.Native.Nat.{◌≤◌, ◌-◌}
-use Rattle.text.specs.Text.{hex_mark, hex_field}
-use Rattle.text.proofs.Laws.{Filled, row-start, row_turn, row_end}
-use borrow.Author.Rules.{rules}
+use Rattle.text.specs.Text.{hex_mark}
+use Rattle.text.proofs.Laws.{Filled}
 use Rattle.text.proofs.hex.Given as goal
 
 abbrev pub invariant-loop-j : goal.invariant-loop-j

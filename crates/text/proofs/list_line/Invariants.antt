@@ -1,8 +1,7 @@
 -- `list_line` fills its field with a line of the listing. The invariant: the columns passed are those of the field.
 use Prim.Native.Nat.{◌≤◌, ◌-◌}
-use Rattle.text.specs.Text.{list_mark, list_line}
-use Rattle.text.proofs.Laws.{Filled, row-start, row_turn, row_end}
-use borrow.Author.Rules.{rules}
+use Rattle.text.specs.Text.{list_mark}
+use Rattle.text.proofs.Laws.{Filled}
 use Rattle.text.proofs.list_line.Given as goal
 
 abbrev pub invariant-loop-j : goal.invariant-loop-j

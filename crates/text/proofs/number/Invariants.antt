@@ -1,8 +1,7 @@
 -- `number` fills its field with the number. The invariant: the columns passed are those of the field.
 use Prim.Native.Nat.{◌≤◌, ◌-◌}
-use Rattle.text.specs.Text.{number_mark, number_field}
-use Rattle.text.proofs.Laws.{Filled, row-start, row_turn, row_end}
-use borrow.Author.Rules.{rules}
+use Rattle.text.specs.Text.{number_mark}
+use Rattle.text.proofs.Laws.{Filled}
 use Rattle.text.proofs.number.Given as goal
 
 abbrev pub invariant-loop-j : goal.invariant-loop-j

@@ -1,8 +1,5 @@
 -- `parse` answers its definition. The invariant: the characters passed are digits, and the rest spells the whole after the value so far.
-use Prim.Native.Nat.{◌≤◌, ◌-◌}
-use mathlib.Core.Path.{◌≡◌}
-use lib.ListN.{length}
-use Rattle.text.proofs.Reading.{digit_low, Read, read_none, read_start, read_bad, read_past, read_turn, read_end}
+use Rattle.text.proofs.Reading.{digit_low, read_none, read_start, read_bad, read_past, read_turn, read_end}
 use borrow.Author.Rules.{rules}
 use Rattle.text.proofs.parse.Goals as goal
 

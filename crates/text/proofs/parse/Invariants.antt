@@ -2,8 +2,7 @@
 use Prim.Native.Nat.{◌≤◌, ◌-◌}
 use mathlib.Core.Path.{◌≡◌}
 use lib.ListN.{length}
-use Rattle.text.proofs.Reading.{digit_low, Read, read_none, read_start, read_bad, read_past, read_turn, read_end}
-use borrow.Author.Rules.{rules}
+use Rattle.text.proofs.Reading.{Read}
 use Rattle.text.proofs.parse.Given as goal
 
 abbrev pub invariant-loop-i : goal.invariant-loop-i

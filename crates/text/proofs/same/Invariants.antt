@@ -5,8 +5,6 @@ use mathlib.Core.Path.{◌≡◌}
 use lib.ListN.{length}
 use Rattle.protocol.specs.Below.{all_below}
 use Rattle.text.specs.Text.{same_at}
-use Rattle.text.proofs.Words.{same_unlike, same_none, same_next, same_differs, same_all}
-use borrow.Author.Rules.{rules}
 use Rattle.text.proofs.same.Given as goal
 
 abbrev pub invariant-loop-i : goal.invariant-loop-i

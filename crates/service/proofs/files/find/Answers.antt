@@ -1,5 +1,4 @@
 -- `find` lists a part that lies on the card, or reads one that fits its room.
-use mathlib.Core.Path.{◌≡◌}
 use native.Mathlib.Omega.{arith}
 use Rattle.lookup.proofs.Reading.{card_part_in, disk_part_in}
 use Rattle.service.proofs.files.find.Goals as goal
