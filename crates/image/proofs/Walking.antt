@@ -10,18 +10,14 @@ use native.Mathlib.Numerals.{add-one}
 use lib.ListN.{length, length-append}
 use lib.Dec.{leb}
 use borrow.Author.Tests.{leb-true, leb-false}
-use mir.Syntax.{w64}
-use mir.Val.{Fits}
 use Rattle.protocol.specs.declared.Geometry.{Geometry}
 use Rattle.protocol.specs.Below.{each_below}
 use Rattle.protocol.specs.Store.{card, Store, Run, made_on, flat, made}
 use Rattle.protocol.proofs.Below.{absurd_bool, or_true, or_false}
 use Rattle.protocol.proofs.Stores.{made_append, flat_append, runs_before, runs_covered}
 use Rattle.stores.specs.Did.{under_credit}
-use Rattle.stores.proofs.Laws.{did_length}
 use Rattle.ring.specs.Fitted.{Fitted, WindowOf}
 use Rattle.ring.specs.declared.Window.{Window}
-use Rattle.ring.proofs.Laws.{fitted_blocks}
 use Rattle.recovery.specs.declared.Progress.{Progress}
 use Rattle.recovery.specs.declared.Step.{Step}
 use Rattle.recovery.specs.Step.{runs_at, step_runs, Listed}
@@ -30,11 +26,6 @@ use Rattle.recovery.proofs.Turns.{fitted_stays, window_stays, step_stays, list_e
 use Rattle.protocol.specs.Recover.{recover_runs}
 use Rattle.image.specs.declared.Walk.{Walk}
 use Rattle.image.specs.Walked.{Walked}
-
--- ---- a step's store
-
-pub sixteen_counts : (n : ℕ) (xs : List ℕ) → n ≤ 16 → length xs ≡ 16 → n ≤ length xs
-sixteen_counts n xs h l = omega arith
 
 -- ---- one step more
 
@@ -149,11 +140,3 @@ module _ (g : Geometry) (c₀ : List ℕ) (i a : ℕ) (c : List ℕ) (so : Walk)
 pub walked_last : (g : Geometry) (c : List ℕ) (a : ℕ) (d : List ℕ) (so : Walk) (i n : ℕ) → n < i → i ≤ n + 1 → n ≡ g.blocks
     → Walked (each_below (runs_at g c) i) a c d so → Walked (recover_runs g c) a c d so
 walked_last g c a d so i n h k e x = list_ends g c i n h k e (λ (rs : List Run). Walked rs a c d so) x
-
-pub walked-length : (rs : List Run) (a : ℕ) (c d : List ℕ) (so : Walk) → Walked rs a c d so → length d ≡ length c
-walked-length rs a c d so x = did_length (walked_went rs a c d so x).did
-
--- ---- small numbers
-
-pub made_fits : (g : Geometry) (c : List ℕ) (at n m : ℕ) → Fitted g c → m ≤ n → n ≤ at → at ≤ g.blocks → Fits w64 (m + 1)
-made_fits g c at n m f l h k = omega (arith, fitted_blocks g c f)

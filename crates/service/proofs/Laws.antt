@@ -1,4 +1,4 @@
--- What the commands need of lengths and of a card that is upgraded. Assumes nothing.
+-- What the commands need of lengths. Assumes nothing.
 use Prim.Native.Nat.{ℕ, ◌≤◌}
 use mathlib.Core.List.{List}
 use mathlib.Core.Bool.{Bool, true, false, not}
@@ -9,8 +9,6 @@ use lib.Seq.{length-take-le}
 use borrow.Author.Tests.{not-false}
 use Rattle.protocol.specs.declared.Geometry.{Geometry}
 use Rattle.protocol.specs.Layout.{good_geometry, card_length}
-use Rattle.upgrade.specs.declared.Checked.{Checked}
-use Rattle.upgrade.specs.Examined.{Examined}
 use Rattle.image.proofs.Front.{largest}
 
 -- a geometry that was found good
@@ -23,10 +21,3 @@ module _ (g : Geometry) (r : ℕ) (xs : List ℕ) (e : r ≡ card_length g) (h :
 
   pub long_counts : r ≡ length (take r xs)
   long_counts = sym (length-take-le r xs long_fits)
-
-pub front_counts : (n : ℕ) (xs : List ℕ) → n ≤ 4096 → 4096 ≡ length xs → n ≡ length (take n xs)
-front_counts n xs h l = let k : n ≤ length xs = omega arith in sym (length-take-le n xs k)
-
--- a card that upgrade does not refuse has a good geometry
-pub examined_good : (c : List ℕ) (s : Checked) → Examined c s → s.refusal ≡ 0 → good_geometry s.geometry ≡ true
-examined_good c s x z = (x.fitted z).good
