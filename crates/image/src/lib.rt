@@ -36,7 +36,8 @@ pub fn name(path: &[u8]) -> io::Result<&str> {
 // Reads the file's first bytes, as many as the buffer holds, and returns how many it put at the front. Where a read fails, what was read
 // before it is of no use.
 pub fn read(file: &mut impl Read, buf: &mut [u8]) -> io::Result<usize>
-    ensures { IfOk result (λ count. count ≤ length buf.new) }
+    ensures within { IfOk result (λ count. count ≤ length buf.new) }
+    ensures kept { length buf.new ≡ length buf.old }
 {
     let mut count = 0;
     while count < buf.len() {
