@@ -1,4 +1,4 @@
-//! Links the proved library (`rt staticlib tinca` writes it) and, where their headers are installed, LMDB and libpmemobj.
+//! Links the proved library (`rt lib --cpu x86-64` in crates/tinca writes it) and, where their headers are installed, LMDB and libpmemobj.
 
 use std::process::Command;
 
@@ -32,9 +32,9 @@ fn store(folder: &str, name: &str, header: &str) {
 
 fn main() {
     let folder = std::env::var("CARGO_MANIFEST_DIR").unwrap();
-    println!("cargo:rustc-link-search=native={folder}/../target/staticlib");
+    println!("cargo:rustc-link-search=native={folder}/../crates/tinca/out");
     println!("cargo:rustc-link-lib=static=tinca");
-    println!("cargo:rerun-if-changed={folder}/../target/staticlib/libtinca.a");
+    println!("cargo:rerun-if-changed={folder}/../crates/tinca/out/libtinca.a");
     println!("cargo:rerun-if-changed=build.rs");
     store(&folder, "lmdb", "lmdb.h");
     store(&folder, "pmemobj", "libpmemobj.h");

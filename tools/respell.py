@@ -5,7 +5,7 @@ usage: python3 tools/respell.py            at the top of the repository
 
 A name that a file of specs/ or proofs/ declares, in lower camel case, becomes snake case wherever it stands: `goodGeometry` is `good_geometry`. In a
 lemma's name a dash stays where it joins two names of definitions and is an underscore before a plain word: `take-start` is `take_start`. A lemma
-whose new name is a definition's gets `_lem`. Names of src/, strings, inputs and outputs stay; so do the names of goals, in proofs/F/.
+whose new name is a definition's gets `_lem`; a field of specs/ keeps its name. Names of src/, strings, inputs and outputs stay; so do the names of goals, in proofs/F/.
 It stops, and writes nothing, where two names of one file would fall together.
 """
 
@@ -44,7 +44,7 @@ def code(path, text):
 
 
 def main():
-    definitions, lemmas, fields = set(), set(), set()
+    definitions, lemmas, fields, told = set(), set(), set(), set()
     texts = {path: read(path) for path in files((".antt", ".rt"))}
     std = set()
     for path, text in texts.items():
@@ -61,6 +61,8 @@ def main():
             m = FIELD.match(line)
             if m:
                 fields.add(m.group(1))
+                if "/specs/" in path:
+                    told.add(m.group(1))
             m = INNER.match(line)
             if m:
                 lemmas.add((m.group(1), bool(goals)))
@@ -84,7 +86,7 @@ def main():
             left = part if joins else left + "_" + part
         if re.match(r"[A-Z]", name):
             new = name.replace("-", "_")
-        while new in taken or new in turned.values() or new in dashed.values():
+        while name not in told and (new in taken or new in turned.values() or new in dashed.values()):
             new += "_lem"
         if new != name:
             dashed[name] = new

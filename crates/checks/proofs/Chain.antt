@@ -1,8 +1,8 @@
 -- The index of numbers: a chain passes every index that has the key looked for. Assumes nothing.
-use Rattle.std.proofs.Common.{◌≡◌, ℕ, zero, suc, ◌+◌, ◌-◌, ◌%◌, ◌<◌, ◌≤◌, Bool, true, false, cond, not, eqb, ltb, List, length, get_or, set, replicate, sym, refl, ap, ◌∙◌, subst, ⊎_elim, not-suc-le-zero, mod-lt, add-one, arith, length-set, get_or-set_other, get_or-set_same, ltb-true, le-ltb, lt-ltb, eq-eqb, ne_eqb, eqb-true}
+use Rattle.std.proofs.Common.{◌≡◌, ℕ, zero, suc, ◌+◌, ◌-◌, ◌%◌, ◌<◌, ◌≤◌, Bool, true, false, not, eqb, ltb, List, length, get_or, set, sym, refl, ap, ◌∙◌, subst, ⊎_elim, not-suc-le-zero, mod-lt, add-one, arith, length-set, get_or-set_other, get_or-set_same, ltb-true, le-ltb, lt-ltb, eq-eqb, ne_eqb, eqb-true}
 use lib.Bits.{bit_or}
 use lib.ListN.{length-replicate, get_or-replicate}
-use Rattle.protocol.specs.Below.{all_below, any_below, first_below}
+use Rattle.protocol.specs.Below.{any_below, first_below}
 use Rattle.protocol.proofs.Below.{absurd_bool, either, and_left, and_right, and_fails, same_or_other, below_or_above, last_or_before, all_fails, all_of, any_none, any_found, first_at, first_none}
 use Rattle.freemap.proofs.Maps.{or_zero}
 use Rattle.checks.specs.Keys.{NONE, keyed, lone, distinct}

@@ -1,6 +1,6 @@
 -- Check 6 is a search for equal keys: entries are apart exactly where numbers, current blocks and settled blocks are each distinct, so
 -- the three are checked apart. On a settled card the settled blocks are the current ones. Assumes nothing.
-use Rattle.std.proofs.Common.{◌≡◌, ℕ, ◌<◌, ◌≤◌, Bool, true, false, ◌&&◌, eqb, ltb, ◌⊎◌, List, sym, refl, ap, ◌∙◌, subst, inl, ⊎_elim, arith, ltb-true, lt-ltb, eq-eqb, ne_eqb}
+use Rattle.std.proofs.Common.{◌≡◌, ℕ, ◌<◌, ◌≤◌, Bool, true, false, ◌&&◌, eqb, ltb, ◌⊎◌, List, sym, refl, ◌∙◌, subst, inl, ⊎_elim, arith, ltb-true, lt-ltb, eq-eqb, ne_eqb}
 use Rattle.protocol.specs.declared.Geometry.{Geometry}
 use Rattle.protocol.specs.Below.{any_below}
 use Rattle.protocol.specs.Layout.{good_geometry, version_of}

@@ -1,11 +1,11 @@
 -- The pass over the entries: after i of them, check 5 allows each, their numbers stand in chains, and their current blocks are marked.
 -- Assumes nothing.
-use Rattle.std.proofs.Common.{◌≡◌, ℕ, ◌+◌, ◌-◌, ◌<◌, ◌≤◌, Bool, true, false, not, ◌&&◌, eqb, leb, List, length, get_or, set, sym, refl, ap, ◌∙◌, subst, ⊎_elim, not-suc-le-zero, add-one, arith, get_or-set_other, get_or-set_same}
+use Rattle.std.proofs.Common.{◌≡◌, ℕ, ◌+◌, ◌-◌, ◌<◌, ◌≤◌, Bool, true, false, not, ◌&&◌, leb, List, length, get_or, set, sym, refl, ap, ◌∙◌, subst, ⊎_elim, not-suc-le-zero, add-one, arith, get_or-set_other, get_or-set_same}
 use lib.Bits.{bit_or}
 use borrow.Author.Tests.{lt-leb}
 use Rattle.protocol.specs.declared.Geometry.{Geometry}
 use Rattle.protocol.specs.declared.Map.{Map}
-use Rattle.protocol.specs.Below.{all_below, any_below}
+use Rattle.protocol.specs.Below.{all_below}
 use Rattle.protocol.specs.Entry.{entry_at, unused}
 use Rattle.protocol.specs.Map.{map_by, free_count}
 use Rattle.protocol.specs.Ring.{role_free_at}
@@ -15,7 +15,7 @@ use Rattle.freemap.specs.Bits.{with_bit}
 use Rattle.ring.specs.Fitted.{Fitted}
 use Rattle.ring.proofs.Laws.{fitted_blocks, fitted_disk}
 use Rattle.checks.specs.declared.Seen.{Seen}
-use Rattle.checks.specs.Keys.{NONE, number_key, current_key, keyed, key_at, Lists}
+use Rattle.checks.specs.Keys.{NONE, number_key, current_key, key_at, Lists}
 use Rattle.checks.specs.Chain.{Blank, Chains, Entered}
 use Rattle.checks.specs.Passed.{Decoded}
 use Rattle.checks.proofs.Chain.{chains_start, chains_skip, chains_more, entered_link, Alone, alone_start, alone_skip, alone_more, alone_distinct}

@@ -13,9 +13,9 @@ use Rattle.ring.specs.declared.Window.{Window}
 use Rattle.ring.specs.Fitted.{Fitted, WindowOf}
 use Rattle.ring.proofs.Laws.{fitted_blocks, fitted_disk}
 use Rattle.checks.specs.declared.Settling.{Settling}
-use Rattle.checks.specs.Keys.{NONE, number_key, keyed, distinct}
+use Rattle.checks.specs.Keys.{NONE, number_key, distinct}
 use Rattle.checks.specs.Marks.{slot_once, marked_at, Marked}
-use Rattle.checks.specs.Passed.{Indexed, Windowed, Settles}
+use Rattle.checks.specs.Passed.{Windowed, Settles}
 use Rattle.checks.proofs.Keys.{distinct_one}
 use Rattle.checks.proofs.Search.{key_for}
 

@@ -7,19 +7,19 @@ use Rattle.protocol.specs.Below.{all_below, any_below}
 use Rattle.protocol.specs.Map.{map_by, is_marked, current_marked, free_count}
 use Rattle.protocol.specs.Ring.{head_of, tail_of, window_of, is_settled}
 use Rattle.protocol.specs.Check.{refuse, ◌or_else◌, window_number_fits, ring_fits, entries_fit, entries_apart, damage_refusal, card_refusal}
-use Rattle.protocol.proofs.Below.{and_left, and_right, and_both, and_true, and_fails, absurd_bool}
+use Rattle.protocol.proofs.Below.{and_left, and_right, and_both, and_true, and_fails}
 use Rattle.protocol.proofs.Checks.{refuse_passed, refuse_failed, or_else_first, or_else_next}
 use Rattle.protocol.proofs.Words.{map_cong}
 use Rattle.freemap.specs.Bits.{moved_map}
 use Rattle.freemap.proofs.Maps.{empty_by, moved_by}
 use Rattle.ring.specs.declared.Fit.{Fit}
-use Rattle.ring.specs.Fitted.{Fitted, Placed, Framed}
+use Rattle.ring.specs.Fitted.{Placed, Framed}
 use Rattle.checks.specs.declared.Seen.{Seen}
 use Rattle.checks.specs.declared.Settling.{Settling}
 use Rattle.checks.specs.declared.Verdict.{Verdict}
 use Rattle.checks.specs.Keys.{NONE, number_key, current_key, settled_key, keyed, distinct}
 use Rattle.checks.specs.Marks.{slot_once}
-use Rattle.checks.specs.Passed.{Decoded, Comparable, Indexed, Settles, Known, Unsettled, Weighed, Inspected, Examined}
+use Rattle.checks.specs.Passed.{Decoded, Comparable, Indexed, Settles, Unsettled, Weighed, Inspected, Examined}
 use Rattle.checks.proofs.Keys.{distinct_same, apart_keys, settled_keys}
 use Rattle.checks.proofs.Settled.{settled_matched, settled_map}
 use Rattle.checks.proofs.Tally.{map_both}
@@ -99,7 +99,7 @@ module _ (f : Fit) (c xs : List ℕ) (r : Bool) (frame : Framed c f) (ring : r �
 
       settled_test : eqb f.head f.tail && s.quiet ≡ is_settled f.geometry c
       unfolding is_settled
-      settled_test = λ i. eqb (frame.head_is_lem i) (frame.tail_is_lem i) && d.quiet on i
+      settled_test = λ i. eqb (frame.head_is i) (frame.tail_is i) && d.quiet on i
 
       pub comparable : Comparable f.geometry c xs (not (eqb s.shared 0))
       comparable = record {

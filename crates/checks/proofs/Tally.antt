@@ -1,6 +1,6 @@
 -- The turns of a search for equal blocks by the bits of a map: each block's bit is set, and at the end as many are set as were counted exactly
 -- where no two were equal. Assumes nothing.
-use Rattle.std.proofs.Common.{◌≡◌, ℕ, zero, suc, ◌+◌, ◌-◌, ◌<◌, ◌≤◌, Bool, true, false, cond, not, ◌&&◌, ◌||◌, eqb, ltb, leb, ◌⊎◌, List, sym, refl, ap, ◌∙◌, subst, inl, inr, ⊎_elim, add-one, arith, le-ltb, lt-ltb, eq-eqb, ne_eqb, eqb-true, le-leb}
+use Rattle.std.proofs.Common.{◌≡◌, ℕ, zero, suc, ◌+◌, ◌-◌, ◌<◌, ◌≤◌, Bool, true, false, cond, ◌&&◌, ◌||◌, eqb, ltb, leb, ◌⊎◌, List, sym, refl, ap, ◌∙◌, inl, inr, ⊎_elim, add-one, arith, le-ltb, lt-ltb, eq-eqb, ne_eqb, eqb-true, le-leb}
 use borrow.Author.Tests.{lt-leb}
 use Rattle.protocol.specs.declared.Geometry.{Geometry}
 use Rattle.protocol.specs.declared.Map.{Map}
@@ -9,7 +9,7 @@ use Rattle.protocol.specs.Entry.{entry_at}
 use Rattle.protocol.specs.Ring.{used_at, undoable_at, settled_block}
 use Rattle.protocol.specs.Search.{current_is, previous_is}
 use Rattle.protocol.specs.Map.{map_by, is_marked, current_marked, free_count}
-use Rattle.protocol.proofs.Below.{either, absurd_bool, bool_same, below_or_above, and_left, and_right, and_both, and_fails, or_none, or_left, or_right, or_true, any_found, any_witness, any_cong, any_miss, count_hit, count_miss, count_le}
+use Rattle.protocol.proofs.Below.{either, bool_same, below_or_above, and_left, and_right, and_both, and_fails, or_none, or_left, or_right, or_true, any_found, any_witness, any_cong, any_miss, count_le}
 use Rattle.protocol.proofs.Searches.{count_cong}
 use Rattle.protocol.proofs.Maps.{current_marked_lem, marked_either}
 use Rattle.protocol.proofs.Words.{map_cong}

@@ -1,5 +1,5 @@
 -- An entry as its word of flag byte and number, its previous and its current block: each is read and compared whole.
-use Rattle.std.specs.Prelude.{◌≡◌, ℕ, ◌+◌, ◌*◌, ◌/◌, ◌%◌, ◌^◌, ◌<◌, cond, ◌&&◌, ltb, List, ◌==◌, ◌≢◌, nat_lt}
+use Rattle.std.specs.Prelude.{◌≡◌, ℕ, ◌+◌, ◌/◌, ◌%◌, ◌^◌, ◌<◌, cond, ◌&&◌, ltb, List, ◌==◌, ◌≢◌, nat_lt}
 use Rattle.numbers.specs.Bytes.{number_at}
 use Rattle.protocol.specs.declared.Entry.{Entry}
 use Rattle.protocol.specs.declared.Geometry.{Geometry}

@@ -13,7 +13,7 @@ use mir.Syntax.{w64, shl}
 use mir.Val.{vint, op2_val}
 use borrow.Author.Tests.{eq-eqb, ne_eqb}
 use Rattle.numbers.specs.Bytes.{bytes_be, patch}
-use Rattle.numbers.proofs.Laws.{length-patch, part_all, part-patch_same, patch_append, patch_one, patch_comm}
+use Rattle.numbers.proofs.Laws.{length-patch, part_all, part-patch_same, patch_append, patch_comm}
 use Rattle.protocol.specs.declared.Entry.{Entry}
 use Rattle.protocol.specs.declared.Geometry.{Geometry}
 use Rattle.protocol.specs.Entry.{entry_bytes, entry_in, good_entry}

@@ -27,7 +27,6 @@ use Rattle.plan.specs.declared.Plan.{Plan}
 use Rattle.plan.specs.Planned.{previous_of, over_of, Planned}
 use Rattle.ring.specs.Fitted.{Fitted}
 use Rattle.ring.proofs.Laws.{Room, room, fitted_long}
-use Rattle.stores.specs.declared.Run.{Run}
 use Rattle.stores.specs.declared.Run.TheVariants.{Word}
 use Rattle.stores.specs.Did.{card_store, unfenced, Did}
 use Rattle.stores.proofs.Laws.{did_then, did_same}

@@ -1,16 +1,15 @@
 -- A whole commit: the plan's runs are those of the definition, and what the checks have passed is all that making them
 -- needs. Assumes nothing.
-use Prim.Native.Nat.{ℕ, ◌+◌, ◌*◌, ◌/◌, ◌≤◌, ◌<◌, min}
+use Prim.Native.Nat.{ℕ, ◌+◌, ◌*◌, ◌/◌, ◌≤◌, ◌<◌}
 use mathlib.Core.List.{List, ◌++◌}
-use mathlib.Core.Bool.{true, cond}
+use mathlib.Core.Bool.{true}
 use mathlib.Core.Path.{◌≡◌, refl, sym, ap, subst, ◌∙◌}
 use native.Mathlib.Nat.{mul-le-mul}
 use native.Mathlib.Omega.{arith}
 use lib.ListN.{length, get_or}
-use lib.Dec.{ltb, leb}
+use lib.Dec.{leb}
 use borrow.Author.Tests.{eqb-true, ltb-true, leb-true, le-leb}
-use Rattle.protocol.specs.declared.Answer.{Answer}
-use Rattle.protocol.specs.declared.Answer.TheVariants.{Done, Cut, Refused}
+use Rattle.protocol.specs.declared.Answer.TheVariants.{Refused}
 use Rattle.protocol.specs.declared.Geometry.{Geometry}
 use Rattle.protocol.specs.declared.Map.{Map}
 use Rattle.protocol.specs.declared.Stored.{Stored}
@@ -35,7 +34,6 @@ use Rattle.plan.specs.Request.{choice_room}
 use Rattle.plan.proofs.Count.{runs_count}
 use Rattle.plan.proofs.Bounds.{Passed, passed, passed_tail, late_passed, few_numbers, new_below, entry_below, unused_room}
 use Rattle.plan.proofs.Order.{map_eq}
-use Rattle.stores.specs.Did.{Did}
 use Rattle.stores.proofs.Laws.{did_same, refused_answer, refused_after, refused_map, made_answer, made_after, made_map_lem}
 use Rattle.commit.specs.Making.{step_runs, planned_entry, plan_by, planned_block, planned_switch, planned_end, planned_runs, part_runs, Named, Ready, Makable, Made}
 use Rattle.commit.specs.Committed.{Committed, Savable, Saved}

@@ -1,7 +1,6 @@
 -- Where four blocks lie, by where each does; and what the bytes are that lie there. Assumes nothing.
 use Prim.Native.Nat.{ℕ, ◌+◌, ◌*◌, ◌-◌, ◌≤◌, ◌<◌}
 use mathlib.Core.List.{List}
-use mathlib.Core.Bool.{Bool, true, false, cond}
 use mathlib.Core.Path.{◌≡◌, refl, sym, ap, ◌∙◌}
 use native.Mathlib.Nat.{add-mul}
 use native.Mathlib.Omega.{arith}
@@ -10,7 +9,7 @@ use Rattle.numbers.specs.Bytes.{part}
 use Rattle.numbers.proofs.Laws.{part-part}
 use Rattle.protocol.specs.declared.Geometry.{Geometry}
 use Rattle.protocol.specs.Layout.{geometry_of, block_size, block_at, disk_place, disk_block}
-use Rattle.protocol.specs.Ring.{cached, current_of, contents}
+use Rattle.protocol.specs.Ring.{contents}
 use Rattle.protocol.specs.Load.{pair_refusal}
 use Rattle.protocol.proofs.Region.{block_ends}
 use Rattle.checks.specs.declared.Verdict.{Verdict}

@@ -7,7 +7,7 @@ use native.Mathlib.Nat.{add-zero, one-mul, mul-mod_left, div-add-mod'}
 use native.Mathlib.Omega.{arith}
 use lib.Bits.{bit_and, bit_or}
 use lib.Count.{ones, count_trailing_zeros, ones_cat, ones-le, trailing_le}
-use lib.Dec.{ltb, leb, eqb}
+use lib.Dec.{ltb, leb}
 use lib.Pow.{pow_pos, shl_exact, shl-shr, mod-pow-add, low, ones_split, ones_lt, high_ones}
 use mir.Syntax.{w64}
 use mir.Val.{Fits}

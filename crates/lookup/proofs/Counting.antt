@@ -15,7 +15,7 @@ use Rattle.protocol.specs.Below.{count_below}
 use Rattle.protocol.specs.Layout.{geometry_of}
 use Rattle.protocol.specs.Entry.{entry_at, in_use, is_modified}
 use Rattle.protocol.specs.Ring.{head_of, tail_of, used_at, undoable_at, window_of, is_settled}
-use Rattle.protocol.specs.Check.{refuse, ◌or_else◌, ring_fits, fit_refusal, damage_refusal}
+use Rattle.protocol.specs.Check.{refuse, ring_fits, fit_refusal, damage_refusal}
 use Rattle.protocol.specs.Read.{modified_at, condition_of, state_refusal, state_of}
 use Rattle.protocol.proofs.Below.{and_left, and_right, count_hit, count_miss}
 use Rattle.protocol.proofs.Checks.{or_else_first, or_else_next}

@@ -2,11 +2,11 @@
 use Prim.Native.Nat.{ℕ, ◌-◌, ◌/◌, ◌≤◌, ◌<◌}
 use mathlib.Core.List.{List}
 use mathlib.Core.Bool.{Bool, true, false, not}
-use mathlib.Core.Path.{◌≡◌, refl, sym, ap, subst, ◌∙◌}
+use mathlib.Core.Path.{◌≡◌, sym, ap, subst, ◌∙◌}
 use native.Mathlib.Omega.{arith}
-use lib.Dec.{eqb, ltb, leb}
+use lib.Dec.{eqb, ltb}
 use lib.ListN.{length}
-use borrow.Author.Tests.{eq-eqb, ne_eqb, lt-ltb, le-ltb, le-leb, lt-leb, not-true, not-false}
+use borrow.Author.Tests.{eq-eqb, ne_eqb, lt-ltb, le-ltb, le-leb, lt-leb}
 use Rattle.protocol.specs.declared.Geometry.{Geometry}
 use Rattle.protocol.specs.declared.Map.{Map}
 use Rattle.protocol.specs.declared.Pending.{Pending}
@@ -25,7 +25,7 @@ use Rattle.plan.specs.Request.{choice_room, room_fits}
 use Rattle.plan.proofs.Request.{room_is}
 use Rattle.plan.proofs.Order.{or_else_assoc}
 use Rattle.pending.specs.declared.Standing.{Standing}
-use Rattle.pending.specs.Standing.{met_refusal, Findable, Stands, Met}
+use Rattle.pending.specs.Standing.{met_refusal, Met}
 use Rattle.pending.specs.Putting.{own_refusal, Asked}
 
 pub slots_left : (g : Geometry) → good_geometry g ≡ true → 1 ≤ g.slots

@@ -1,23 +1,22 @@
 -- What put and finish meet: one law for each answer of their common checks, and open's. Assumes nothing.
-use Prim.Native.Nat.{ℕ, ◌-◌, ◌≤◌, ◌<◌}
+use Prim.Native.Nat.{ℕ}
 use mathlib.Core.List.{List}
 use mathlib.Core.Bool.{Bool, true, false, not, ◌&&◌}
-use mathlib.Core.Path.{◌≡◌, refl, sym, ap, subst, ◌∙◌}
+use mathlib.Core.Path.{◌≡◌, sym, ap, subst, ◌∙◌}
 use native.Mathlib.Omega.{arith}
-use lib.Dec.{eqb, ltb, leb}
-use borrow.Author.Tests.{eq-eqb, ne_eqb, eqb-true, not-true, not-false}
+use lib.Dec.{eqb, ltb}
+use borrow.Author.Tests.{eq-eqb, ne_eqb, not-true, not-false}
 use Rattle.protocol.specs.declared.Geometry.{Geometry}
 use Rattle.protocol.specs.declared.Map.{Map}
 use Rattle.protocol.specs.declared.Pending.{Pending}
-use Rattle.protocol.specs.declared.Opened.{Opened}
 use Rattle.protocol.specs.declared.Opened.TheVariants.{Is, Refused as RefusedOpen}
 use Rattle.protocol.specs.Below.{all_below}
 use Rattle.protocol.specs.Layout.{geometry_of}
 use Rattle.protocol.specs.Ring.{head_of, tail_of, window_of}
-use Rattle.protocol.specs.Check.{refuse, ◌or_else◌, window_number_fits, ring_fits, entries_fit, entries_apart, fit_refusal, damage_refusal, card_refusal}
-use Rattle.protocol.specs.Map.{map_by, is_marked, current_marked, map_of, same_map, map_refusal, free_count}
+use Rattle.protocol.specs.Check.{refuse, window_number_fits, ring_fits, fit_refusal, damage_refusal, card_refusal}
+use Rattle.protocol.specs.Map.{map_by, is_marked, map_of, same_map, map_refusal, free_count}
 use Rattle.protocol.specs.Pending.{is_matched, is_pending, open_refusal, opened}
-use Rattle.protocol.proofs.Below.{and_left, and_right}
+use Rattle.protocol.proofs.Below.{and_right}
 use Rattle.protocol.proofs.Checks.{or_else_first, or_else_next, or_else_none, refuse_failed, refuse_passed, refuse_none}
 use Rattle.protocol.proofs.Lawful.{Intact, intact}
 use Rattle.ring.specs.declared.Fit.{Fit}
@@ -28,7 +27,7 @@ use Rattle.checks.specs.declared.Verdict.{Verdict}
 use Rattle.checks.specs.Passed.{Inspected}
 use Rattle.plan.proofs.Order.{map_eq}
 use Rattle.pending.specs.declared.Standing.{Standing}
-use Rattle.pending.specs.Standing.{met_refusal, Findable, Stands, Met}
+use Rattle.pending.specs.Standing.{met_refusal, Met}
 
 module _ (c : List ℕ) (m : Map) (r : Pending) (f : Fit) (o : Fitting 2 2 c f) (xs : List ℕ) where
   refused_met : (s : Standing) → s.refusal ≡ met_refusal c m r → (s.refusal ≡ 0 → ⊥) → Met c m r xs s
@@ -170,4 +169,4 @@ module _ (c : List ℕ) (f : Fit) (o : Fitting 2 2 c f) where
     pub open_given : k ≡ 0 → Is (record { tail = f.tail; count = 0 }) ≡ opened c
     unfolding opened
     open_given z =
-        rw (eq-eqb (open_refusal 2 c) 0 (sym refusal_is ∙ z)) (ap (λ (t : ℕ). Is (record { tail = t; count = 0 })) open_framed.tail_is_lem)
+        rw (eq-eqb (open_refusal 2 c) 0 (sym refusal_is ∙ z)) (ap (λ (t : ℕ). Is (record { tail = t; count = 0 })) open_framed.tail_is)

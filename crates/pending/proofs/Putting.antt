@@ -1,28 +1,27 @@
 -- A put that is not refused: its plan is that of a commit of its one block, and its runs are the definition's. Assumes nothing.
-use Prim.Native.Nat.{ℕ, suc, min, ◌+◌, ◌*◌, ◌-◌, ◌/◌, ◌≤◌, ◌<◌}
-use mathlib.Core.List.{List, [], ◌∷◌, ◌++◌}
-use mathlib.Core.Bool.{Bool, true, false, cond, not, ◌&&◌, ◌||◌}
+use Prim.Native.Nat.{ℕ, ◌+◌, ◌*◌, ◌-◌, ◌/◌, ◌≤◌, ◌<◌}
+use mathlib.Core.List.{List, [], ◌∷◌}
+use mathlib.Core.Bool.{true, false, not}
 use mathlib.Core.Path.{◌≡◌, refl, sym, ap, subst, ◌∙◌}
 use native.Mathlib.Nat.{mod-lt}
 use native.Mathlib.Omega.{arith}
-use lib.Dec.{eqb, ltb, leb}
+use lib.Dec.{eqb, leb}
 use lib.ListN.{length, get_or}
-use borrow.Author.Tests.{eqb-true, leb-true, ltb-true, lt-ltb}
+use borrow.Author.Tests.{eqb-true, leb-true, lt-ltb}
 use Rattle.protocol.specs.declared.Answer.{Answer}
-use Rattle.protocol.specs.declared.Answer.TheVariants.{Done, Cut, Refused}
+use Rattle.protocol.specs.declared.Answer.TheVariants.{Done, Refused}
 use Rattle.protocol.specs.declared.Geometry.{Geometry}
 use Rattle.protocol.specs.declared.Map.{Map}
 use Rattle.protocol.specs.declared.Pending.{Pending}
 use Rattle.protocol.specs.declared.Stored.{Stored}
 use Rattle.protocol.specs.Below.{all_below, each_below}
-use Rattle.protocol.specs.Layout.{good_geometry, geometry_of, version_of, block_size}
+use Rattle.protocol.specs.Layout.{good_geometry, geometry_of, block_size}
 use Rattle.protocol.specs.Ring.{head_of, tail_of, window_of}
-use Rattle.protocol.specs.Check.{refuse, ◌or_else◌, fit_refusal, damage_refusal, choice_fits, choice_refusal}
-use Rattle.protocol.specs.Store.{Medium, card, Run, stores_of, answer_of, after_on, made_on, flat}
+use Rattle.protocol.specs.Check.{refuse, fit_refusal, damage_refusal, choice_fits, choice_refusal}
+use Rattle.protocol.specs.Store.{card, stores_of}
 use Rattle.protocol.specs.Search.{search_start, free_blocks, unused_entries}
-use Rattle.protocol.specs.Map.{map_by, is_marked, map_of, map_refusal, handed_on, map_after}
-use Rattle.protocol.specs.Commit.{number_of, new_block, entry_found, block_runs, number_fits, numbers_fit, room_for}
-use Rattle.protocol.specs.Load.{block_refusal}
+use Rattle.protocol.specs.Map.{map_by, is_marked, map_refusal, handed_on}
+use Rattle.protocol.specs.Commit.{number_of, new_block, number_fits, numbers_fit, room_for}
 use Rattle.protocol.specs.Pending.{is_pending, put_runs, put_refusal, put_work, next_record}
 use Rattle.protocol.proofs.Below.{and_left, and_right, and_both}
 use Rattle.protocol.proofs.Checks.{Limits, limits, or_else_none, refuse_none}
@@ -34,7 +33,6 @@ use Rattle.protocol.proofs.Shape.{window_short}
 use Rattle.freemap.specs.Bits.{with_bit}
 use Rattle.freemap.proofs.Maps.{with_by}
 use Rattle.ring.specs.Fitted.{Fitted}
-use Rattle.stores.specs.Did.{Did}
 use Rattle.stores.proofs.Laws.{did_same, refused_answer, refused_after, refused_map, made_answer, made_after, made_map_lem}
 use Rattle.checks.specs.Passed.{Indexed}
 use Rattle.checks.specs.Keys.{key_at}
@@ -45,7 +43,6 @@ use Rattle.commit.specs.Making.{plan_by, planned_block, part_runs, Named, Ready,
 use Rattle.commit.proofs.Whole.{block_same, fit_two}
 use Rattle.pending.specs.declared.Standing.{Standing}
 use Rattle.pending.specs.declared.Put.{Put}
-use Rattle.pending.specs.Standing.{Stands}
 use Rattle.pending.specs.Putting.{Asked, Puttable, Logged, PutBlock}
 
 module _ (c : List ℕ) (m : Map) (r : Pending) (b : ℕ) (bs ch xs : List ℕ) (s : Standing) (p : Puttable c m r b bs ch xs s) where

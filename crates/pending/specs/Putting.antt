@@ -1,20 +1,14 @@
 -- What put asks and makes.
 use Rattle.std.specs.Prelude.{ℕ, ◌-◌, List, not, ◌≡◌, length, eqb, ltb}
-use Rattle.protocol.specs.declared.Answer.{Answer}
 use Rattle.protocol.specs.declared.Geometry.{Geometry}
 use Rattle.protocol.specs.declared.Map.{Map}
 use Rattle.protocol.specs.declared.Pending.{Pending}
 use Rattle.protocol.specs.declared.Stored.{Stored}
-use Rattle.protocol.specs.Below.{all_below}
 use Rattle.protocol.specs.Layout.{block_size}
-use Rattle.protocol.specs.Entry.{entry_at, switched}
-use Rattle.protocol.specs.Ring.{window_of, window_number, find_entry}
-use Rattle.protocol.specs.Check.{refuse, ◌or_else◌, window_number_fits, fit_refusal, damage_refusal}
-use Rattle.protocol.specs.Store.{Run, card, single, entry_store, answer_of, after_on}
-use Rattle.protocol.specs.Map.{map_by, is_marked, current_marked, map_refusal, map_after, free_count}
-use Rattle.protocol.specs.Pending.{is_matched, is_pending, put_refusal, put_work, next_record}
-use Rattle.ring.specs.Fitted.{Fitted, Placed, WindowOf}
-use Rattle.ring.specs.declared.Window.{Window}
+use Rattle.protocol.specs.Check.{refuse, ◌or_else◌}
+use Rattle.protocol.specs.Store.{card, answer_of, after_on}
+use Rattle.protocol.specs.Map.{map_after}
+use Rattle.protocol.specs.Pending.{put_refusal, put_work, next_record}
 use Rattle.plan.specs.Request.{choice_room, room_fits}
 use Rattle.pending.specs.declared.Standing.{Standing}
 use Rattle.pending.specs.declared.Put.{Put}

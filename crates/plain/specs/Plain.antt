@@ -12,7 +12,6 @@ use Rattle.protocol.specs.declared.Outcome.{Outcome}
 use Rattle.protocol.specs.declared.Outcome.TheVariants.{Done as FormatDone, Refused as FormatRefused}
 use Rattle.protocol.specs.declared.Reported.{Reported}
 use Rattle.protocol.specs.declared.Reported.TheVariants.{Is, Refused as StateRefused}
-use Rattle.protocol.specs.declared.State.{State}
 use Rattle.protocol.specs.Map.{made_map}
 use Rattle.lookup.specs.declared.Cached.{Cached}
 use Rattle.lookup.specs.declared.Cached.TheVariants.{Block, Nothing, Refused as CachedRefused}

@@ -16,7 +16,7 @@ use Rattle.protocol.specs.declared.Geometry.{Geometry}
 use Rattle.protocol.specs.declared.Entry.{Entry}
 use Rattle.protocol.specs.Below.{count_below, around}
 use Rattle.protocol.specs.Entry.{entry_at, in_use, is_modified}
-use Rattle.protocol.specs.Ring.{used_at, entry_for, find_entry, cached, current_of}
+use Rattle.protocol.specs.Ring.{used_at, find_entry, cached, current_of}
 use Rattle.protocol.specs.Check.{good_entry_at, entries_fit}
 use Rattle.protocol.specs.Search.{unused_at, search_start, unused_entries}
 use Rattle.protocol.specs.Commit.{number_of, uncached_at, entry_found, old_block, over_modified, number_fits, numbers_fit}

@@ -86,7 +86,7 @@ module _ (c d : List ℕ) (m : Map) (arranged : Bool) (xs : List ℕ) (f : Fit) 
                 searchable = λ j. record {
                   indexed = (x.known w).indexed;
                   whole = sym x.refusal_is ∙ w;
-                  head = (o.framed z).head_is_lem;
+                  head = (o.framed z).head_is;
                   map_is = own;
                   free_is = (x.known w).free_is ∙ ap free_count (sym own);
                 };

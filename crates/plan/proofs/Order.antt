@@ -219,7 +219,7 @@ module _ (c : List ℕ) (m : Map) (ns : List ℕ) (size room : ℕ) (xs : List �
           record {
             plannable = record {
               fitted = (x.indexed y).fitted;
-              tail = passed_tail c m ns bytes quiet f.head none (o.framed z).head_is_lem;
+              tail = passed_tail c m ns bytes quiet f.head none (o.framed z).head_is;
               map_is = x.map_is y;
               room =
                   rw q
@@ -227,7 +227,7 @@ module _ (c : List ℕ) (m : Map) (ns : List ℕ) (size room : ℕ) (xs : List �
                   (or_else_none (refuse 11 (numbers_apart ns)) _ (or_else_none (refuse 10 (numbers_fit (geometry_of c) ns)) _ late).1).1);
               unused = rw q (unused_room (passed c m ns bytes quiet none));
             };
-            head = (o.framed z).head_is_lem;
+            head = (o.framed z).head_is;
             indexed = x.indexed y;
             numbers = rw q (refuse_none 10 _ (omega arith) (or_else_none (refuse 10 (numbers_fit (geometry_of c) ns)) _ late).0);
           }

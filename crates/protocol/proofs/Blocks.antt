@@ -2,7 +2,7 @@
 -- cut anywhere they keep the invariant and the row. The progress is told by how many entries are logged and how many numbers the window has taken
 -- in. Assumes nothing.
 use Prim.Native.Nat.{ℕ, suc, ◌+◌, ◌*◌, ◌-◌, ◌≤◌, ◌<◌}
-use mathlib.Core.List.{List, [], ◌∷◌, ◌++◌, append_assoc}
+use mathlib.Core.List.{List, [], ◌∷◌, ◌++◌}
 use mathlib.Core.Bool.{Bool, true, false, cond, not, ◌&&◌, ◌||◌}
 use mathlib.Core.Option.{Option, none, some}
 use mathlib.Core.Path.{◌≡◌, refl, sym, ap, subst, ◌∙◌}
@@ -17,26 +17,25 @@ use Rattle.protocol.specs.declared.Entry.{Entry}
 use Rattle.protocol.specs.declared.Geometry.{Geometry}
 use Rattle.protocol.specs.Below.{any_below, count_below, each_below, around}
 use Rattle.protocol.specs.Layout.{version_of, block_size, block_at, disk_block}
-use Rattle.protocol.specs.Entry.{FRESH, entry_at, in_use, is_modified, has_log_role, good_entry, switched}
+use Rattle.protocol.specs.Entry.{FRESH, entry_at, in_use, is_modified, has_log_role, good_entry}
 use Rattle.protocol.specs.Ring.{head_of, tail_of, slot_at, window_of, window_number, window_has, in_window, used_at, undoable_at, find_entry, cached, current_of}
-use Rattle.protocol.specs.Store.{card, disk, Store, Run, stored_on, made_on, flat, single, words, entry_store, slot_store, head_store, tail_store}
+use Rattle.protocol.specs.Store.{card, disk, Store, Run, stored_on, made_on, single, words, entry_store, slot_store, head_store}
 use Rattle.protocol.specs.Search.{free_blocks, unused_entries}
-use Rattle.protocol.specs.Commit.{number_of, uncached_at, new_block, entry_found, old_block, over_modified, log_entry, data_of, head_after, block_runs, switch_runs, commit_runs, count_fits, data_fits, number_fits, numbers_fit, numbers_differ, new_number, numbers_apart, room_for}
+use Rattle.protocol.specs.Commit.{number_of, uncached_at, new_block, entry_found, old_block, over_modified, log_entry, data_of, head_after, block_runs, data_fits, number_fits, numbers_fit, numbers_differ, new_number, numbers_apart, room_for}
 use Rattle.protocol.specs.History.{place_among, replaced}
 use Rattle.protocol.proofs.Allowed.{used-good, dirty_before, log_flag, log_used, log_role, log_modified, log_dirty}
-use Rattle.protocol.proofs.Below.{bool_same, and_fails, either, below_or_above, last_or_before, absurd_bool, and_left, and_right, or_false, all_at, any_found, any_at, any_witness, count_le, count_below_lem, first_at, first_none, around_below, around-apart, around_next}
+use Rattle.protocol.proofs.Below.{bool_same, and_fails, either, below_or_above, last_or_before, absurd_bool, or_false, all_at, any_found, any_at, any_witness, count_le, count_below_lem, first_at, first_none, around_below, around-apart, around_next}
 use Rattle.protocol.proofs.Checks.{Limits, limits}
-use Rattle.protocol.proofs.Holds.{idle_kind, live_kind, used_number, number_used, empty_window, no_undoable}
+use Rattle.protocol.proofs.Holds.{idle_kind, live_kind, used_number}
 use Rattle.protocol.proofs.Invariant.{Kind, idle, live, pending, kind_number, kind_current, kind_previous, kind_home, undone_kind, is_clean, Owes}
-use Rattle.protocol.proofs.Loaded.{Rest, window_start, settled_ring, settled_role, Cached, cached_entry, not-cached}
-use Rattle.protocol.proofs.Made.{entry_changed, entry_stored, entry_elsewhere, head_changed, head_stored, head_elsewhere, slot_changed, slot_stored, slot_elsewhere, tail_changed, tail_stored, tail_elsewhere, words_changed, words_changed_all, words_elsewhere, words_stored}
-use Rattle.protocol.proofs.Passed.{CommitPassed}
-use Rattle.protocol.proofs.Planned.{new_below, new_free, new_unkept, new_apart, unused_below, unused_is, unused-apart, enough_unused, no_previous}
+use Rattle.protocol.proofs.Loaded.{Cached, cached_entry, not-cached}
+use Rattle.protocol.proofs.Made.{entry_changed, entry_stored, entry_elsewhere, head_changed, head_stored, head_elsewhere, slot_changed, slot_stored, slot_elsewhere, words_changed, words_elsewhere, words_stored}
+use Rattle.protocol.proofs.Planned.{new_below, new_free, new_unkept, new_apart, unused_below, unused_is, unused-apart, enough_unused}
 use Rattle.protocol.proofs.Recovered.{fits_entry}
-use Rattle.protocol.proofs.Region.{entry, block, slot, head, tail, block_ends}
+use Rattle.protocol.proofs.Region.{entry, block, slot, head, block_ends}
 use Rattle.protocol.proofs.Shape.{Changed, version_kept, head_kept, tail_kept, slot_kept, entry_kept, block_kept, window_kept, number_kept, pending_of, kind_of, kind_at, view_of, Seen, seen_idle, seen_live, seen_pending, see, previous_of, previous_none, previous_is_lem, previous_some, Inv, Back}
-use Rattle.protocol.proofs.Steps.{entry_changes, entry_stays, run_in_block, block_kinds, slot_changes, head_moves, window_longer, number_stays, number_last, tail_moves, tail_settled, window_below, head_after_lem}
-use Rattle.protocol.proofs.Stores.{along_map, made_append, flat_last, Some, Along, along_then, along_one, along_run, along_each}
+use Rattle.protocol.proofs.Steps.{entry_changes, run_in_block, slot_changes, head_moves, window_longer, number_stays, number_last, window_below, head_after_lem}
+use Rattle.protocol.proofs.Stores.{along_map, Some, Along, along_then, along_one, along_run, along_each}
 
 -- k is one of f's values below a, or none of them
 pub among : (f : ℕ → ℕ) (a k : ℕ) → ((j : ℕ) × (j < a) × (f j ≡ k)) ⊎ ((j : ℕ) → j < a → f j ≡ k → ⊥)

@@ -21,7 +21,6 @@ use Rattle.protocol.specs.Check.{refuse, ◌or_else◌}
 use Rattle.protocol.specs.Format.{formatted, entry_refusal, decoded, encoded}
 use Rattle.protocol.proofs.Allowed.{UsedEntry, good_cases}
 use Rattle.protocol.proofs.Checks.{Limits, limits}
-use Rattle.protocol.specs.Below.{all_below}
 use Rattle.protocol.proofs.Below.{and_left, and_right, and_both, all_of, all_cong}
 
 -- ---- an entry

@@ -29,7 +29,7 @@ use Rattle.protocol.specs.Recover.{recover_runs, recover_work}
 use Rattle.protocol.specs.Upgrade.{upgrade_runs, upgrade_refusal, upgrade_work}
 use Rattle.protocol.specs.Pending.{open_work, put_runs, put_work, finish_runs, finish_work}
 use Rattle.protocol.specs.History.{Call, commit, make_room, load, evict, recover, upgrade, open_save, put, finish, is_put, Request, Media, work_of, answer_to, after, run, answers, fresh, Row, replaced, Reckoned, reckoned, with_row, with_cut, reckon, reckon_all}
-use Rattle.protocol.specs.CutRule.{left, row_left, recovering, CutRule, Uncut, Unput, PlainRow, making_room, RoomKept, RoomKeeps}
+use Rattle.protocol.specs.CutRule.{left, row_left, recovering, CutRule, PairRule, Uncut, Unput, PlainRow, making_room, RoomKept, RoomKeeps}
 use Rattle.protocol.proofs.Allowed.{unused_good, unused-used, unused_role}
 use Rattle.protocol.proofs.Below.{either, absurd_bool, any_at}
 use Rattle.protocol.proofs.Checks.{Limits, limits}
@@ -378,14 +378,12 @@ pub cut_rule : CutRule
 cut_rule n g c d rs known ok sized =
     let v = inv_left n g c d known ok sized rs in
     record {
-      geometry = geometry_is v;
       versioned = version_known v;
       recovers = recover_refuses v;
       maps = map_made v;
       settles = last_settles n g c d known ok sized rs;
       holds = contents_hold v;
       upgrades = upgrade_refuses v;
-      pairs = pair_refuses v;
       reads = read_holds v;
       looks = look_holds v;
       read_refuses = read_refuses_lem v;
@@ -393,6 +391,11 @@ cut_rule n g c d rs known ok sized =
       recent_reads = recent_holds v;
       recent_refuses = recent_refuses_lem v;
     }
+
+pub pair_rule : PairRule
+pair_rule n g c d rs known ok sized =
+    let v = inv_left n g c d known ok sized rs in
+    record { geometry = geometry_is v; pairs = pair_refuses v }
 
 pub plain_row : PlainRow
 unfolding left

@@ -8,20 +8,19 @@ use mathlib.Core.Path.{◌≡◌, refl, sym, ap, subst, ◌∙◌}
 use mathlib.Core.Logic.{◌⊎◌, inl, inr, ⊎_elim}
 use native.Mathlib.Omega.{arith}
 use lib.ListN.{length}
-use lib.Dec.{eqb}
-use borrow.Author.Tests.{eqb-true, eqb-false, eq-eqb, ne_eqb, not-true}
+use borrow.Author.Tests.{eqb-true, eqb-false, not-true}
 use Rattle.protocol.specs.declared.Entry.{Entry}
 use Rattle.protocol.specs.declared.Geometry.{Geometry}
-use Rattle.protocol.specs.Below.{all_below, each_below, around}
+use Rattle.protocol.specs.Below.{all_below, each_below}
 use Rattle.protocol.specs.Layout.{version_of, block_at, disk_block}
-use Rattle.protocol.specs.Entry.{entry_at, in_use, is_modified, has_log_role, good_entry, switched}
-use Rattle.protocol.specs.Ring.{head_of, tail_of, slot_at, window_of, window_number, window_has, in_window, used_at, undoable_at, find_entry, cached}
+use Rattle.protocol.specs.Entry.{entry_at, in_use, has_log_role, good_entry, switched}
+use Rattle.protocol.specs.Ring.{head_of, tail_of, window_of, window_number, window_has, in_window, used_at, undoable_at, find_entry, cached}
 use Rattle.protocol.specs.Store.{card, disk, Store, Run, stored_on, made_on, flat, single, entry_store, tail_store}
 use Rattle.protocol.specs.Commit.{number_of, data_of}
 use Rattle.protocol.specs.Pending.{slot_logged, slot_new, role_in_window, is_matched, finish_switch, finish_runs}
 use Rattle.protocol.specs.History.{replaced}
 use Rattle.protocol.proofs.Allowed.{UsedEntry, used-good, used-entry, switched_flag, switched-used, switched_role, switched_modified, switched_dirty, not-used_blank, unused_role}
-use Rattle.protocol.proofs.Below.{same_or_other, either, absurd_bool, and_fails, below_or_above, last_or_before, and_left, and_right, all_at, any_found, any_witness, or_true, around_below}
+use Rattle.protocol.proofs.Below.{same_or_other, either, absurd_bool, and_fails, below_or_above, last_or_before, and_left, and_right, all_at, any_witness, or_true, around_below}
 use Rattle.protocol.proofs.Blocks.{among, row_kept, row_put}
 use Rattle.protocol.proofs.Checks.{limits}
 use Rattle.protocol.proofs.Holds.{live_kind, pending_kind, used_number, used_current, number_used}

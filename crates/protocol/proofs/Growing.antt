@@ -1,18 +1,15 @@
 -- Blocks that are put, however they are cut, add to what the window tells those whose numbers it has taken in. Assumes nothing.
 use Prim.Native.Nat.{ℕ, ◌+◌, ◌*◌, ◌-◌, ◌≤◌, ◌<◌}
-use mathlib.Core.List.{List, [], ◌∷◌, ◌++◌}
+use mathlib.Core.List.{List, ◌++◌}
 use mathlib.Core.Bool.{true}
 use mathlib.Core.Option.{some}
 use mathlib.Core.Path.{◌≡◌, refl, sym, ap, subst, ◌∙◌}
 use mathlib.Core.Logic.{◌⊎◌, inl, inr, ⊎_elim}
 use native.Mathlib.Nat.{add-mul, mul-le-mul_right}
 use native.Mathlib.Omega.{arith}
-use lib.ListN.{length, get_or, take, drop, length-append, length-drop, get_or-append}
-use lib.Seq.{length-take-le, take-append-le, drop-append-le, drop-append-add, get_or-append-add, get_or-take}
-use lib.Dec.{eqb}
+use lib.ListN.{length, take, length-append}
+use lib.Seq.{length-take-le}
 use borrow.Author.Tests.{eqb-true, eq-eqb}
-use Rattle.numbers.specs.Bytes.{part}
-use Rattle.numbers.proofs.Laws.{part-part}
 use Rattle.protocol.specs.declared.Entry.{Entry}
 use Rattle.protocol.specs.declared.Geometry.{Geometry}
 use Rattle.protocol.specs.Layout.{block_size, block_at}
@@ -22,7 +19,6 @@ use Rattle.protocol.specs.Commit.{number_of, new_block, entry_found, log_entry, 
 use Rattle.protocol.proofs.Below.{absurd_bool, any_found, below_or_above}
 use Rattle.protocol.proofs.Blocks.{among, PutsPassed, Mid, Order, numbers_apart_lem, q_free}
 use Rattle.protocol.proofs.Holds.{used_current}
-use Rattle.protocol.proofs.Region.{block_ends}
 use Rattle.protocol.proofs.Shape.{Inv}
 use Rattle.protocol.proofs.Told.{Told, number_before, number_behind, number_first, data_before, data_behind, data_first}
 

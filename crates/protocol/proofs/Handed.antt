@@ -8,11 +8,10 @@ use mathlib.Core.Logic.{⊎_elim}
 use native.Mathlib.Omega.{arith}
 use lib.Dec.{eqb}
 use Rattle.protocol.specs.declared.Answer.{Answer}
-use Rattle.protocol.specs.declared.Answer.TheVariants.{Done, Cut, Refused}
+use Rattle.protocol.specs.declared.Answer.TheVariants.{Cut, Refused}
 use Rattle.protocol.specs.declared.Geometry.{Geometry}
 use Rattle.protocol.specs.declared.Map.{Map}
 use Rattle.protocol.specs.declared.Pending.{Pending}
-use Rattle.protocol.specs.declared.Mapped.{Mapped}
 use Rattle.protocol.specs.declared.Mapped.TheVariants.{Is, Refused as RefusedMap}
 use Rattle.protocol.specs.Layout.{geometry_of}
 use Rattle.protocol.specs.Check.{refuse, ◌or_else◌, fit_refusal, disk_refusal, damage_refusal, card_refusal, choice_refusal}

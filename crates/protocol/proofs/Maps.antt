@@ -1,25 +1,23 @@
 -- The map of the card that a finished call leaves: the card's own map with the blocks that its entries gave up cleared and those that they
 -- took set. First of any change of entries; then of each call that is not refused, on every card. Assumes nothing.
-use Prim.Native.Nat.{ℕ, zero, suc, ◌+◌, ◌≤◌, ◌<◌}
-use mathlib.Core.List.{List, [], ◌∷◌, ◌++◌}
-use mathlib.Core.Bool.{Bool, true, false, cond, not, ◌&&◌, ◌||◌}
+use Prim.Native.Nat.{ℕ, ◌≤◌, ◌<◌}
+use mathlib.Core.List.{List}
+use mathlib.Core.Bool.{Bool, true, false, not, ◌&&◌, ◌||◌}
 use mathlib.Core.Path.{◌≡◌, refl, sym, ap, subst, ◌∙◌}
 use mathlib.Core.Logic.{◌⊎◌, inl, inr, ⊎_elim}
 use native.Mathlib.Omega.{arith}
-use lib.ListN.{length, get_or}
 use lib.Dec.{eqb, ltb}
-use borrow.Author.Tests.{eq-eqb, eqb-true, ne_eqb, lt-ltb, le-ltb, not-true, not-false}
+use borrow.Author.Tests.{eq-eqb, eqb-true, lt-ltb, le-ltb, not-true}
 use Rattle.protocol.specs.declared.Entry.{Entry}
 use Rattle.protocol.specs.declared.Geometry.{Geometry}
-use Rattle.protocol.specs.declared.Map.{Map}
 use Rattle.protocol.specs.Below.{any_below}
 use Rattle.protocol.specs.Layout.{geometry_of}
-use Rattle.protocol.specs.Entry.{FRESH, entry_at, in_use}
+use Rattle.protocol.specs.Entry.{entry_at, in_use}
 use Rattle.protocol.specs.Ring.{used_at, is_settled}
 use Rattle.protocol.specs.Check.{refuse}
 use Rattle.protocol.specs.Search.{current_is, previous_is, taken_by, is_free}
 use Rattle.protocol.specs.Map.{map_by, is_marked, current_marked, map_of, same_map, map_refusal}
-use Rattle.protocol.proofs.Below.{any_cong, any_or, either, absurd_bool, bool_same, and_left, and_right, and_both, or_left, or_right, or_true, any_found, any_none, any_witness, below_or_above}
+use Rattle.protocol.proofs.Below.{any_cong, any_or, either, absurd_bool, bool_same, and_left, and_right, and_both, or_left, or_right, or_true, any_found, any_witness, below_or_above}
 use Rattle.protocol.proofs.Checks.{Limits, limits}
 use Rattle.protocol.proofs.Holds.{settled_undoable}
 use Rattle.protocol.proofs.Lawful.{Intact, currents_apart, current_below_lem}

@@ -27,7 +27,7 @@ use Rattle.protocol.specs.Search.{free_blocks, unused_entries}
 use Rattle.protocol.specs.Map.{map_of, map_refusal, handed_on, map_after}
 use Rattle.protocol.specs.Commit.{number_of, uncached_at, new_block, entry_found, old_block, over_modified, log_entry, data_of, head_after, block_runs, count_fits, data_fits, number_fits, numbers_fit, numbers_differ, new_number, numbers_apart, room_for, commit_refusal, commit_work}
 use Rattle.protocol.specs.Pending.{is_pending, open_refusal, opened, put_runs, put_refusal, put_work, finish_runs, finish_refusal, finish_work}
-use Rattle.protocol.specs.History.{commit, put, finish, work_of, answer_to, after, takes_map, map_to}
+use Rattle.protocol.specs.History.{work_of, answer_to, after, takes_map, map_to}
 use Rattle.protocol.specs.InRow.{Screen, putting, put_one, put_all, finishing, committing, total, SameAsOne, BlockByBlock}
 use Rattle.protocol.proofs.Below.{either, absurd_bool, last_or_before, below_or_above, and_left, and_right, and_both, all_of, any_found, each_cong}
 use Rattle.protocol.proofs.Blocks.{PutsPassed, Mid, blocks_along}

@@ -1,7 +1,7 @@
 -- What a put and a finish that are not refused leave of the map, on every card: a put marks its new block, and a finish leaves the marks of the current
 -- blocks. Assumes nothing.
-use Prim.Native.Nat.{ℕ, zero, suc, ◌+◌, ◌*◌, ◌-◌, ◌≤◌, ◌<◌}
-use mathlib.Core.List.{List, [], ◌∷◌, ◌++◌}
+use Prim.Native.Nat.{ℕ, zero, suc, ◌+◌, ◌≤◌, ◌<◌}
+use mathlib.Core.List.{List, [], ◌∷◌}
 use mathlib.Core.Bool.{Bool, true, false, cond, not, ◌&&◌, ◌||◌}
 use mathlib.Core.Path.{◌≡◌, refl, sym, ap, subst, ◌∙◌}
 use mathlib.Core.Logic.{◌⊎◌, inl, inr, ⊎_elim}
@@ -9,29 +9,29 @@ use native.Mathlib.Nat.{mod-lt}
 use native.Mathlib.Omega.{arith}
 use lib.ListN.{length, get_or}
 use lib.Dec.{eqb, ltb}
-use borrow.Author.Tests.{eq-eqb, eqb-true, eqb-false, ne_eqb, leb-true, ltb-true, lt-ltb, not-true}
+use borrow.Author.Tests.{eq-eqb, eqb-true, ne_eqb, leb-true, lt-ltb, not-true}
 use Rattle.numbers.specs.Bytes.{part}
 use Rattle.protocol.specs.declared.Entry.{Entry}
 use Rattle.protocol.specs.declared.Geometry.{Geometry}
 use Rattle.protocol.specs.declared.Map.{Map}
 use Rattle.protocol.specs.declared.Pending.{Pending}
-use Rattle.protocol.specs.Below.{all_below, any_below, count_below, each_below, around}
+use Rattle.protocol.specs.Below.{any_below, count_below, each_below, around}
 use Rattle.protocol.specs.Layout.{geometry_of, version_of, card_length}
-use Rattle.protocol.specs.Entry.{FRESH, entry_of, entry_at, in_use, is_modified, has_log_role, good_entry, log_flags, switched}
+use Rattle.protocol.specs.Entry.{FRESH, entry_at, in_use, has_log_role, good_entry, switched}
 use Rattle.protocol.specs.Ring.{head_of, tail_of, slot_at, window_of, window_number, window_has, in_window, used_at, undoable_at, is_settled, find_entry, cached, current_of}
-use Rattle.protocol.specs.Check.{refuse, ◌or_else◌, window_number_fits, ring_fits, entries_fit, good_entry_at, entries_apart, fit_refusal, damage_refusal}
+use Rattle.protocol.specs.Check.{entries_fit, good_entry_at, fit_refusal}
 use Rattle.protocol.specs.Store.{card, Store, stored_on, made_on, flat, single, words, entry_store, slot_store, head_store, tail_store}
 use Rattle.protocol.specs.Search.{current_is, previous_is, taken_by, is_free, unused_at, search_start, free_blocks, unused_entries}
 use Rattle.protocol.specs.Map.{map_by, is_marked, current_marked, map_of}
 use Rattle.protocol.specs.Commit.{number_of, uncached_at, new_block, entry_found, old_block, over_modified, log_entry, data_of, head_after, block_runs, room_for}
-use Rattle.protocol.specs.Pending.{is_matched, is_pending, put_runs, put_refusal, finish_switch, finish_runs, finish_refusal}
+use Rattle.protocol.specs.Pending.{is_pending, put_runs, put_refusal, finish_switch, finish_runs, finish_refusal}
 use Rattle.protocol.proofs.Allowed.{Flag, used-good, log_flag, log_used, log_role, used-entry, unused_role, not-used_blank, switched_flag, switched-used, switched_role}
-use Rattle.protocol.proofs.Below.{either, absurd_bool, bool_same, below_or_above, last_or_before, same_or_other, and_left, and_right, and_both, and_fails, or_left, or_right, or_true, or_none, all_at, any_cong, any_at, any_found, any_none, any_or, any_witness, around_below, around-apart}
+use Rattle.protocol.proofs.Below.{either, absurd_bool, bool_same, below_or_above, last_or_before, same_or_other, and_left, and_right, and_both, and_fails, or_none, all_at, any_cong, any_found, any_or, any_witness, around_below, around-apart}
 use Rattle.protocol.proofs.Blocks.{among}
-use Rattle.protocol.proofs.Checks.{Limits, limits, or_else_none, refuse_none}
+use Rattle.protocol.proofs.Checks.{Limits, limits, or_else_none}
 use Rattle.protocol.proofs.Codec.{geometry_same}
 use Rattle.protocol.proofs.Finished.{Matched, matched}
-use Rattle.protocol.proofs.Lawful.{Intact, intact, numbers_apart_lem, currents_apart, current_below_lem, number_below_lem, entry_found_lem}
+use Rattle.protocol.proofs.Lawful.{Intact, intact, numbers_apart_lem, currents_apart, current_below_lem, entry_found_lem}
 use Rattle.protocol.proofs.Loaded.{cached_entry, not-cached}
 use Rattle.protocol.proofs.Holds.{used_number}
 use Rattle.protocol.proofs.Planned.{enough_entries}
@@ -42,7 +42,7 @@ use Rattle.protocol.proofs.Passed.{PutPassed, put_passed, finish_passed}
 use Rattle.protocol.proofs.Recovered.{entry_fits, settled_by}
 use Rattle.protocol.proofs.Region.{block, entry, slot, head, tail}
 use Rattle.protocol.proofs.Searches.{walk_finds}
-use Rattle.protocol.proofs.Shape.{Changed, header_kept, version_kept, head_kept, tail_kept, slot_kept, entry_kept, window_short, window_end, window_kept, number_kept, in_window_kept}
+use Rattle.protocol.proofs.Shape.{Changed, header_kept, head_kept, tail_kept, slot_kept, entry_kept, window_short, window_end, window_kept, number_kept, in_window_kept}
 use Rattle.protocol.proofs.Steps.{longer}
 use Rattle.protocol.proofs.Stores.{made_append, made_runs}
 use Rattle.protocol.proofs.Words.{map_cong}

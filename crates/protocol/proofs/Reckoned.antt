@@ -1,27 +1,26 @@
 -- The reckoning of the row by arguments and answers, held against card and disk: the invariant of its row, and the window with the blocks that a finish
 -- would put into it. Each call of the list keeps it. Assumes nothing.
-use Prim.Native.Nat.{ℕ, ◌+◌, ◌*◌, ◌-◌, ◌≤◌, ◌<◌}
+use Prim.Native.Nat.{ℕ, ◌+◌, ◌*◌, ◌-◌, ◌<◌}
 use mathlib.Core.List.{List, [], ◌∷◌, ◌++◌, append_assoc, append-nil}
-use mathlib.Core.Bool.{Bool, true, false}
+use mathlib.Core.Bool.{true}
 use mathlib.Core.Path.{◌≡◌, refl, sym, ap, subst, ◌∙◌}
-use mathlib.Core.Logic.{⊎_elim}
 use native.Mathlib.Omega.{arith}
 use lib.ListN.{length, take, length-append}
 use lib.Seq.{take_all}
-use lib.Dec.{eqb, ltb}
+use lib.Dec.{eqb}
 use borrow.Author.Tests.{eqb-true, eq-eqb, lt-ltb}
 use Rattle.protocol.specs.declared.Geometry.{Geometry}
 use Rattle.protocol.specs.declared.Pending.{Pending}
 use Rattle.protocol.specs.Below.{all_below, each_below}
 use Rattle.protocol.specs.Layout.{block_size}
 use Rattle.protocol.specs.Ring.{head_of, tail_of, window_of, in_window, is_settled}
-use Rattle.protocol.specs.Store.{card, disk, Store, Run, made_on, flat, made, single, head_store, tail_store}
-use Rattle.protocol.specs.Commit.{number_of, head_after, block_runs, data_fits, number_fits, numbers_fit, numbers_differ, new_number, numbers_apart, room_for}
-use Rattle.protocol.specs.Pending.{is_matched, is_pending, put_runs, finish_runs}
+use Rattle.protocol.specs.Store.{card, disk, Store, Run, made_on, flat, made, tail_store}
+use Rattle.protocol.specs.Commit.{number_of, block_runs, data_fits, number_fits, numbers_fit, new_number, numbers_apart}
+use Rattle.protocol.specs.Pending.{is_pending, put_runs, finish_runs}
 use Rattle.protocol.specs.Recover.{recover_runs}
-use Rattle.protocol.specs.History.{Row, replaced, Reckoned, with_row, with_cut, with_puts, saved_numbers, saved_bytes, finished_row}
+use Rattle.protocol.specs.History.{Reckoned, with_row, with_cut, with_puts, saved_numbers, saved_bytes, finished_row}
 use Rattle.protocol.proofs.Below.{and_left, and_right, and_both}
-use Rattle.protocol.proofs.Blocks.{PutsPassed, Stage, Mid, Order, block_front, block_front_lem, front_along, blocks_along}
+use Rattle.protocol.proofs.Blocks.{PutsPassed, block_front, block_front_lem, front_along, blocks_along}
 use Rattle.protocol.proofs.Committed.{Cut}
 use Rattle.protocol.proofs.Finished.{Matched, matched, switches, switches_along, finish_front, finish_done, told_same}
 use Rattle.protocol.proofs.Growing.{told_more}
@@ -30,7 +29,7 @@ use Rattle.protocol.proofs.Passed.{CommitPassed, PutPassed}
 use Rattle.protocol.proofs.Recovered.{recovery, recovery_cut}
 use Rattle.protocol.proofs.Shape.{Inv}
 use Rattle.protocol.proofs.Steps.{window_below}
-use Rattle.protocol.proofs.Stores.{last_cut, Along, both}
+use Rattle.protocol.proofs.Stores.{last_cut, both}
 use Rattle.protocol.proofs.Told.{Told, told_none}
 
 -- what a reckoning says of card and disk

@@ -1,26 +1,21 @@
 -- What the window's numbers and the data blocks of the entries with R hold: the blocks of a pending save, by a list of numbers and their bytes.
 -- Assumes nothing.
-use Prim.Native.Nat.{ℕ, ◌+◌, ◌*◌, ◌-◌, ◌≤◌, ◌<◌}
-use mathlib.Core.List.{List, [], ◌∷◌, ◌++◌}
+use Prim.Native.Nat.{ℕ, ◌+◌, ◌*◌, ◌<◌}
+use mathlib.Core.List.{List, [], ◌++◌}
 use mathlib.Core.Bool.{true}
-use mathlib.Core.Option.{some}
-use mathlib.Core.Path.{◌≡◌, refl, sym, ap, subst, ◌∙◌}
-use mathlib.Core.Logic.{◌⊎◌, inl, inr, ⊎_elim}
-use native.Mathlib.Nat.{add-mul, mul-le-mul_right}
+use mathlib.Core.Path.{◌≡◌, refl, sym, ap, ◌∙◌}
+use native.Mathlib.Nat.{add-mul}
 use native.Mathlib.Omega.{arith}
-use lib.ListN.{length, get_or, take, drop, length-append, length-drop, get_or-append}
-use lib.Seq.{length-take-le, take-append-le, drop-append-le, drop-append-add, get_or-append-add, get_or-take}
-use lib.Dec.{eqb}
-use borrow.Author.Tests.{eqb-true, eq-eqb}
+use lib.ListN.{length, take, drop, length-drop, get_or-append}
+use lib.Seq.{take-append-le, drop-append-le, drop-append-add, get_or-append-add, get_or-take}
 use Rattle.numbers.specs.Bytes.{part}
 use Rattle.numbers.proofs.Laws.{part-part}
 use Rattle.protocol.specs.declared.Entry.{Entry}
 use Rattle.protocol.specs.declared.Geometry.{Geometry}
 use Rattle.protocol.specs.Layout.{block_size, block_at}
 use Rattle.protocol.specs.Entry.{entry_at, in_use, has_log_role}
-use Rattle.protocol.specs.Ring.{window_of, window_number, window_has, in_window, used_at}
-use Rattle.protocol.specs.Commit.{number_of, new_block, entry_found, log_entry, data_of, data_fits}
-use Rattle.protocol.proofs.Below.{absurd_bool, any_found, below_or_above}
+use Rattle.protocol.specs.Ring.{window_of, window_number, used_at}
+use Rattle.protocol.specs.Commit.{number_of, data_of}
 use Rattle.protocol.proofs.Region.{block_ends}
 
 -- the window has the numbers of the blocks ns, and an entry with R of one of them has a data block that holds its bytes

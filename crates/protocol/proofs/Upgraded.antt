@@ -28,7 +28,7 @@ use Rattle.protocol.proofs.Holds.{fit_header, geometry_is, live_kind, idle_kind,
 use Rattle.protocol.proofs.Invariant.{live, change_media}
 use Rattle.protocol.proofs.Loaded.{Rest, window_start, settled_ring, settled_role}
 use Rattle.protocol.proofs.Recovered.{settled_by}
-use Rattle.protocol.proofs.Region.{header, entry, place, cell_other}
+use Rattle.protocol.proofs.Region.{header, place, cell_other}
 use Rattle.protocol.proofs.Shape.{Changed, head_kept, tail_kept, entry_kept, block_kept, kind_at, Shape, Inv}
 use Rattle.protocol.proofs.Stores.{Along, along_one}
 use Rattle.protocol.proofs.Maps.{settled_marked}

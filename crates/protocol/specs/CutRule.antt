@@ -37,8 +37,6 @@ recovering w s a = record { version = w; call = recover; map = s; allowance = a 
 
 -- what the cut rule says of one list of calls
 pub record Sound (v : ℕ) (g : Geometry) (c d : List ℕ) (rs : List Request) : Type 0 where
-  -- the card keeps the geometry that it was formatted with
-  pub geometry : geometry_of (left v g c d rs).on_card ≡ g
   -- the card's version is 1 or 2
   pub versioned : between 1 2 (version_of (left v g c d rs).on_card) ≡ true
   -- "recover isn't refused with any of 1 to 6": with no other number than 15, and so not with the map that the card gives
@@ -54,9 +52,6 @@ pub record Sound (v : ℕ) (g : Geometry) (c d : List ℕ) (rs : List Request) :
       → contents g (left v g c d rs).on_card (left v g c d rs).on_disk b ≡ row_left v g c d rs b
   -- "Upgrade turns a settled version 1 card into version 2": it is refused with 1 and 7 alone
   pub upgrades : upgrade_refusal (left v g c d rs).on_card ≡ refuse 1 (eqb (version_of (left v g c d rs).on_card) 1) or_else refuse 7 (is_settled g (left v g c d rs).on_card)
-  -- of checks 1 to 7 of card and disk no call is refused with another than 1, of another version, and 7
-  pub pairs : (w : ℕ) → pair_refusal w (left v g c d rs).on_card (left v g c d rs).on_disk
-      ≡ refuse 1 (eqb (version_of (left v g c d rs).on_card) w) or_else refuse 7 (is_settled g (left v g c d rs).on_card)
   -- "Read and look hand out exactly these bytes", of a version 2 card
   pub reads : version_of (left v g c d rs).on_card ≡ 2 → is_settled g (left v g c d rs).on_card ≡ true → (out : List ℕ) (b : ℕ) → length out ≡ block_size g → b < g.disk
       → output_after (left v g c d rs).on_card (left v g c d rs).on_disk out b ≡ row_left v g c d rs b
@@ -89,6 +84,22 @@ CutRule = (v : ℕ) (g : Geometry) (c d : List ℕ) (rs : List Request)
     → outcome_of (format_refusal g c) ≡ FormatDone
     → length d ≡ disk_length g
     → Sound v g c d rs
+
+-- what a layer above the cache needs besides, of the same list
+pub record SoundPair (v : ℕ) (g : Geometry) (c d : List ℕ) (rs : List Request) : Type 0 where
+  -- the card keeps the geometry that it was formatted with
+  pub geometry : geometry_of (left v g c d rs).on_card ≡ g
+  -- of checks 1 to 7 of card and disk no call is refused with another than 1, of another version, and 7
+  pub pairs : (w : ℕ) → pair_refusal w (left v g c d rs).on_card (left v g c d rs).on_disk
+      ≡ refuse 1 (eqb (version_of (left v g c d rs).on_card) w) or_else refuse 7 (is_settled g (left v g c d rs).on_card)
+
+-- "After every such list", as above
+abbrev pub PairRule : Type 0
+PairRule = (v : ℕ) (g : Geometry) (c d : List ℕ) (rs : List Request)
+    → between 1 2 v ≡ true
+    → outcome_of (format_refusal g c) ≡ FormatDone
+    → length d ≡ disk_length g
+    → SoundPair v g c d rs
 
 -- no call of the list is cut
 abbrev pub Uncut : List Answer → Type 0

@@ -1,5 +1,5 @@
 -- Document 02, ask 5, against document 01: where a cut by the memory maker's rule leaves what document 01's leaves, and the choice that does so.
-use Rattle.std.specs.Prelude.{ℕ, ◌+◌, ◌-◌, ◌/◌, ◌≤◌, List, [], ◌∷◌, ◌++◌, true, cond, ◌≡◌, ◌⊎◌, length, take, replicate, leb}
+use Rattle.std.specs.Prelude.{ℕ, ◌-◌, ◌/◌, ◌≤◌, List, [], ◌∷◌, ◌++◌, true, cond, ◌≡◌, ◌⊎◌, length, take, replicate, leb}
 use Rattle.protocol.specs.declared.Geometry.{Geometry}
 use Rattle.protocol.specs.Layout.{block_size}
 use Rattle.protocol.specs.Check.{choice_fits}

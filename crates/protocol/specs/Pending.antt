@@ -12,7 +12,7 @@ use Rattle.protocol.specs.Layout.{geometry_of, block_size}
 use Rattle.protocol.specs.Entry.{entry_at, has_log_role, switched}
 use Rattle.protocol.specs.Ring.{head_of, tail_of, window_of, window_number, window_has, in_window, used_at, find_entry, cached}
 use Rattle.protocol.specs.Check.{refuse, ◌or_else◌, fit_refusal, damage_refusal, card_refusal, choice_refusal}
-use Rattle.protocol.specs.Store.{Run, Work, entry_store, tail_store, single, card, made_on, flat, answer_of}
+use Rattle.protocol.specs.Store.{Run, Work, entry_store, tail_store, single, card, made_on, flat}
 use Rattle.protocol.specs.Map.{map_refusal}
 use Rattle.protocol.specs.Commit.{number_of, data_of, block_runs, room_for}
 use Rattle.protocol.specs.Load.{block_refusal}

@@ -1,7 +1,7 @@
 -- The fewest blocks that hold a record: one to three, and no fewer hold it. Assumes nothing.
 use Prim.Native.Nat.{ℕ, ◌+◌, ◌*◌, ◌-◌, ◌/◌, ◌≤◌, ◌<◌}
 use mathlib.Core.Bool.{true}
-use mathlib.Core.Path.{◌≡◌, sym, ap, ◌∙◌}
+use mathlib.Core.Path.{◌≡◌, ◌∙◌}
 use mathlib.Core.Logic.{⊎_elim}
 use native.Mathlib.Nat.{div-mul-le_self, lt-mul-div-succ, mul-le-mul_right, mul_comm, add-mul}
 use native.Mathlib.Omega.{arith}

@@ -1,15 +1,15 @@
 -- The cut rule recipe by recipe. A list of saves, removes and the cache's other calls leaves what some list of the cache's calls leaves: a save or a
 -- remove that passes its own checks is a room-making commit, and one that does not changes nothing. So the cut rule of the cache holds of it, and what
 -- stands for each recipe in the row is what the answers say. By induction over the list; no byte of the card is looked at. Assumes nothing.
-use Prim.Native.Nat.{ℕ, zero, suc, ◌+◌, ◌*◌, ◌≤◌, ◌<◌}
-use mathlib.Core.List.{List, [], ◌∷◌, ◌++◌, append_assoc}
+use Prim.Native.Nat.{ℕ, zero, suc, ◌+◌, ◌*◌, ◌≤◌}
+use mathlib.Core.List.{List, [], ◌∷◌, ◌++◌}
 use mathlib.Core.Bool.{Bool, true, false, cond}
 use mathlib.Core.Path.{◌≡◌, refl, sym, ap, subst, ◌∙◌}
 use mathlib.Core.Logic.{◌⊎◌, inl, inr}
 use native.Mathlib.Omega.{arith}
 use lib.ListN.{length, replicate}
-use lib.Dec.{eqb, ltb}
-use borrow.Author.Tests.{eqb-true, eqb-false, eq-eqb, ne_eqb, ltb-true}
+use lib.Dec.{eqb}
+use borrow.Author.Tests.{eqb-true, eq-eqb, ne_eqb, ltb-true}
 use Rattle.numbers.specs.Bytes.{patch}
 use Rattle.numbers.proofs.Laws.{patch_nil}
 use Rattle.protocol.specs.declared.Answer.{Answer}
@@ -28,18 +28,16 @@ use Rattle.protocol.specs.Recover.{recover_refusal}
 use Rattle.protocol.specs.Load.{pair_refusal}
 use Rattle.protocol.specs.Room.{room_work}
 use Rattle.protocol.specs.History.{Call, make_room, Request, Media, work_of, answer_to, after, answers, fresh, Row, replaced, Reckoned, reckoned, with_row, with_cut, with_puts, reckon, reckon_all}
-use Rattle.protocol.specs.CutRule.{left, row_left, recovering as recall, Sound}
+use Rattle.protocol.specs.CutRule.{left, row_left, recovering as recall, Sound, SoundPair}
 use Rattle.protocol.proofs.Below.{either, same_or_other}
-use Rattle.protocol.proofs.CutRule.{cut_rule, left-more, row_more}
+use Rattle.protocol.proofs.CutRule.{cut_rule, pair_rule, left-more, row_more}
 use Rattle.protocol.proofs.Holds.{pass, none_first, or_else_assoc}
 use Rattle.protocol.proofs.Passed.{first_zero, passed}
-use Rattle.recipe.specs.declared.Fetched.{Fetched}
-use Rattle.recipe.specs.declared.Fetched.TheVariants.{Is, Refused}
 use Rattle.recipe.specs.Record.{Recipe, record_bytes}
 use Rattle.recipe.specs.Shelf.{in_range, blocks_of, Standing, nothing, broken, stands, standing, standing_refusal, standing_bytes}
-use Rattle.recipe.specs.Calls.{guarded, saved_numbers, saved_bytes, save_refusal, save_work, remove_refusal, remove_work, standing_on, fetch_refusal, fetched, fetched_output}
+use Rattle.recipe.specs.Calls.{saved_numbers, saved_bytes, save_refusal, save_work, remove_refusal, remove_work, standing_on, fetch_refusal, fetched, fetched_output}
 use Rattle.recipe.specs.Uses.{Use, save, remove, load, evict, recover, upgrade, open_save, Asked, work_for, answer_for, media_after, media_left, answers_to, Shelf, placed, shelve, shelve_all}
-use Rattle.recipe.specs.Kept.{used_left, shelf_left, recovering, answered_as, Kept, RecipeRule}
+use Rattle.recipe.specs.Kept.{used_left, shelf_left, recovering, answered_as, RecipeRule}
 use Rattle.recipe.proofs.Fewest.{record_blocks}
 use Rattle.recipe.proofs.Record.{good}
 use Rattle.recipe.proofs.Refusals.{guarded_passes, guarded_stops, save_own}
@@ -177,6 +175,9 @@ module _ (v : ℕ) (g : Geometry) (c d : List ℕ) (known : between 1 2 v ≡ tr
   sound : (rs : List Request) → Sound v g c d rs
   sound rs = cut_rule v g c d rs known ok sized
 
+  sound_pair : (rs : List Request) → SoundPair v g c d rs
+  sound_pair rs = pair_rule v g c d rs known ok sized
+
   fine : good_geometry g ≡ true
   fine = format_good g c ok
 
@@ -185,7 +186,7 @@ module _ (v : ℕ) (g : Geometry) (c d : List ℕ) (known : between 1 2 v ≡ tr
   one q m shelf x = go (step g fine m own q.version q.map q.allowance q.call)
     where
       own : geometry_of m.on_card ≡ g
-      own = ap (λ (y : Media). geometry_of y.on_card) (sym x.there) ∙ (sound x.calls).geometry
+      own = ap (λ (y : Media). geometry_of y.on_card) (sym x.there) ∙ (sound_pair x.calls).geometry
 
       reckoning : Reckoned
       reckoning = reckon_all g x.calls (answers x.calls (fresh v g c d)) (reckoned (disk_block g d))
@@ -278,7 +279,7 @@ module _ (v : ℕ) (g : Geometry) (c d : List ℕ) (known : between 1 2 v ≡ tr
   shelf = shelf_left v g c d past qs
 
   geometry_is : geometry_of m.on_card ≡ g
-  geometry_is = carried v g c d known ok sized past (λ y. geometry_of y.on_card ≡ g) qs (λ rs. (sound v g c d known ok sized rs).geometry)
+  geometry_is = carried v g c d known ok sized past (λ y. geometry_of y.on_card ≡ g) qs (λ rs. (sound_pair v g c d known ok sized rs).geometry)
 
   stands_on : is_settled g m.on_card ≡ true → (r : ℕ) → in_range g r ≡ true → standing_on m.on_card m.on_disk r ≡ shelf r
   unfolding standing_on
@@ -291,7 +292,7 @@ module _ (v : ℕ) (g : Geometry) (c d : List ℕ) (known : between 1 2 v ≡ tr
       ap (λ (y : ℕ). y or_else x)
       (carried v g c d known ok sized past
       (λ y. pair_refusal 2 y.on_card y.on_disk ≡ refuse 1 (eqb (version_of y.on_card) 2) or_else refuse 7 (is_settled g y.on_card)) qs
-      (λ rs. (sound v g c d known ok sized rs).pairs 2))
+      (λ rs. (sound_pair v g c d known ok sized rs).pairs 2))
       ∙ or_else_assoc (refuse 1 (eqb (version_of m.on_card) 2)) (refuse 7 (is_settled g m.on_card)) x
       ∙ ap (λ (y : ℕ). refuse 1 (eqb (version_of m.on_card) 2) or_else y) (none_first x (pass 7 settled))
 

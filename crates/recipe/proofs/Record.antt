@@ -1,8 +1,8 @@
 -- A record's bytes: their length, both round trips, and that the first 28 tell whether the layout is kept. Assumes nothing.
 use Prim.Native.Nat.{ℕ, zero, suc, ◌+◌, ◌*◌, ◌^◌, ◌≤◌, ◌<◌}
-use mathlib.Core.List.{List, [], ◌∷◌, ◌++◌, append_assoc}
-use mathlib.Core.Bool.{Bool, true, false, ◌&&◌}
-use mathlib.Core.Path.{◌≡◌, refl, sym, ap, subst, ◌∙◌}
+use mathlib.Core.List.{List, [], ◌∷◌, ◌++◌}
+use mathlib.Core.Bool.{true, ◌&&◌}
+use mathlib.Core.Path.{◌≡◌, refl, sym, ap, ◌∙◌}
 use native.Mathlib.Omega.{arith}
 use lib.ListN.{length, get_or, length-append}
 use lib.Dec.{eqb, leb}
@@ -11,8 +11,8 @@ use Rattle.numbers.specs.Bytes.{be, bytes_be, part, number_at, Bytes}
 use Rattle.numbers.proofs.Laws.{length_bytes, be_bytes, bytes_be_lem, length_part, get_d_part, part-part, part_append, part_one, part_all, bytes_part}
 use Rattle.protocol.specs.Below.{each_below}
 use Rattle.protocol.proofs.Below.{and_left, and_right, and_both, each_cong}
-use Rattle.recipe.specs.Record.{Recipe, is_printable, good_name, good_count, good_recipe, record_length, line_bytes, record_bytes, count_in, good_record, recipe_in, Fits, ReadBack, WrittenBack}
-use Rattle.recipe.proofs.Lists.{part_first, part_seam, part_second, each_long, each_part, singles_long, singles_at, singles_whole}
+use Rattle.recipe.specs.Record.{Recipe, good_name, good_count, good_recipe, record_length, line_bytes, record_bytes, count_in, good_record, recipe_in, Fits, ReadBack, WrittenBack}
+use Rattle.recipe.proofs.Lists.{part_seam, part_second, each_long, each_part, singles_long, singles_at, singles_whole}
 
 -- ---- what a recipe that 19 accepts has
 

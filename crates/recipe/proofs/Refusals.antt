@@ -1,33 +1,29 @@
 -- The refusals of a save and of a remove, whole: behind its own checks each is a room-making commit that 8, 9, 10 and 11 never refuse. Assumes nothing.
-use Prim.Native.Nat.{ℕ, zero, suc, ◌+◌, ◌*◌, ◌-◌, ◌≤◌, ◌<◌}
+use Prim.Native.Nat.{ℕ, zero, suc, ◌+◌, ◌*◌, ◌-◌, ◌≤◌}
 use mathlib.Core.List.{List, []}
-use mathlib.Core.Bool.{Bool, true, false, not, ◌&&◌}
-use mathlib.Core.Path.{◌≡◌, refl, sym, ap, subst, ◌∙◌}
-use mathlib.Core.Logic.{◌⊎◌, inl, inr}
+use mathlib.Core.Bool.{Bool, true, not, ◌&&◌}
+use mathlib.Core.Path.{◌≡◌, refl, sym, ap, ◌∙◌}
 use native.Mathlib.Omega.{arith}
 use lib.ListN.{length, replicate, length-replicate}
-use lib.Dec.{eqb, ltb, leb}
 use borrow.Author.Tests.{eq-eqb, ne_eqb, lt-ltb, ltb-true, le-leb}
 use Rattle.protocol.specs.declared.Geometry.{Geometry}
 use Rattle.protocol.specs.declared.Map.{Map}
-use Rattle.protocol.specs.Below.{all_below}
 use Rattle.protocol.specs.Layout.{good_geometry, geometry_of, block_size}
 use Rattle.protocol.specs.Check.{refuse, ◌or_else◌, fit_refusal, damage_refusal, card_refusal, disk_refusal, choice_refusal}
-use Rattle.protocol.specs.Store.{Work}
 use Rattle.protocol.specs.Map.{map_refusal}
 use Rattle.protocol.specs.Commit.{number_of, count_fits, data_fits, number_fits, numbers_fit, numbers_differ, new_number, numbers_apart, save_refusal as commitSaves}
 use Rattle.protocol.specs.Load.{pair_refusal}
 use Rattle.protocol.specs.Recency.{table_refusal}
 use Rattle.protocol.specs.Room.{enough_victims, room_refusal, room_work}
-use Rattle.protocol.proofs.Below.{either, same_or_other, and_left, and_right, and_both, all_of}
+use Rattle.protocol.proofs.Below.{and_left, and_right, and_both, all_of}
 use Rattle.protocol.proofs.Checks.{Limits, limits}
 use Rattle.protocol.proofs.Holds.{pass, none_first}
 use Rattle.protocol.proofs.Lawful.{fit_of}
 use Rattle.protocol.proofs.Passed.{first_zero, second_zero, passed}
-use Rattle.recipe.specs.Record.{Recipe, good_recipe, record_length}
-use Rattle.recipe.specs.Shelf.{in_range, blocks_for, blocks_of}
+use Rattle.recipe.specs.Record.{Recipe, good_recipe}
+use Rattle.recipe.specs.Shelf.{in_range, blocks_of}
 use Rattle.recipe.specs.Calls.{guarded, saved_numbers, saved_bytes, save_refusal, save_work, remove_refusal, remove_work, SaveRefuses, RemoveRefuses}
-use Rattle.recipe.proofs.Fewest.{Fewest, record_blocks}
+use Rattle.recipe.proofs.Fewest.{record_blocks}
 use Rattle.recipe.proofs.Record.{good}
 use Rattle.recipe.proofs.Rows.{blocks_long, blocks_at, saved-long}
 

@@ -1,17 +1,17 @@
 -- What stands for a recipe in a row that a save or a remove has changed. Assumes nothing.
-use Prim.Native.Nat.{ℕ, zero, suc, ◌+◌, ◌*◌, ◌-◌, ◌≤◌, ◌<◌}
-use mathlib.Core.List.{List, [], ◌∷◌, ◌++◌}
+use Prim.Native.Nat.{ℕ, ◌+◌, ◌*◌, ◌-◌, ◌≤◌, ◌<◌}
+use mathlib.Core.List.{List}
 use mathlib.Core.Bool.{Bool, true, false, cond}
-use mathlib.Core.Path.{◌≡◌, refl, sym, ap, subst, ◌∙◌}
+use mathlib.Core.Path.{◌≡◌, refl, sym, ap, ◌∙◌}
 use mathlib.Core.Logic.{◌⊎◌, inl, inr}
 use native.Mathlib.Omega.{arith}
 use lib.ListN.{length, get_or, replicate, length-append, length-replicate, get_or-replicate}
 use lib.Dec.{eqb}
-use borrow.Author.Tests.{eq-eqb, ne_eqb, leb-true}
+use borrow.Author.Tests.{eq-eqb, ne_eqb}
 use Rattle.numbers.specs.Bytes.{part}
 use Rattle.numbers.proofs.Laws.{length_part, get_d_part, part-part, part_all}
 use Rattle.protocol.specs.declared.Geometry.{Geometry}
-use Rattle.protocol.specs.Below.{all_below, each_below}
+use Rattle.protocol.specs.Below.{each_below}
 use Rattle.protocol.specs.Layout.{good_geometry, block_size}
 use Rattle.protocol.specs.Commit.{number_of, data_of}
 use Rattle.protocol.specs.History.{Row, replaced}
@@ -25,7 +25,7 @@ use Rattle.recipe.specs.Calls.{saved_numbers, saved_bytes}
 use Rattle.recipe.specs.Uses.{placed}
 use Rattle.recipe.proofs.Fewest.{Fewest, record_blocks}
 use Rattle.recipe.proofs.Lists.{part_first, part_seam, each_parts, singles_long, singles_at}
-use Rattle.recipe.proofs.Record.{Good, good, record_long, record_good, record_count, laid, front_count, front_good}
+use Rattle.recipe.proofs.Record.{good, record_long, record_good, record_count, laid, front_count, front_good}
 
 -- ---- a recipe's blocks alone tell
 

@@ -1,5 +1,5 @@
 -- Document 02, ask 8: save, remove and fetch. Save and remove are room-making commits behind checks of their own.
-use Rattle.std.specs.Prelude.{ℕ, ◌*◌, List, Bool, cond, not, ◌&&◌, ◌≡◌, length, replicate, eqb}
+use Rattle.std.specs.Prelude.{ℕ, ◌*◌, List, cond, not, ◌&&◌, ◌≡◌, length, replicate, eqb}
 use Rattle.numbers.specs.Bytes.{patch}
 use Rattle.protocol.specs.declared.Geometry.{Geometry}
 use Rattle.protocol.specs.declared.Map.{Map}

@@ -19,7 +19,7 @@ use Rattle.recipe.specs.declared.Fetched.{Fetched}
 use Rattle.recipe.specs.declared.Fetched.TheVariants.{Is, Refused}
 use Rattle.recipe.specs.Shelf.{in_range, Standing, nothing, broken, stands, standing, standing_refusal, standing_bytes}
 use Rattle.recipe.specs.Calls.{fetch_refusal, fetched, fetched_output}
-use Rattle.recipe.specs.Uses.{Use, recover, Asked, answer_for, media_left, answers_to, Shelf, shelve_all}
+use Rattle.recipe.specs.Uses.{recover, Asked, answer_for, media_left, answers_to, Shelf, shelve_all}
 
 -- the media that a list of uses leaves, behind the calls `past` on a card c formatted with the version v, over the disk d
 unfoldable pub used_left : ℕ → Geometry → List ℕ → List ℕ → List Request → List Asked → Media

@@ -1,22 +1,22 @@
 -- What a fetch copies: each block from where it lies, on the card or in the window of the disk, is the block's contents, and the record is that which
 -- stands for the recipe. Assumes nothing.
 use Prim.Native.Nat.{ℕ, zero, suc, ◌+◌, ◌*◌, ◌-◌, ◌/◌, ◌≤◌, ◌<◌}
-use mathlib.Core.List.{List, [], ◌∷◌, ◌++◌}
-use mathlib.Core.Bool.{Bool, true, false, cond, not}
+use mathlib.Core.List.{List, [], ◌++◌}
+use mathlib.Core.Bool.{true, false, cond}
 use mathlib.Core.Path.{◌≡◌, refl, sym, ap, subst, ◌∙◌}
 use mathlib.Core.Logic.{◌⊎◌, inl, inr}
 use native.Mathlib.Nat.{add-mul, suc-mul, mul-le-mul_right, div-eq_of_lt-le}
 use native.Mathlib.Numerals.{add-one}
 use native.Mathlib.Omega.{arith}
-use lib.ListN.{length, take, drop, replicate, length-replicate, length-append}
+use lib.ListN.{length, take, drop, replicate, length-replicate}
 use lib.Seq.{take-append-add}
-use lib.Dec.{eqb, ltb}
+use lib.Dec.{eqb}
 use borrow.Author.Tests.{eq-eqb, ne_eqb, ltb-true}
 use Rattle.numbers.specs.Bytes.{part, patch}
-use Rattle.numbers.proofs.Laws.{length_part, length-patch, part_all, patch_append}
+use Rattle.numbers.proofs.Laws.{length_part, part_all, patch_append}
 use Rattle.protocol.specs.declared.Geometry.{Geometry}
 use Rattle.protocol.specs.Below.{each_below}
-use Rattle.protocol.specs.Layout.{good_geometry, geometry_of, block_size, disk_place, disk_block, disk_length}
+use Rattle.protocol.specs.Layout.{good_geometry, geometry_of, block_size, disk_place, disk_length}
 use Rattle.protocol.specs.Ring.{contents}
 use Rattle.protocol.specs.Check.{refuse, ◌or_else◌, fit_refusal}
 use Rattle.protocol.specs.Load.{pair_refusal}
@@ -28,18 +28,16 @@ use Rattle.protocol.proofs.Region.{block_ends}
 use Rattle.ring.specs.declared.Fit.{Fit}
 use Rattle.ring.specs.Fitted.{Opened}
 use Rattle.lookup.specs.declared.Found.{Found}
-use Rattle.lookup.specs.declared.Found.TheVariants.{Refused, Outside, Card, Disk}
+use Rattle.lookup.specs.declared.Found.TheVariants.{Card, Disk}
 use Rattle.lookup.specs.Place.{found_in}
 use Rattle.lookup.proofs.Reading.{disk_long}
 use Rattle.extent.specs.declared.Extent.{Extent}
-use Rattle.extent.specs.Four.{Four}
 use Rattle.extent.proofs.Laws.{Lies, refused, outside, on_card_lem, on_disk_lem, lies, disk_four}
-use Rattle.recipe.specs.declared.Fetched.{Fetched}
 use Rattle.recipe.specs.declared.Fetched.TheVariants.{Is, Refused as RefusedFetch}
 use Rattle.recipe.specs.Record.{good_record, record_length, count_in}
-use Rattle.recipe.specs.Shelf.{in_range, blocks_for, is_blank, joined, length_of, record_of, Standing, nothing, broken, stands, standing, standing_refusal, standing_bytes}
+use Rattle.recipe.specs.Shelf.{in_range, blocks_for, is_blank, joined, length_of, record_of, nothing, broken, stands, standing, standing_refusal}
 use Rattle.recipe.specs.Calls.{standing_on, fetch_refusal, fetched, fetched_output}
-use Rattle.recipe.proofs.Fewest.{Fewest, fewest, record_blocks}
+use Rattle.recipe.proofs.Fewest.{Fewest, record_blocks}
 use Rattle.recipe.proofs.Lists.{each_long}
 use Rattle.recipe.proofs.Record.{laid}
 use Rattle.recipe.proofs.Refusals.{pair_good}
@@ -170,6 +168,27 @@ fetch_stopped c d n r o there h l out =
     ∙ or_else_assoc (pair_refusal 2 c d) (refuse 19 (in_range (geometry_of c) r)) _)
     h
 
+-- ---- what the code asks on its way
+
+-- the size of a block that was found is a block's
+pub size_between : (c : List ℕ) (n r : ℕ) (o : Place) → Found4 c n r o → o.refusal ≡ 0 → (512 ≤ o.size) × (o.size ≤ 4096)
+size_between c n r o there none =
+    let d : List ℕ = replicate n 0 in
+    let l : length d ≡ n = length-replicate {A = ℕ} n 0 in
+    let (p, q) = or_else_none (pair_refusal 2 c d) _ (sym (there.refusal_is d l) ∙ none) in
+    let m : Limits (geometry_of c) = limits (geometry_of c) (pair_good c d p) in
+    (omega (arith, m.size, there.size_is none), omega (arith, m.size, there.size_is none))
+
+-- a record that stands has at most 250 ingredients
+pub record_between : (first : List ℕ) (k : ℕ) → block_refusal first ≡ 0 → k ≡ record_length (count_in first) → (0 < k) × (k ≤ 1528)
+unfolding block_refusal record_length
+record_between first k z e = go (either (is_blank first)) (either (good_record first))
+  where
+    go : (is_blank first ≡ true) ⊎ (is_blank first ≡ false) → (good_record first ≡ true) ⊎ (good_record first ≡ false) → (0 < k) × (k ≤ 1528)
+    go (inl b) q = let y : ◌≡◌ {A = ℕ} 20 0 = rw b at z in absurd (omega arith)
+    go (inr b) (inr q) = let y : ◌≡◌ {A = ℕ} 21 0 = rw (b, q) at z in absurd (omega arith)
+    go (inr b) (inl q) = (omega (arith, (laid first q).few), omega (arith, (laid first q).few))
+
 -- ---- the blocks that were found
 
 module _ (c : List ℕ) (n r : ℕ) (o : Place) (there : Found4 c n r o) (none : o.refusal ≡ 0) (w : List ℕ) (sized : length w ≡ 4 * o.size) where
@@ -213,17 +232,17 @@ module _ (c : List ℕ) (n r : ℕ) (o : Place) (there : Found4 c n r o) (none :
   reached i h f (outside p z l) = absurd (near some_disk some_long i h l)
   reached i h f (on_card_lem at j p z l m e) =
       record {
-        on_card_lem = λ q k j' y.
+        on_card = λ q k j' y.
             let a : q ≡ at = cc in
             let b : k ≡ block_size (geometry_of c) = cc in
             omega arith;
-        on_disk_lem = λ q k y. let x : ◌≡◌ {A = ℕ} 0 1 = cc in absurd (omega arith);
+        on_disk = λ q k y. let x : ◌≡◌ {A = ℕ} 0 1 = cc in absurd (omega arith);
         long = ap (λ (y : Found). length (held_in c w (i * o.size) y)) p ∙ length_part c at (block_size (geometry_of c)) m ∙ sym size_is;
       }
   reached i h f (on_disk_lem p z l m e) =
       record {
-        on_card_lem = λ q k j' y. let x : ◌≡◌ {A = ℕ} 0 1 = cc in absurd (omega arith);
-        on_disk_lem = λ q k y.
+        on_card = λ q k j' y. let x : ◌≡◌ {A = ℕ} 0 1 = cc in absurd (omega arith);
+        on_disk = λ q k y.
             let b : k ≡ block_size (geometry_of c) = cc in
             omega (arith, in_window_lem i h);
         long = ap (λ (y : Found). length (held_in c w (i * o.size) y)) p ∙ length_part w (i * o.size) (block_size (geometry_of c)) (in_window_lem i h) ∙ sym size_is;

@@ -1,17 +1,16 @@
 -- Where a recipe's blocks lie and what they hold, what a save and a remove ask, and how many blocks a record fills. Assumes nothing.
-use Prim.Native.Nat.{ℕ, zero, suc, ◌+◌, ◌*◌, ◌-◌, ◌/◌, ◌^◌, ◌≤◌, ◌<◌}
-use mathlib.Core.List.{List, [], ◌∷◌, ◌++◌}
-use mathlib.Core.Bool.{Bool, true, false, cond, not, ◌&&◌}
+use Prim.Native.Nat.{ℕ, ◌+◌, ◌*◌, ◌^◌, ◌≤◌, ◌<◌}
+use mathlib.Core.List.{List}
+use mathlib.Core.Bool.{Bool, true, false}
 use mathlib.Core.Path.{◌≡◌, refl, sym, ap, subst, ◌∙◌}
 use mathlib.Core.Logic.{◌⊎◌, inl, inr}
 use native.Mathlib.Nat.{div-eq_of_lt-le}
 use native.Mathlib.Omega.{arith}
 use lib.ListN.{length, replicate, length-replicate}
-use lib.Dec.{eqb, ltb, leb}
-use borrow.Author.Tests.{eq-eqb, ne_eqb, lt-ltb, le-ltb, ltb-true, ltb-false}
-use Rattle.numbers.specs.Bytes.{part}
+use lib.Dec.{ltb}
+use borrow.Author.Tests.{lt-ltb, le-ltb, ltb-true}
 use Rattle.protocol.specs.declared.Geometry.{Geometry}
-use Rattle.protocol.specs.Layout.{good_geometry, geometry_of, block_size, disk_place}
+use Rattle.protocol.specs.Layout.{good_geometry, geometry_of, block_size}
 use Rattle.protocol.specs.Check.{refuse, ◌or_else◌}
 use Rattle.protocol.specs.Load.{pair_refusal}
 use Rattle.protocol.proofs.Below.{absurd_bool, below_or_above}
@@ -25,7 +24,6 @@ use Rattle.extent.specs.Four.{Four}
 use Rattle.extent.proofs.Laws.{Lies, refused, outside, on_card_lem, on_disk_lem, lies}
 use Rattle.recipe.specs.Shelf.{in_range}
 use Rattle.recipe.proofs.Refusals.{pair_good}
-use Rattle.recipes.specs.declared.Fill.{Fill}
 use Rattle.recipes.specs.declared.Place.{Place}
 use Rattle.recipes.specs.Reach.{Filled, Found4}
 

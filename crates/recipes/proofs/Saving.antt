@@ -5,9 +5,9 @@ use mathlib.Core.Bool.{Bool, true, false, not, ◌&&◌}
 use mathlib.Core.Path.{◌≡◌, refl, sym, ap, subst, ◌∙◌}
 use native.Mathlib.Omega.{arith}
 use borrow.Author.Tests.{ltb-true, lt-ltb}
-use lib.ListN.{length, take, drop, replicate, length-replicate, replicate-append-replicate, length-append}
+use lib.ListN.{length, take, drop, replicate, length-replicate, replicate-append-replicate}
 use lib.Seq.{length-take-le, take-append-add, take-append_seam, drop-append_seam}
-use Rattle.numbers.specs.Bytes.{part, patch}
+use Rattle.numbers.specs.Bytes.{patch}
 use Rattle.numbers.proofs.Laws.{length-patch, patch_nil, patch_as_parts}
 use Rattle.protocol.specs.declared.Answer.{Answer}
 use Rattle.protocol.specs.declared.Answer.TheVariants.{Done, Cut, Refused}
@@ -25,7 +25,7 @@ use Rattle.protocol.specs.Map.{handed_on}
 use Rattle.protocol.specs.Recency.{turned}
 use Rattle.protocol.specs.Room.{room_refusal, room_work, table_after_save}
 use Rattle.protocol.proofs.Below.{and_fails}
-use Rattle.protocol.proofs.Checks.{Limits, limits, or_else_first, or_else_next, refuse_failed}
+use Rattle.protocol.proofs.Checks.{Limits, limits, or_else_first, refuse_failed}
 use Rattle.protocol.proofs.Holds.{pass, none_first, or_else_assoc}
 use Rattle.protocol.proofs.Passed.{first_zero, second_zero, passed}
 use Rattle.stores.proofs.Laws.{refused_answer, refused_after, refused_map}

@@ -1,7 +1,6 @@
 -- What the recipe calls find before they store or copy anything: where a recipe's blocks lie, and what they hold.
-use Rattle.std.specs.Prelude.{ℕ, zero, suc, ◌+◌, ◌*◌, ◌-◌, ◌/◌, ◌≤◌, ◌<◌, List, [], Bool, true, ◌≡◌, length}
+use Rattle.std.specs.Prelude.{ℕ, zero, suc, ◌+◌, ◌*◌, ◌-◌, ◌/◌, ◌≤◌, ◌<◌, List, [], true, ◌≡◌, length}
 use Rattle.numbers.specs.Bytes.{part}
-use Rattle.protocol.specs.declared.Geometry.{Geometry}
 use Rattle.protocol.specs.Below.{each_below}
 use Rattle.protocol.specs.Layout.{good_geometry, geometry_of, block_size, disk_place}
 use Rattle.protocol.specs.Check.{refuse, ◌or_else◌, fit_refusal}
@@ -13,7 +12,7 @@ use Rattle.extent.specs.declared.Extent.{Extent}
 use Rattle.extent.specs.Four.{Four}
 use Rattle.recipe.specs.Record.{Recipe}
 use Rattle.recipe.specs.Shelf.{in_range}
-use Rattle.recipe.specs.Calls.{save_refusal, remove_refusal}
+use Rattle.recipe.specs.Calls.{save_refusal}
 use Rattle.recipes.specs.declared.Fill.{Fill}
 use Rattle.recipes.specs.declared.Own.{Own}
 use Rattle.recipes.specs.declared.Span.{Span}
@@ -59,8 +58,8 @@ held_in c w at (Outside n) = []
 
 -- and they are there, `size` of them
 pub record Reached (c w : List ℕ) (at size : ℕ) (f : Found) : Type 0 where
-  pub on_card_lem : (p n i : ℕ) → f ≡ Card p n i → p + n ≤ length c
-  pub on_disk_lem : (p n : ℕ) → f ≡ Disk p n → at + n ≤ length w
+  pub on_card : (p n i : ℕ) → f ≡ Card p n i → p + n ≤ length c
+  pub on_disk : (p n : ℕ) → f ≡ Disk p n → at + n ≤ length w
   pub long : length (held_in c w at f) ≡ size
 
 -- block i of four

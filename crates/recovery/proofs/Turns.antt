@@ -32,7 +32,6 @@ use Rattle.checks.specs.Keys.{undoable_entry}
 use Rattle.ring.specs.declared.Window.{Window}
 use Rattle.ring.specs.Fitted.{Fitted, WindowOf}
 use Rattle.ring.proofs.Laws.{fitted_long, fitted_blocks}
-use Rattle.stores.specs.declared.Run.{Run as Told}
 use Rattle.stores.specs.declared.Run.TheVariants.{Nothing as NoRun, Entry as EntryRun, Word as WordRun}
 use Rattle.stores.specs.Did.{card_store, under_credit, Did}
 use Rattle.stores.specs.Told.{told}

@@ -205,7 +205,7 @@ opened_past low high c r g n v h t e p eg en ev eh et =
     let q : n ≡ fit_refusal low high c = fit_past low high c r g n e p eg en in
     record {
       refusal_is = q;
-      framed = λ z. record { geometry_is = eg; fitted = fit_fitted low high c g n q z eg; version_is_lem = ev; head_is_lem = eh; tail_is_lem = et };
+      framed = λ z. record { geometry_is = eg; fitted = fit_fitted low high c g n q z eg; version_is = ev; head_is = eh; tail_is = et };
     }
 
 -- ---- check 4
@@ -241,7 +241,7 @@ window_end g c h t n p eh et en =
 pub framed_window : (c : List ℕ) (f : Fit) (n : ℕ) → Framed c f → f.head < f.geometry.slots → f.tail < f.geometry.slots
     → n ≡ window_length f.geometry.slots f.tail f.head → WindowOf f.geometry c (record { tail = f.tail; count = n; head = f.head })
 framed_window c f n h lh lt e =
-    window_end f.geometry c f.head f.tail n (record { head = rw h.head_is_lem at lh; tail = rw h.tail_is_lem at lt }) h.head_is_lem h.tail_is_lem
+    window_end f.geometry c f.head f.tail n (record { head = rw h.head_is at lh; tail = rw h.tail_is at lt }) h.head_is h.tail_is
     e
 
 pub window_on_ring : (g : Geometry) (c : List ℕ) (w : Window) (j : ℕ) → Fitted g c → WindowOf g c w → j < w.count
@@ -300,5 +300,5 @@ pub ring_end : (c : List ℕ) (f : Fit) (n : ℕ) (r : Bool) → Framed c f → 
     → n ≡ window_length f.geometry.slots f.tail f.head → r ≡ all_below (window_number_fits f.geometry c) n → r ≡ ring_fits f.geometry c
 unfolding ring_fits
 ring_end c f n r h lh lt w e =
-    rw (lt-ltb (head_of c) f.geometry.slots (rw h.head_is_lem at lh), lt-ltb (tail_of c) f.geometry.slots (rw h.tail_is_lem at lt))
+    rw (lt-ltb (head_of c) f.geometry.slots (rw h.head_is at lh), lt-ltb (tail_of c) f.geometry.slots (rw h.tail_is at lt))
     (e ∙ ap (all_below (window_number_fits f.geometry c)) (framed_window c f n h lh lt w).count)

@@ -16,9 +16,9 @@ pub record Fitted (g : Geometry) (c : List ℕ) : Type 0 where
 pub record Framed (c : List ℕ) (f : Fit) : Type 0 where
   pub geometry_is : f.geometry ≡ geometry_of c
   pub fitted : Fitted f.geometry c
-  pub version_is_lem : f.version ≡ version_of c
-  pub head_is_lem : f.head ≡ head_of c
-  pub tail_is_lem : f.tail ≡ tail_of c
+  pub version_is : f.version ≡ version_of c
+  pub head_is : f.head ≡ head_of c
+  pub tail_is : f.tail ≡ tail_of c
 
 -- what checks 1 and 2 of a call that takes versions from low to high found, and of a card that passed them its frame
 pub record Opened (low high : ℕ) (c : List ℕ) (f : Fit) : Type 0 where

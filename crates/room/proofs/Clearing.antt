@@ -17,7 +17,7 @@ use Rattle.protocol.specs.Layout.{good_geometry, block_size}
 use Rattle.protocol.specs.Entry.{entry_at, is_modified}
 use Rattle.protocol.specs.Ring.{find_entry, is_settled}
 use Rattle.protocol.specs.Check.{card_refusal}
-use Rattle.protocol.specs.Store.{card, disk, Run, made_on, flat}
+use Rattle.protocol.specs.Store.{card, Run, made_on, flat}
 use Rattle.protocol.specs.Load.{evict_runs}
 use Rattle.protocol.specs.Room.{is_victim, from_last, victims, victim_number, evictions}
 use Rattle.protocol.proofs.Below.{last_or_before, count_le}

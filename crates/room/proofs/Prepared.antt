@@ -31,7 +31,7 @@ module _ (c d : List ℕ) (m : Map) (t ns : List ℕ) (size room : ℕ) (xs : Li
     refusal_is = λ bs ch l k.
         or_else_first s.refusal (asked_refusal c d m t ns size room) _ x.refusal_is h ∙ asked_all c d m t ns bs ch size room l k;
     geometry_is = λ z. absurd (h z);
-    head_is_lem = λ z. absurd (h z);
+    head_is = λ z. absurd (h z);
     homes = λ z. absurd (h z);
     count = λ z. absurd (h z);
     places = λ z. absurd (h z);
@@ -46,7 +46,7 @@ module _ (c d : List ℕ) (m : Map) (t ns : List ℕ) (size room : ℕ) (xs : Li
             or_else_next r.refusal (asked_refusal c d m t ns size room) _ (sym z ∙ x.refusal_is) own.refusal_is
             ∙ asked_all c d m t ns bs ch size room l k;
         geometry_is = λ h. x.geometry_is z;
-        head_is_lem = λ h. (x.searchable z).head;
+        head_is = λ h. (x.searchable z).head;
         homes = own.homes;
         count = own.count;
         places = own.places;
@@ -77,7 +77,7 @@ module _ (c d : List ℕ) (m : Map) (t ns bs ch : List ℕ) (room : ℕ) (k : ro
     room_makeable z = record {
       passes = sym refusal_is ∙ z;
       geometry_is = x.geometry_is z;
-      head_is_lem = x.head_is_lem z;
+      head_is = x.head_is z;
       homes = x.homes z;
       count = x.count z;
       places = x.places z;

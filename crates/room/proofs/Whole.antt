@@ -19,7 +19,7 @@ use Rattle.protocol.specs.declared.Stored.{Stored}
 use Rattle.protocol.specs.Layout.{geometry_of, block_size}
 use Rattle.protocol.specs.Entry.{entry_at, is_modified}
 use Rattle.protocol.specs.Ring.{head_of, is_settled, find_entry, cached, current_of}
-use Rattle.protocol.specs.Check.{refuse, ◌or_else◌, fit_refusal, disk_fits, disk_refusal, choice_fits}
+use Rattle.protocol.specs.Check.{refuse, fit_refusal, disk_fits, disk_refusal, choice_fits}
 use Rattle.protocol.specs.Store.{Medium, card, disk, Store, Run, Work, made_on, flat, made, stores_of, answer_of, after_on}
 use Rattle.protocol.specs.Map.{map_by, is_marked, map_of, map_refusal, same_map, handed_on, map_after}
 use Rattle.protocol.specs.Commit.{number_of, uncached_at, entry_found, old_block, over_modified, commit_runs, commit_refusal, commit_work}
@@ -246,7 +246,7 @@ module _ (c d : List ℕ) (m : Map) (t ns bs ch es ps vs : List ℕ) (p : Making
           pub make_savable : Savable p.geometry c₁ p.head left ns bs ch es ps
           make_savable = record {
             own = own_left;
-            head = v.head_is_lem ∙ sym (room_head c d m t ns bs ch v.passes) ∙ ap head_of (sym card_left);
+            head = v.head_is ∙ sym (room_head c d m t ns bs ch v.passes) ∙ ap head_of (sym card_left);
             passes = (λ i. commit_refusal 2 (card_left i) (left_is i) ns bs ch) ∙ room_commit c d m t ns bs ch v.passes;
             homes =
                 subst (λ (b : List ℕ). Homes p.geometry b ns es ps) (sym card_left)

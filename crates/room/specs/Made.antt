@@ -74,7 +74,7 @@ pub record Weighed (g : Geometry) (c vs : List ℕ) (n : ℕ) (fs : List ℕ) (r
 pub record Prepared (c d : List ℕ) (m : Map) (t ns : List ℕ) (size room : ℕ) (es ps vs : List ℕ) (r : Making) : Type 0 where
   pub refusal_is : (bs ch : List ℕ) → length bs ≡ size → choice_room ch ≡ room → r.refusal ≡ room_refusal 2 c d m t ns bs ch
   pub geometry_is : r.refusal ≡ 0 → r.geometry ≡ geometry_of c
-  pub head_is_lem : r.refusal ≡ 0 → r.head ≡ head_of c
+  pub head_is : r.refusal ≡ 0 → r.head ≡ head_of c
   pub homes : r.refusal ≡ 0 → Homes (geometry_of c) c ns es ps
   pub count : r.refusal ≡ 0 → r.count ≡ missing (geometry_of c) c ns
   pub places : r.refusal ≡ 0 → (i : ℕ) → i < missing (geometry_of c) c ns → get_or vs i 0 ≡ get_or (victims (geometry_of c) c t ns) i 0
@@ -83,7 +83,7 @@ pub record Prepared (c d : List ℕ) (m : Map) (t ns : List ℕ) (size room : �
 pub record Makeable (c d : List ℕ) (m : Map) (t ns bs ch es ps vs : List ℕ) (r : Making) : Type 0 where
   pub passes : room_refusal 2 c d m t ns bs ch ≡ 0
   pub geometry_is : r.geometry ≡ geometry_of c
-  pub head_is_lem : r.head ≡ head_of c
+  pub head_is : r.head ≡ head_of c
   pub homes : Homes (geometry_of c) c ns es ps
   pub count : r.count ≡ missing (geometry_of c) c ns
   pub places : (i : ℕ) → i < missing (geometry_of c) c ns → get_or vs i 0 ≡ get_or (victims (geometry_of c) c t ns) i 0

@@ -25,7 +25,6 @@ use Rattle.protocol.specs.Load.{pair_refusal, block_refusal, load_refusal, evict
 use Rattle.protocol.proofs.Below.{all_at}
 use Rattle.protocol.proofs.Allowed.{bounded}
 use Rattle.protocol.proofs.Checks.{Limits, limits, refuse_passed, refuse_failed, refuse_none, or_else_first, or_else_next, or_else_none}
-use Rattle.protocol.proofs.Region.{block}
 use Rattle.protocol.proofs.Left.{evict_map}
 use Rattle.ring.specs.Fitted.{Fitted}
 use Rattle.ring.proofs.Laws.{fitted_blocks, fitted_disk}

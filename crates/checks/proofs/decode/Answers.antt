@@ -22,7 +22,7 @@ loop-i-init c = (search rules, search (pass_start, rules))
 pub loop-i-preserved-else-p-q-ne0 : goal.loop-i-preserved-else-p-q-ne0
 loop-i-preserved-else-p-q-ne0 c =
     let split_of' : let a = c.args in
-        Split a.g a.card.now c.loop-i.i c.field_of-w.result c.field_of-p.result c.field_of-q.result =
+    Split a.g a.card.now c.loop-i.i c.field_of-w.result c.field_of-p.result c.field_of-q.result =
     record {
       fitted = c.requires.0;
       below = c.loop-i-test.true;
@@ -30,8 +30,7 @@ loop-i-preserved-else-p-q-ne0 c =
       first = c.field_of-w.ensures;
       second = c.field_of-p.ensures;
       third = c.field_of-q.ensures;
-    } in
-        (
+    } in (
       search rules,
       pass_unused _ _ _ _ _ _ _ _ c.requires.0 c.loop-i-test.true c.loop-i.invariant.1
           (split_blank (split_of') c.if-w-eq0.true c.if-p-q-ne0.false),
@@ -40,7 +39,7 @@ loop-i-preserved-else-p-q-ne0 c =
 pub returns-then-p-q-ne0 : goal.returns-then-p-q-ne0
 returns-then-p-q-ne0 c =
     let split_of' : let a = c.args in
-        Split a.g a.card.now c.loop-i.i c.field_of-w.result c.field_of-p.result c.field_of-q.result =
+    Split a.g a.card.now c.loop-i.i c.field_of-w.result c.field_of-p.result c.field_of-q.result =
     record {
       fitted = c.requires.0;
       below = c.loop-i-test.true;
@@ -49,13 +48,13 @@ returns-then-p-q-ne0 c =
       second = c.field_of-p.ensures;
       third = c.field_of-q.ensures;
     } in
-        pass_bad _ _ _ _ _ _ _ _ c.requires.0 c.loop-i-test.true c.loop-i.invariant.1 _ _
+    pass_bad _ _ _ _ _ _ _ _ c.requires.0 c.loop-i-test.true c.loop-i.invariant.1 _ _
     (split_rest (split_of') c.if-w-eq0.true c.if-p-q-ne0.true) c.misfit.ensures
 
 pub returns-then-g-q : goal.returns-then-g-q
 returns-then-g-q c =
     let split_of' : let a = c.args in
-        Split a.g a.card.now c.loop-i.i c.field_of-w.result c.field_of-p.result c.field_of-q.result =
+    Split a.g a.card.now c.loop-i.i c.field_of-w.result c.field_of-p.result c.field_of-q.result =
     record {
       fitted = c.requires.0;
       below = c.loop-i-test.true;
@@ -64,7 +63,7 @@ returns-then-g-q c =
       second = c.field_of-p.ensures;
       third = c.field_of-q.ensures;
     } in
-        pass_bad _ _ _ _ _ _ _ _ c.requires.0 c.loop-i-test.true c.loop-i.invariant.1 _ _
+    pass_bad _ _ _ _ _ _ _ _ c.requires.0 c.loop-i-test.true c.loop-i.invariant.1 _ _
     (split_blocks (split_of') c.if-w-eq0.false c.if-g-q.true) c.misfit-then-g-q.ensures
 
 pub number_of-b-requires : goal.number_of-b-requires
@@ -74,7 +73,7 @@ number_of-b-requires c =
 pub returns-then-b : goal.returns-then-b
 returns-then-b c =
     let split_of' : let a = c.args in
-        Split a.g a.card.now c.loop-i.i c.field_of-w.result c.field_of-p.result c.field_of-q.result =
+    Split a.g a.card.now c.loop-i.i c.field_of-w.result c.field_of-p.result c.field_of-q.result =
     record {
       fitted = c.requires.0;
       below = c.loop-i-test.true;
@@ -84,15 +83,15 @@ returns-then-b c =
       third = c.field_of-q.ensures;
     } in
     let number_of' : let a = c.args in
-        Numbered (version_of a.card.now) c.field_of-w.result a.g.disk c.number_of-b.result =
+    Numbered (version_of a.card.now) c.field_of-w.result a.g.disk c.number_of-b.result =
     c.number_of-b.ensures _ (c.over_of-more.ensures ∙ ap over_of c.requires.2) in
-        pass_bad _ _ _ _ _ _ _ _ c.requires.0 c.loop-i-test.true c.loop-i.invariant.1 _ _
+    pass_bad _ _ _ _ _ _ _ _ c.requires.0 c.loop-i-test.true c.loop-i.invariant.1 _ _
     (split_flags (split_of') c.if-w-eq0.false c.if-g-q.false _ (number_of')
     (omega (arith, c.if-b.true, fitted_disk _ _ c.requires.0))) c.misfit-then-b.ensures
 
 pub with-map-requires : goal.with-map-requires
 with-map-requires c = let split_of' : let a = c.args in
-        Split a.g a.card.now c.loop-i.i c.field_of-w.result c.field_of-p.result c.field_of-q.result =
+    Split a.g a.card.now c.loop-i.i c.field_of-w.result c.field_of-p.result c.field_of-q.result =
     record {
       fitted = c.requires.0;
       below = c.loop-i-test.true;
@@ -102,11 +101,11 @@ with-map-requires c = let split_of' : let a = c.args in
       third = c.field_of-q.ensures;
     } in
     let number_of' : let a = c.args in
-        Numbered (version_of a.card.now) c.field_of-w.result a.g.disk c.number_of-b.result =
+    Numbered (version_of a.card.now) c.field_of-w.result a.g.disk c.number_of-b.result =
     c.number_of-b.ensures _ (c.over_of-more.ensures ∙ ap over_of c.requires.2) in
     let used_of' : let a = c.args in
-        Used a.g a.card.now c.loop-i.i c.number_of-b.result c.field_of-q.result
-        (eqb (c.field_of-w.result / 2 ^ 56 % 2) 1) =
+    Used a.g a.card.now c.loop-i.i c.number_of-b.result c.field_of-q.result
+    (eqb (c.field_of-w.result / 2 ^ 56 % 2) 1) =
     split_number (split_of') c.if-w-eq0.false c.if-g-q.false _ (number_of') ((number_of').none c.if-b.false) in
     let few_of' : c.narrow.result < 128 =
     let u = used_of' in
@@ -120,7 +119,7 @@ enter-shared-requires c =
 pub loop-i-preserved : goal.loop-i-preserved
 loop-i-preserved c =
     let split_of' : let a = c.args in
-        Split a.g a.card.now c.loop-i.i c.field_of-w.result c.field_of-p.result c.field_of-q.result =
+    Split a.g a.card.now c.loop-i.i c.field_of-w.result c.field_of-p.result c.field_of-q.result =
     record {
       fitted = c.requires.0;
       below = c.loop-i-test.true;
@@ -130,13 +129,12 @@ loop-i-preserved c =
       third = c.field_of-q.ensures;
     } in
     let number_of' : let a = c.args in
-        Numbered (version_of a.card.now) c.field_of-w.result a.g.disk c.number_of-b.result =
+    Numbered (version_of a.card.now) c.field_of-w.result a.g.disk c.number_of-b.result =
     c.number_of-b.ensures _ (c.over_of-more.ensures ∙ ap over_of c.requires.2) in
     let used_of' : let a = c.args in
-        Used a.g a.card.now c.loop-i.i c.number_of-b.result c.field_of-q.result
-        (eqb (c.field_of-w.result / 2 ^ 56 % 2) 1) =
-    split_number (split_of') c.if-w-eq0.false c.if-g-q.false _ (number_of') ((number_of').none c.if-b.false) in
-        (
+    Used a.g a.card.now c.loop-i.i c.number_of-b.result c.field_of-q.result
+    (eqb (c.field_of-w.result / 2 ^ 56 % 2) 1) =
+    split_number (split_of') c.if-w-eq0.false c.if-g-q.false _ (number_of') ((number_of').none c.if-b.false) in (
       search rules,
       pass_used _ _ _ _ _ _ _ _ c.requires.0 c.loop-i-test.true c.loop-i.invariant.1 _ _ _ _ _ _ _
           (used_of') c.narrow.ensures c.with-map.ensures c.enter-shared.ensures _ (roles_more c.loop-i.roles c.field_of-w.result),

@@ -1,6 +1,6 @@
 -- `card_length` answers its definition; no sum wraps within the limits of a good geometry.
 use Rattle.protocol.proofs.Checks.{limits}
-use Rattle.protocol.specs.Layout.{block_size, card_length}
+use Rattle.protocol.specs.Layout.{card_length}
 use borrow.Author.Rules.{rules}
 use native.Mathlib.Omega.{arith}
 use Rattle.codec.proofs.card_length.Goals as goal

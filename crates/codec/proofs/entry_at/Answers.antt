@@ -1,5 +1,4 @@
 -- `entry_at` answers the entry that stands there: each field is the number that `get` read.
-use borrow.Author.Rules.{rules}
 use Rattle.protocol.specs.Entry.{entry_in}
 use Rattle.codec.proofs.entry_at.Goals as goal
 

@@ -1,6 +1,5 @@
 -- `good_entry` answers its definition, by computing it.
 use mathlib.Core.Path.{refl}
-use borrow.Author.Rules.{rules}
 use Rattle.protocol.specs.Entry.{good_entry, is_unused, allowed_flags}
 use Rattle.codec.proofs.good_entry.Goals as goal
 

@@ -1,6 +1,5 @@
 -- `good_geometry` answers its definition, from what its four tests answer.
 use Rattle.protocol.specs.Layout.{good_geometry}
-use borrow.Author.Rules.{rules}
 use Rattle.codec.proofs.good_geometry.Goals as goal
 
 pub returns : goal.returns

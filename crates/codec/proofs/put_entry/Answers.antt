@@ -1,7 +1,6 @@
 -- `put_entry` writes the entry's bytes: three patches side by side, and a byte over the first.
 use native.Mathlib.Omega.{arith}
 use lib.ListN.{length-set}
-use borrow.Author.Rules.{rules}
 use Rattle.codec.proofs.Laws.{put_fields}
 use Rattle.codec.proofs.put_entry.Goals as goal
 

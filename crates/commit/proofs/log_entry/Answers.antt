@@ -1,6 +1,5 @@
 -- `log_entry` answers the entry.
 use Rattle.protocol.specs.Entry.{entry_of}
-use borrow.Author.Rules.{rules}
 use Rattle.commit.proofs.log_entry.Goals as goal
 
 pub returns : goal.returns

@@ -1,13 +1,7 @@
 -- `make_blocks` makes the stores of every block. The invariant: those of the blocks passed are made.
-use Prim.Native.Nat.{◌≤◌, ◌-◌}
-use mathlib.Core.Path.{◌≡◌, ap}
-use lib.ListN.{length}
+use mathlib.Core.Path.{ap}
 use Rattle.protocol.specs.declared.Entry.{Entry}
-use Rattle.protocol.specs.Below.{each_below}
-use Rattle.protocol.specs.Store.{Medium}
-use Rattle.stores.specs.Did.{Did}
 use Rattle.stores.proofs.Laws.{did_start}
-use Rattle.commit.specs.Making.{plan_by, planned_block}
 use Rattle.commit.proofs.Loops.{entry_on, block_on, data_on, block_turn, each_all}
 use borrow.Author.Rules.{rules}
 use Rattle.commit.proofs.make_blocks.Goals as goal
@@ -34,12 +28,11 @@ make_block-a-requires c =
     )
 
 pub loop-i-preserved : goal.loop-i-preserved
-loop-i-preserved c =
-    (
-      search rules,
-      search rules,
-      block_turn _ _ _ _ _ _ _ _ _ _ _ _ _ c.wide-at.ensures c.log_entry-e.ensures _ _ c.loop-i.invariant.2 c.make_block-a.ensures,
-    )
+loop-i-preserved c = (
+  search rules,
+  search rules,
+  block_turn _ _ _ _ _ _ _ _ _ _ _ _ _ c.wide-at.ensures c.log_entry-e.ensures _ _ c.loop-i.invariant.2 c.make_block-a.ensures,
+)
 
 pub returns : goal.returns
 returns c = search (each_all, rules)

@@ -1,15 +1,11 @@
 -- `make_blocks` makes the stores of every block. The invariant: those of the blocks passed are made.
 use Prim.Native.Nat.{◌≤◌, ◌-◌}
-use mathlib.Core.Path.{◌≡◌, ap}
+use mathlib.Core.Path.{◌≡◌}
 use lib.ListN.{length}
-use Rattle.protocol.specs.declared.Entry.{Entry}
 use Rattle.protocol.specs.Below.{each_below}
 use Rattle.protocol.specs.Store.{Medium}
 use Rattle.stores.specs.Did.{Did}
-use Rattle.stores.proofs.Laws.{did_start}
 use Rattle.commit.specs.Making.{plan_by, planned_block}
-use Rattle.commit.proofs.Loops.{entry_on, block_on, data_on, block_turn, each_all}
-use borrow.Author.Rules.{rules}
 use Rattle.commit.proofs.make_blocks.Given as goal
 
 abbrev pub invariant-loop-i : goal.invariant-loop-i

@@ -1,6 +1,5 @@
 -- `make_save` makes the plan's runs as far as the allowance goes.
 use Rattle.commit.proofs.Steps.{save_stored}
-use borrow.Author.Rules.{rules}
 use Rattle.commit.proofs.make_save.Goals as goal
 
 pub make_list-requires : goal.make_list-requires

@@ -1,13 +1,5 @@
 -- `make_switches` makes every role switch. The invariant: those of the blocks passed are made.
-use Prim.Native.Nat.{ℕ, ◌≤◌, ◌-◌}
-use mathlib.Core.List.{List}
-use mathlib.Core.Path.{◌≡◌}
-use lib.ListN.{length}
-use Rattle.protocol.specs.Below.{each_below}
-use Rattle.protocol.specs.Store.{Medium}
-use Rattle.stores.specs.Did.{Did}
 use Rattle.stores.proofs.Laws.{did_start}
-use Rattle.commit.specs.Making.{plan_by, planned_switch}
 use Rattle.commit.proofs.Loops.{entry_on, entry_lies, switch_turn, each_all}
 use native.Mathlib.Omega.{arith}
 use borrow.Author.Rules.{rules}

@@ -1,10 +1,5 @@
 -- `entry_fault` names what is wrong with the first entry that check 5 forbids. The invariant: it allows those passed.
-use Prim.Native.Nat.{◌≤◌, ◌-◌}
-use mathlib.Core.Bool.{false}
-use mathlib.Core.Path.{◌≡◌}
 use Rattle.protocol.specs.Below.{any_below}
-use Rattle.protocol.specs.Check.{good_entry_at}
-use Rattle.faults.specs.Fault.{fails}
 use Rattle.faults.proofs.Named.{entry_named, entry_next, entry_sound}
 use borrow.Author.Rules.{rules}
 use Rattle.faults.proofs.entry_fault.Goals as goal

@@ -5,8 +5,6 @@ use mathlib.Core.Path.{◌≡◌}
 use Rattle.protocol.specs.Below.{any_below}
 use Rattle.protocol.specs.Check.{good_entry_at}
 use Rattle.faults.specs.Fault.{fails}
-use Rattle.faults.proofs.Named.{entry_named, entry_next, entry_sound}
-use borrow.Author.Rules.{rules}
 use Rattle.faults.proofs.entry_fault.Given as goal
 
 abbrev pub invariant-loop-i : goal.invariant-loop-i

@@ -1,10 +1,5 @@
 -- `first_alike` finds the first entry that is alike to entry i. The invariant: none of those passed is.
-use Prim.Native.Nat.{◌≤◌, ◌-◌}
-use mathlib.Core.Bool.{false}
-use mathlib.Core.Path.{◌≡◌}
 use Rattle.protocol.specs.Below.{any_below}
-use Rattle.protocol.specs.Check.{apart}
-use Rattle.faults.specs.Fault.{fails}
 use Rattle.faults.proofs.Named.{alike_here, alike_next, alike_none}
 use borrow.Author.Rules.{rules}
 use Rattle.faults.proofs.first_alike.Goals as goal

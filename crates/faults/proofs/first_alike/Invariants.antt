@@ -5,8 +5,6 @@ use mathlib.Core.Path.{◌≡◌}
 use Rattle.protocol.specs.Below.{any_below}
 use Rattle.protocol.specs.Check.{apart}
 use Rattle.faults.specs.Fault.{fails}
-use Rattle.faults.proofs.Named.{alike_here, alike_next, alike_none}
-use borrow.Author.Rules.{rules}
 use Rattle.faults.proofs.first_alike.Given as goal
 
 abbrev pub invariant-loop-j : goal.invariant-loop-j

@@ -1,6 +1,5 @@
 -- `good_previous` answers its definition, from the order that was tested.
 use Rattle.faults.specs.Fault.{good_previous}
-use borrow.Author.Rules.{rules}
 use Rattle.faults.proofs.good_previous.Goals as goal
 
 pub returns : goal.returns

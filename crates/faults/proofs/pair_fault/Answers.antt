@@ -1,10 +1,5 @@
 -- `pair_fault` names the first pair that check 6 forbids. The invariant: no entry passed is alike to one before it.
-use Prim.Native.Nat.{◌≤◌, ◌-◌}
-use mathlib.Core.Bool.{false}
-use mathlib.Core.Path.{◌≡◌}
 use Rattle.protocol.specs.Below.{any_below}
-use Rattle.protocol.specs.Check.{apart_before}
-use Rattle.faults.specs.Fault.{fails}
 use Rattle.faults.proofs.Named.{pair_named, pair_next, pair_sound}
 use borrow.Author.Rules.{rules}
 use Rattle.faults.proofs.pair_fault.Goals as goal

@@ -5,8 +5,6 @@ use mathlib.Core.Path.{◌≡◌}
 use Rattle.protocol.specs.Below.{any_below}
 use Rattle.protocol.specs.Check.{apart_before}
 use Rattle.faults.specs.Fault.{fails}
-use Rattle.faults.proofs.Named.{pair_named, pair_next, pair_sound}
-use borrow.Author.Rules.{rules}
 use Rattle.faults.proofs.pair_fault.Given as goal
 
 abbrev pub invariant-loop-i : goal.invariant-loop-i

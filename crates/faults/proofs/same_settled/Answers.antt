@@ -1,6 +1,5 @@
 -- `same_settled` answers its definition, from the two settled blocks.
 use Rattle.faults.specs.Fault.{same_settled}
-use borrow.Author.Rules.{rules}
 use Rattle.faults.proofs.same_settled.Goals as goal
 
 pub returns : goal.returns

@@ -1,11 +1,6 @@
 -- `window_fault` names the first slot whose number is not below D. The invariant: none of the slots passed is one.
-use Prim.Native.Nat.{◌≤◌, ◌-◌}
-use mathlib.Core.Bool.{false}
-use mathlib.Core.Path.{◌≡◌}
 use Rattle.protocol.specs.Below.{any_below}
-use Rattle.protocol.specs.Check.{window_number_fits}
 use Rattle.ring.proofs.Laws.{window_on_ring}
-use Rattle.faults.specs.Fault.{fails}
 use Rattle.faults.proofs.Named.{window_fault_lem, window_next, window_sound}
 use borrow.Author.Rules.{rules}
 use Rattle.faults.proofs.window_fault.Goals as goal

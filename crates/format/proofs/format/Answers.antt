@@ -1,5 +1,4 @@
 -- `format` answers its definition and leaves the card as defined: one law for each answer.
-use borrow.Author.Rules.{rules}
 use Rattle.format.proofs.Laws.{done, refused_length, refused_limits}
 use Rattle.format.proofs.format.Goals as goal
 

@@ -1,5 +1,4 @@
 -- `put_fields` writes the fields: six patches side by side.
-use borrow.Author.Rules.{rules}
 use Rattle.format.proofs.Laws.{fields_put}
 use Rattle.format.proofs.put_fields.Goals as goal
 

@@ -1,6 +1,5 @@
 -- `take` lists and marks what one search after the other finds. The invariant: i of them are listed and marked. Assumes nothing.
-use Prim.Native.Nat.{◌≤◌, ◌-◌}
-use Rattle.freemap.proofs.Taking.{Taking, take-start, take_below, take_turn, take_end}
+use Rattle.freemap.proofs.Taking.{take-start, take_below, take_turn, take_end}
 use borrow.Author.Rules.{rules}
 use Rattle.freemap.proofs.take.Goals as goal
 

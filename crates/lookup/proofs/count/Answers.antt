@@ -1,9 +1,6 @@
 -- `count` counts the entries. The invariant: the total is the count of those passed.
-use Prim.Native.Nat.{◌≤◌, ◌-◌}
-use mathlib.Core.Path.{◌≡◌}
 use Rattle.protocol.specs.Below.{count_below}
 use Rattle.ring.proofs.Laws.{fitted_blocks}
-use Rattle.lookup.specs.Counted.{counted}
 use Rattle.lookup.proofs.Counting.{count_yes, count_no, count_end}
 use borrow.Author.Rules.{rules}
 use Rattle.lookup.proofs.count.Goals as goal

@@ -2,10 +2,7 @@
 use Prim.Native.Nat.{◌≤◌, ◌-◌}
 use mathlib.Core.Path.{◌≡◌}
 use Rattle.protocol.specs.Below.{count_below}
-use Rattle.ring.proofs.Laws.{fitted_blocks}
 use Rattle.lookup.specs.Counted.{counted}
-use Rattle.lookup.proofs.Counting.{count_yes, count_no, count_end}
-use borrow.Author.Rules.{rules}
 use Rattle.lookup.proofs.count.Given as goal
 
 abbrev pub invariant-loop-i : goal.invariant-loop-i

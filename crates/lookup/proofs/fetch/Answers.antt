@@ -1,6 +1,5 @@
 -- `fetch` answers and leaves its output as defined, by where the block was found and whether the output is of B bytes.
 use Rattle.lookup.proofs.Reading.{card_part, disk_part, read_refused, read_outside, read_outside_short, read_card, read_disk, read_card_short, read_disk_short}
-use borrow.Author.Rules.{rules}
 use mathlib.Core.Path.{sym, ◌∙◌}
 use Rattle.lookup.proofs.fetch.Goals as goal
 

@@ -1,8 +1,6 @@
 -- `fetch_recent` is `fetch` where the table is an arrangement, with the entry moved to the front, and else refused with 16 after 1 to 7.
 use Rattle.lookup.proofs.Recent.{read_used, read_untabled, entry_small}
-use borrow.Author.Rules.{rules}
 use mathlib.Core.Path.{sym, ◌∙◌}
-use borrow.Author.Tests.{not-false}
 use mathlib.Core.Bool.{not}
 use Rattle.std.proofs.Common.{ap}
 use Rattle.lookup.proofs.fetch_recent.Goals as goal

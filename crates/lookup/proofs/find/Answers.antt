@@ -1,6 +1,5 @@
 -- `find` answers where the block lies: of the disk it takes the length alone.
 use mathlib.Core.Path.{◌∙◌}
-use borrow.Author.Rules.{rules}
 use Rattle.lookup.proofs.Laws.{find_by_length}
 use Rattle.lookup.proofs.find.Goals as goal
 

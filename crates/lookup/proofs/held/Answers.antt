@@ -1,6 +1,5 @@
 -- `held` says who held the block, of a fetch after any refusal.
 use Rattle.lookup.proofs.Reading.{held_card, held_disk, held_refused, held_outside}
-use borrow.Author.Rules.{rules}
 use mathlib.Core.Path.{sym, ◌∙◌}
 use Rattle.lookup.proofs.held.Goals as goal
 

@@ -1,11 +1,7 @@
 -- `look` hands back the part that its definition names: where the block was found, or an empty one.
 use Rattle.lookup.proofs.Reading.{card_part, disk_part, look_card, look_disk, look_refused, look_outside}
-use borrow.Author.Rules.{rules}
 use mathlib.Core.Path.{sym, ◌∙◌}
 use native.Mathlib.Omega.{arith}
-use Rattle.lookup.proofs.look.Reads as reads
-use Rattle.lookup.proofs.look.Lts as lts
-use Rattle.lookup.proofs.find.Reads as find-reads
 use Rattle.lookup.proofs.look.Goals as goal
 
 pub overflow_add-result : goal.overflow_add-result

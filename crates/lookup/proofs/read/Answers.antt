@@ -1,5 +1,4 @@
 -- `read` says who held the block that `fetch` copied.
-use borrow.Author.Rules.{rules}
 use Rattle.lookup.proofs.read.Goals as goal
 
 pub returns-clause-answer : goal.returns-clause-answer

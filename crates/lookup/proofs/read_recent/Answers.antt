@@ -1,5 +1,4 @@
 -- `read_recent` says who held the block that `fetch_recent` copied.
-use borrow.Author.Rules.{rules}
 use Rattle.lookup.proofs.read_recent.Goals as goal
 
 pub returns-clause-answer : goal.returns-clause-answer

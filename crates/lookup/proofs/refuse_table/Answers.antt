@@ -1,7 +1,6 @@
 -- `refuse_table` gives 16 where the block was looked for.
 use mathlib.Core.Path.{sym, ap}
 use Rattle.lookup.specs.Place.{untabled}
-use borrow.Author.Rules.{rules}
 use Rattle.lookup.proofs.refuse_table.Goals as goal
 
 pub returns-in-Refused : goal.returns-in-Refused

@@ -13,12 +13,11 @@ pub returns-then-v-ne0 : goal.returns-then-v-ne0
 returns-then-v-ne0 c = search (state_damaged, rules)
 
 pub condition-c-requires : goal.condition-c-requires
-condition-c-requires c =
-    (
-      (c.fit_of-fit.ensures.framed c.if-fit-ne0.false).fitted,
-      inspected_placed _ _ _ _ c.inspect-v.ensures c.if-v-ne0.false,
-      c.inspect-v.ensures.settled_is c.if-v-ne0.false,
-    )
+condition-c-requires c = (
+  (c.fit_of-fit.ensures.framed c.if-fit-ne0.false).fitted,
+  inspected_placed _ _ _ _ c.inspect-v.ensures c.if-v-ne0.false,
+  c.inspect-v.ensures.settled_is c.if-v-ne0.false,
+)
 
 pub returns : goal.returns
 returns c = search (state_told, rules)

@@ -1,9 +1,5 @@
 -- `copy_whole` makes dst what src is. The loop's invariant: dst is as it was, with the first i bytes of src in place of its own.
-use mathlib.Core.Path.{◌≡◌}
-use Prim.Native.Nat.{◌≤◌, ◌-◌}
-use lib.ListN.{length, take}
 use borrow.Author.Rules.{rules}
-use Rattle.numbers.specs.Bytes.{patch}
 use Rattle.numbers.proofs.Turns.{copy_start, copy_turn, copy_end}
 use Rattle.numbers.proofs.copy_whole.Goals as goal
 

@@ -2,9 +2,7 @@
 use mathlib.Core.Path.{◌≡◌}
 use Prim.Native.Nat.{◌≤◌, ◌-◌}
 use lib.ListN.{length, take}
-use borrow.Author.Rules.{rules}
 use Rattle.numbers.specs.Bytes.{patch}
-use Rattle.numbers.proofs.Turns.{copy_start, copy_turn, copy_end}
 use Rattle.numbers.proofs.copy_whole.Given as goal
 
 abbrev pub invariant-loop-i : goal.invariant-loop-i

@@ -1,9 +1,5 @@
 -- `fill_whole` makes every byte v. The loop's invariant: dst is as it was, with i bytes v in place of its first.
-use mathlib.Core.Path.{◌≡◌}
-use Prim.Native.Nat.{◌≤◌, ◌-◌}
-use lib.ListN.{length, take, replicate}
 use borrow.Author.Rules.{rules}
-use Rattle.numbers.specs.Bytes.{patch}
 use Rattle.numbers.proofs.Turns.{copy_start, fill_turn, fill_end}
 use Rattle.numbers.proofs.fill_whole.Goals as goal
 

@@ -2,9 +2,7 @@
 use mathlib.Core.Path.{◌≡◌}
 use Prim.Native.Nat.{◌≤◌, ◌-◌}
 use lib.ListN.{length, take, replicate}
-use borrow.Author.Rules.{rules}
 use Rattle.numbers.specs.Bytes.{patch}
-use Rattle.numbers.proofs.Turns.{copy_start, fill_turn, fill_end}
 use Rattle.numbers.proofs.fill_whole.Given as goal
 
 abbrev pub invariant-loop-i : goal.invariant-loop-i

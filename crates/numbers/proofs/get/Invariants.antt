@@ -1,9 +1,6 @@
 -- `get` answers the number. The loop's invariant: r is the number in the first i bytes.
 use Prim.Native.Nat.{◌≤◌, ◌-◌}
-use mir.Facts.{Fits-8_64}
-use borrow.Author.Rules.{rules}
 use Rattle.numbers.specs.Post.{Number}
-use Rattle.numbers.proofs.Turns.{number_start, number_turn, number_fits_lem, number_scales, number_end}
 use Rattle.numbers.proofs.get.Given as goal
 
 abbrev pub invariant-loop-i : goal.invariant-loop-i

@@ -1,6 +1,6 @@
 -- `put` writes the number's bytes. The loop's invariant: all but the first `left` bytes are written, and `rest` has the others.
 use borrow.Author.Rules.{rules}
-use Rattle.numbers.proofs.Turns.{Written, put_start, put_turn, put_end, put_length, put_index}
+use Rattle.numbers.proofs.Turns.{put_start, put_turn, put_end, put_length, put_index}
 use Rattle.numbers.proofs.put.Goals as goal
 
 pub loop-left-init : goal.loop-left-init

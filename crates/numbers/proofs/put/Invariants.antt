@@ -1,6 +1,5 @@
 -- `put` writes the number's bytes. The loop's invariant: all but the first `left` bytes are written, and `rest` has the others.
-use borrow.Author.Rules.{rules}
-use Rattle.numbers.proofs.Turns.{Written, put_start, put_turn, put_end, put_length, put_index}
+use Rattle.numbers.proofs.Turns.{Written}
 use Rattle.numbers.proofs.put.Given as goal
 
 abbrev pub invariant-loop-left : goal.invariant-loop-left

@@ -1,10 +1,7 @@
 -- `find_places` looks up each of the window's numbers. The invariant: the places of those passed are filled in.
-use Prim.Native.Nat.{◌≤◌, ◌-◌}
-use mathlib.Core.Path.{◌≡◌, ◌∙◌}
-use lib.ListN.{length, length-set}
-use Rattle.checks.specs.Keys.{Lists}
+use mathlib.Core.Path.{◌∙◌}
+use lib.ListN.{length-set}
 use Rattle.checks.proofs.Laws.{lists_none, lists_more}
-use Rattle.pending.specs.Finishing.{place_at}
 use Rattle.pending.proofs.Finishing.{places_few, place_number, place_is, place_fits, places_end}
 use native.Mathlib.Omega.{arith}
 use borrow.Author.Rules.{rules}

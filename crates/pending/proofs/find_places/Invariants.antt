@@ -1,13 +1,9 @@
 -- `find_places` looks up each of the window's numbers. The invariant: the places of those passed are filled in.
 use Prim.Native.Nat.{◌≤◌, ◌-◌}
-use mathlib.Core.Path.{◌≡◌, ◌∙◌}
-use lib.ListN.{length, length-set}
+use mathlib.Core.Path.{◌≡◌}
+use lib.ListN.{length}
 use Rattle.checks.specs.Keys.{Lists}
-use Rattle.checks.proofs.Laws.{lists_none, lists_more}
 use Rattle.pending.specs.Finishing.{place_at}
-use Rattle.pending.proofs.Finishing.{places_few, place_number, place_is, place_fits, places_end}
-use native.Mathlib.Omega.{arith}
-use borrow.Author.Rules.{rules}
 use Rattle.pending.proofs.find_places.Given as goal
 
 abbrev pub invariant-loop-j : goal.invariant-loop-j

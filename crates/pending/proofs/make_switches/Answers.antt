@@ -1,9 +1,6 @@
 -- `make_switches` makes the role switch of each place. The invariant: those passed are made, and the entries of the others are as at the start.
-use Prim.Native.Nat.{◌≤◌, ◌-◌}
-use mathlib.Core.Path.{◌≡◌}
-use lib.ListN.{length}
 use Rattle.commit.proofs.Loops.{entry_lies, each_all}
-use Rattle.pending.proofs.Finishing.{Switching, switches_start, switch_on, switch_reads, switches_turn}
+use Rattle.pending.proofs.Finishing.{switches_start, switch_on, switch_reads, switches_turn}
 use native.Mathlib.Omega.{arith}
 use borrow.Author.Rules.{rules}
 use Rattle.pending.proofs.make_switches.Goals as goal
@@ -29,13 +26,12 @@ make_entry-left-requires c =
     entry_lies _ _ _ _ _ c.requires.0 c.loop-j.invariant.1 l c.entry_place.ensures
 
 pub loop-j-preserved : goal.loop-j-preserved
-loop-j-preserved c =
-    (
-      omega (arith, c.loop-j-test.true),
-      search rules,
-      switches_turn _ _ _ _ _ c.requires.1 c.loop-j-test.true _ _ _ _ _ _ _ _ _ c.loop-j.invariant.2 c.wide-at.ensures c.entry_of.ensures
-          c.switch_role-e.ensures c.entry_place.ensures c.make_entry-left.ensures,
-    )
+loop-j-preserved c = (
+  omega (arith, c.loop-j-test.true),
+  search rules,
+  switches_turn _ _ _ _ _ c.requires.1 c.loop-j-test.true _ _ _ _ _ _ _ _ _ c.loop-j.invariant.2 c.wide-at.ensures c.entry_of.ensures
+      c.switch_role-e.ensures c.entry_place.ensures c.make_entry-left.ensures,
+)
 
 pub returns : goal.returns
 returns c = λ ch. each_all _ _ _ _ _ _ _ ch c.loop-j.invariant.0 c.loop-j-test.false (c.loop-j.invariant.2.did ch)

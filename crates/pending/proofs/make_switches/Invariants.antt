@@ -2,10 +2,7 @@
 use Prim.Native.Nat.{◌≤◌, ◌-◌}
 use mathlib.Core.Path.{◌≡◌}
 use lib.ListN.{length}
-use Rattle.commit.proofs.Loops.{entry_lies, each_all}
-use Rattle.pending.proofs.Finishing.{Switching, switches_start, switch_on, switch_reads, switches_turn}
-use native.Mathlib.Omega.{arith}
-use borrow.Author.Rules.{rules}
+use Rattle.pending.proofs.Finishing.{Switching}
 use Rattle.pending.proofs.make_switches.Given as goal
 
 abbrev pub invariant-loop-j : goal.invariant-loop-j

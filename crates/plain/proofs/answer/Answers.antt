@@ -1,7 +1,6 @@
 -- `answer` gives each case its kind.
 use mathlib.Core.Path.{sym, ap}
 use Rattle.plain.specs.Plain.{plain_answer}
-use borrow.Author.Rules.{rules}
 use Rattle.plain.proofs.answer.Goals as goal
 
 pub returns-in-Done : goal.returns-in-Done

@@ -2,7 +2,6 @@
 use mathlib.Core.Path.{sym, ap, ◌∙◌}
 use Rattle.lookup.specs.declared.Cached.TheVariants.{Block}
 use Rattle.plain.specs.Plain.{plain_entry}
-use borrow.Author.Rules.{rules}
 use Rattle.plain.proofs.entry.Goals as goal
 
 pub returns-then-modified : goal.returns-then-modified

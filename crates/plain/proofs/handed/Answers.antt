@@ -2,7 +2,6 @@
 use mathlib.Core.Path.{sym, ap, ◌∙◌}
 use Rattle.protocol.specs.declared.Answer.{Answer}
 use Rattle.plain.specs.Plain.{words_after}
-use borrow.Author.Rules.{rules}
 use Rattle.plain.proofs.handed.Goals as goal
 
 pub returns-in-Done-clause-answer : goal.returns-in-Done-clause-answer

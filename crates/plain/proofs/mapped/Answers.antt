@@ -1,7 +1,6 @@
 -- `mapped` gives each case its kind. Assumes nothing.
 use mathlib.Core.Path.{sym, ap}
 use Rattle.plain.specs.Plain.{plain_map}
-use borrow.Author.Rules.{rules}
 use Rattle.plain.proofs.mapped.Goals as goal
 
 pub returns-in-Is : goal.returns-in-Is

@@ -1,7 +1,6 @@
 -- `other` gives another map than the one that was made. Assumes nothing.
 use mathlib.Core.Path.{sym, ap}
 use Rattle.plain.specs.Plain.{other_map}
-use borrow.Author.Rules.{rules}
 use Rattle.plain.proofs.other.Goals as goal
 
 pub returns-in-Is : goal.returns-in-Is

@@ -1,7 +1,6 @@
 -- `outcome` gives each case its kind.
 use mathlib.Core.Path.{sym, ap}
 use Rattle.plain.specs.Plain.{plain_outcome}
-use borrow.Author.Rules.{rules}
 use Rattle.plain.proofs.outcome.Goals as goal
 
 pub returns-in-Done : goal.returns-in-Done

@@ -1,7 +1,6 @@
 -- `place` gives each case its kind.
 use mathlib.Core.Path.{sym, ap, ◌∙◌}
 use Rattle.plain.specs.Plain.{plain_place}
-use borrow.Author.Rules.{rules}
 use Rattle.plain.proofs.place.Goals as goal
 
 pub returns-in-Card : goal.returns-in-Card

@@ -2,7 +2,6 @@
 use mathlib.Core.Path.{sym, ap, ◌∙◌}
 use Rattle.protocol.specs.declared.Answer.{Answer}
 use Rattle.plain.specs.Plain.{record_after}
-use borrow.Author.Rules.{rules}
 use Rattle.plain.proofs.put_record.Goals as goal
 
 pub returns-in-Done : goal.returns-in-Done

@@ -1,7 +1,6 @@
 -- `state` gives each case its kind.
 use mathlib.Core.Path.{sym, ap, ◌∙◌}
 use Rattle.plain.specs.Plain.{plain_state}
-use borrow.Author.Rules.{rules}
 use Rattle.plain.proofs.state.Goals as goal
 
 pub returns-in-Is : goal.returns-in-Is

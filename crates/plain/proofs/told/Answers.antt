@@ -1,7 +1,6 @@
 -- `told` gives each condition its kind, with the geometry.
 use mathlib.Core.Path.{sym, ap}
 use Rattle.plain.specs.Plain.{plain_condition}
-use borrow.Author.Rules.{rules}
 use Rattle.plain.proofs.told.Goals as goal
 
 pub returns-in-Settled : goal.returns-in-Settled

@@ -1,10 +1,4 @@
 -- `choice_room` answers its definition. The invariant: the largest byte so far is below 2 where none is above 1.
-use Prim.Native.Nat.{◌≤◌, ◌-◌}
-use mathlib.Core.Path.{◌≡◌}
-use lib.ListN.{length}
-use lib.Dec.{ltb}
-use Rattle.protocol.specs.Below.{all_below}
-use Rattle.protocol.specs.Check.{choice_byte_fits}
 use Rattle.plan.proofs.Request.{byte_first, byte_more, byte_less, room_whole, room_none}
 use borrow.Author.Rules.{rules}
 use Rattle.plan.proofs.choice_room.Goals as goal

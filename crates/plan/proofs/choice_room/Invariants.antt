@@ -5,8 +5,6 @@ use lib.ListN.{length}
 use lib.Dec.{ltb}
 use Rattle.protocol.specs.Below.{all_below}
 use Rattle.protocol.specs.Check.{choice_byte_fits}
-use Rattle.plan.proofs.Request.{byte_first, byte_more, byte_less, room_whole, room_none}
-use borrow.Author.Rules.{rules}
 use Rattle.plan.proofs.choice_room.Given as goal
 
 abbrev pub invariant-loop-i : goal.invariant-loop-i

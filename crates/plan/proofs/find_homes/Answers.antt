@@ -1,7 +1,5 @@
 -- `find_homes` looks up each number. The invariant: those passed are filled in.
-use Prim.Native.Nat.{◌≤◌, ◌-◌}
-use lib.ListN.{length}
-use Rattle.plan.proofs.Housing.{Found, found_start, found_turn, found_end, number_key_lem}
+use Rattle.plan.proofs.Housing.{found_start, found_turn, found_end, number_key_lem}
 use borrow.Author.Rules.{rules}
 use Rattle.plan.proofs.find_homes.Goals as goal
 

@@ -1,8 +1,7 @@
 -- `find_homes` looks up each number. The invariant: those passed are filled in.
 use Prim.Native.Nat.{◌≤◌, ◌-◌}
 use lib.ListN.{length}
-use Rattle.plan.proofs.Housing.{Found, found_start, found_turn, found_end, number_key_lem}
-use borrow.Author.Rules.{rules}
+use Rattle.plan.proofs.Housing.{Found}
 use Rattle.plan.proofs.find_homes.Given as goal
 
 abbrev pub invariant-loop-i : goal.invariant-loop-i

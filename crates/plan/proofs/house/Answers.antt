@@ -1,10 +1,10 @@
 -- `house` gives each number that is not cached the next unused entry. The invariant: those passed have theirs.
-use Prim.Native.Nat.{◌≤◌, ◌<◌, ◌-◌}
+use Prim.Native.Nat.{◌<◌}
 use lib.ListN.{length}
 use Rattle.ring.proofs.Laws.{fitted_blocks}
 use Rattle.protocol.specs.Search.{unused_entries}
 use Rattle.plan.specs.Walked.{unused_before}
-use Rattle.plan.proofs.Housing.{Walking, walking_start, walking_room, walking_past, walking_housed, walking_end}
+use Rattle.plan.proofs.Housing.{walking_start, walking_room, walking_past, walking_housed, walking_end}
 use borrow.Author.Rules.{rules}
 use Rattle.plan.proofs.house.Goals as goal
 
@@ -36,9 +36,8 @@ overflow_add-walked c =
 pub loop-i-preserved-then-entries-at-ge128 : goal.loop-i-preserved-then-entries-at-ge128
 loop-i-preserved-then-entries-at-ge128 c =
     let room' : let a = c.args in
-        unused_before a.g a.card.now c.loop-i.walked < length (unused_entries a.g a.card.now) =
-    walking_room _ _ _ _ _ _ c.loop-i.invariant.1 _ c.loop-i-test.true c.requires.4 in
-        (
+    unused_before a.g a.card.now c.loop-i.walked < length (unused_entries a.g a.card.now) =
+    walking_room _ _ _ _ _ _ c.loop-i.invariant.1 _ c.loop-i-test.true c.requires.4 in (
       search rules,
       walking_housed _ _ _ _ _ _ c.loop-i.invariant.1 _ _ _ c.requires.1 c.next_unused-j.ensures (room') (search (c.requires.3, rules)) c.if-entries-at-ge128.true
           c.place_after.ensures.0,

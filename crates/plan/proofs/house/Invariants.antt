@@ -1,11 +1,6 @@
 -- `house` gives each number that is not cached the next unused entry. The invariant: those passed have theirs.
-use Prim.Native.Nat.{◌≤◌, ◌<◌, ◌-◌}
-use lib.ListN.{length}
-use Rattle.ring.proofs.Laws.{fitted_blocks}
-use Rattle.protocol.specs.Search.{unused_entries}
-use Rattle.plan.specs.Walked.{unused_before}
-use Rattle.plan.proofs.Housing.{Walking, walking_start, walking_room, walking_past, walking_housed, walking_end}
-use borrow.Author.Rules.{rules}
+use Prim.Native.Nat.{◌≤◌, ◌-◌}
+use Rattle.plan.proofs.Housing.{Walking}
 use Rattle.plan.proofs.house.Given as goal
 
 abbrev pub invariant-loop-i : goal.invariant-loop-i

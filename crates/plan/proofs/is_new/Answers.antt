@@ -1,8 +1,5 @@
 -- `is_new` answers whether a number is none of those before it. The invariant: `fresh` says so of the first j.
-use Prim.Native.Nat.{◌≤◌, ◌-◌}
-use mathlib.Core.Path.{◌≡◌}
 use Rattle.protocol.specs.Below.{all_below}
-use Rattle.protocol.specs.Commit.{numbers_differ}
 use Rattle.plan.proofs.Request.{differ_turn, differ_end}
 use borrow.Author.Rules.{rules}
 use Rattle.plan.proofs.is_new.Goals as goal

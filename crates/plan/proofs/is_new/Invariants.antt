@@ -3,8 +3,6 @@ use Prim.Native.Nat.{◌≤◌, ◌-◌}
 use mathlib.Core.Path.{◌≡◌}
 use Rattle.protocol.specs.Below.{all_below}
 use Rattle.protocol.specs.Commit.{numbers_differ}
-use Rattle.plan.proofs.Request.{differ_turn, differ_end}
-use borrow.Author.Rules.{rules}
 use Rattle.plan.proofs.is_new.Given as goal
 
 abbrev pub invariant-loop-j : goal.invariant-loop-j

@@ -1,5 +1,4 @@
 -- `next_unused` goes on to the next unused entry. The invariant: those passed are in use.
-use Prim.Native.Nat.{◌≤◌, ◌-◌}
 use mathlib.Core.Bool.{not}
 use native.Mathlib.Omega.{arith}
 use mathlib.Core.Path.{◌≡◌, refl, sym, ap, ◌∙◌}
@@ -19,16 +18,16 @@ loop-j-init c = (search rules, refl)
 pub returns-then-not-in_use : goal.returns-then-not-in_use
 returns-then-not-in_use c =
     let here' : let a = c.args in
-        unused_at a.g a.card.now (around a.g.blocks a.start c.loop-j.j) ≡ not c.in_use.result =
+    unused_at a.g a.card.now (around a.g.blocks a.start c.loop-j.j) ≡ not c.in_use.result =
     unused_is _ _ _ _ _ _ c.place_after.ensures.0 c.entry_of-e.ensures c.in_use.ensures in
-        record { most = c.loop-j.invariant.0; passed = c.loop-j.invariant.1; found = λ _. here' ∙ (ap not c.if-not-in_use.true) }
+    record { most = c.loop-j.invariant.0; passed = c.loop-j.invariant.1; found = λ _. here' ∙ (ap not c.if-not-in_use.true) }
 
 pub loop-j-preserved : goal.loop-j-preserved
 loop-j-preserved c =
     let here' : let a = c.args in
-        unused_at a.g a.card.now (around a.g.blocks a.start c.loop-j.j) ≡ not c.in_use.result =
+    unused_at a.g a.card.now (around a.g.blocks a.start c.loop-j.j) ≡ not c.in_use.result =
     unused_is _ _ _ _ _ _ c.place_after.ensures.0 c.entry_of-e.ensures c.in_use.ensures in
-        (search rules, reach_on _ _ _ _ _ c.loop-j.invariant.1 (here' ∙ (ap not c.if-not-in_use.false)))
+    (search rules, reach_on _ _ _ _ _ c.loop-j.invariant.1 (here' ∙ (ap not c.if-not-in_use.false)))
 
 pub returns : goal.returns
 returns c =

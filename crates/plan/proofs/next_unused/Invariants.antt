@@ -1,16 +1,8 @@
 -- `next_unused` goes on to the next unused entry. The invariant: those passed are in use.
 use Prim.Native.Nat.{◌≤◌, ◌-◌}
-use mathlib.Core.Bool.{not}
-use native.Mathlib.Omega.{arith}
-use mathlib.Core.Path.{◌≡◌, refl, sym, ap, ◌∙◌}
+use mathlib.Core.Path.{◌≡◌}
 use Rattle.protocol.specs.Search.{unused_at}
-use Rattle.protocol.specs.Below.{around}
 use Rattle.plan.specs.Walked.{passed_by}
-use Rattle.plan.proofs.Housing.{unused_is}
-use Rattle.plan.proofs.Rows.{reach_on}
-use borrow.Author.Rules.{rules}
-use mathlib.Core.Bool.{not}
-use Rattle.std.proofs.Common.{ap}
 use Rattle.plan.proofs.next_unused.Given as goal
 
 abbrev pub invariant-loop-j : goal.invariant-loop-j

@@ -1,12 +1,9 @@
 -- `numbers_apart_lem` answers whether no number stands twice. The invariant: those passed are apart, and their remainders have marks.
-use Prim.Native.Nat.{◌≤◌, ◌-◌}
 use mathlib.Core.Path.{sym}
-use mathlib.Core.Logic.{⊎_elim}
-use lib.ListN.{length}
 use Rattle.protocol.specs.Commit.{numbers_apart}
 use Rattle.protocol.proofs.Below.{all_fails, all_done}
 use Rattle.plan.proofs.Request.{test_passed, test_failed}
-use Rattle.plan.proofs.Seen.{Seen, seen_start, seen_few, seen_new, seen_turn}
+use Rattle.plan.proofs.Seen.{seen_start, seen_few, seen_new, seen_turn}
 use borrow.Author.Rules.{rules}
 use Rattle.plan.proofs.numbers_apart.Goals as goal
 use Rattle.plan.proofs.numbers_apart.Goals.{then-seen-r-ne0+else-not-is_new, else-seen-r-ne0}
@@ -22,14 +19,13 @@ unfolding numbers_apart
 returns-then-not-is_new c = sym (search (all_fails, test_failed, rules))
 
 pub loop-i-preserved : goal.loop-i-preserved
-loop-i-preserved c =
-    (
-      search rules,
-      elim c.if-seen-r-ne0.branch [
-        then-seen-r-ne0+else-not-is_new w ↦ search (seen_turn, test_passed, w, rules)
-      | else-seen-r-ne0 w ↦ search (seen_turn, seen_new, w, rules)
-      ],
-    )
+loop-i-preserved c = (
+  search rules,
+  elim c.if-seen-r-ne0.branch [
+    | then-seen-r-ne0+else-not-is_new w ↦ search (seen_turn, test_passed, w, rules)
+    | else-seen-r-ne0 w ↦ search (seen_turn, seen_new, w, rules)
+  ],
+)
 
 pub returns : goal.returns
 unfolding numbers_apart

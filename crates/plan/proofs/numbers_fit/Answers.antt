@@ -1,8 +1,5 @@
 -- `numbers_fit` answers whether each number is below D. The invariant: those passed are.
-use Prim.Native.Nat.{◌≤◌, ◌-◌}
-use mathlib.Core.Bool.{true}
-use mathlib.Core.Path.{◌≡◌, sym}
-use lib.ListN.{length}
+use mathlib.Core.Path.{sym}
 use borrow.Author.Tests.{lt-ltb, le-ltb}
 use Rattle.protocol.specs.Below.{all_below}
 use Rattle.protocol.specs.Commit.{number_of, number_fits, numbers_fit}

@@ -4,7 +4,6 @@ use mathlib.Core.Path.{◌≡◌}
 use Rattle.protocol.specs.Search.{search_start}
 use Rattle.plan.proofs.Start.{start_is}
 use Rattle.plan.proofs.Order.{plan_few, plan_ready, plan_made}
-use borrow.Author.Rules.{rules}
 use Rattle.plan.proofs.plan_of.Goals as goal
 
 pub search_start-start-requires : goal.search_start-start-requires
@@ -13,18 +12,18 @@ search_start-start-requires c = c.requires.0.fitted.good
 pub take-taken-requires : goal.take-taken-requires
 take-taken-requires c =
     let start_of' : let a = c.args in
-        (c.search_start-start.result ≡ search_start a.g a.card.now) × (c.search_start-start.result < a.g.blocks) =
+    (c.search_start-start.result ≡ search_start a.g a.card.now) × (c.search_start-start.result < a.g.blocks) =
     (start_is _ _ _ _ c.requires.0.tail c.search_start-start.ensures.0, c.search_start-start.ensures.1) in
-        let h = c.requires.0 in
+    let h = c.requires.0 in
     let r = plan_ready _ _ c.args.numbers.now h.fitted.good _ h.map_is h.room _ (start_of') in
     (r.0, r.1, c.requires.2, r.2)
 
 pub house-requires : goal.house-requires
 house-requires c =
     let start_of' : let a = c.args in
-        (c.search_start-start.result ≡ search_start a.g a.card.now) × (c.search_start-start.result < a.g.blocks) =
+    (c.search_start-start.result ≡ search_start a.g a.card.now) × (c.search_start-start.result < a.g.blocks) =
     (start_is _ _ _ _ c.requires.0.tail c.search_start-start.ensures.0, c.search_start-start.ensures.1) in
-        let h = c.requires.0 in
+    let h = c.requires.0 in
     let b = start_of' in
     (h.fitted, b.0, b.1, plan_few _ _ c.args.numbers.now h.fitted.good _ h.map_is h.room, h.unused, c.requires.1.long)
 
@@ -36,8 +35,8 @@ release-requires c =
 pub returns : goal.returns
 returns c =
     let start_of' : let a = c.args in
-        (c.search_start-start.result ≡ search_start a.g a.card.now) × (c.search_start-start.result < a.g.blocks) =
+    (c.search_start-start.result ≡ search_start a.g a.card.now) × (c.search_start-start.result < a.g.blocks) =
     (start_is _ _ _ _ c.requires.0.tail c.search_start-start.ensures.0, c.search_start-start.ensures.1) in
-        let h = c.requires.0 in
+    let h = c.requires.0 in
     plan_made _ _ _ h.fitted.good _ h.map_is h.room _ (start_of') _ _ _ _ _ _ c.take-taken.ensures c.requires.1 c.house.ensures
     c.release.ensures

@@ -1,6 +1,4 @@
 -- `prepare` answers commit's refusal or its plan: one law for each answer.
-use mathlib.Core.Path.{refl}
-use lib.ListN.{length-replicate}
 use Rattle.plan.proofs.Order.{plan_few, prepared_refused, prepared_planned}
 use borrow.Author.Rules.{rules}
 use Rattle.plan.proofs.prepare.Goals as goal

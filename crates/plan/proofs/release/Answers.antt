@@ -1,6 +1,5 @@
 -- `release` clears the bits of the previous blocks. The invariant: those of the ones passed are cleared.
-use Prim.Native.Nat.{◌≤◌, ◌-◌}
-use Rattle.plan.proofs.Released.{Left, left-start, left-more, left_skip, left_end}
+use Rattle.plan.proofs.Released.{left-start, left-more, left_skip, left_end}
 use borrow.Author.Rules.{rules}
 use Rattle.plan.proofs.release.Goals as goal
 

@@ -1,7 +1,6 @@
 -- `release` clears the bits of the previous blocks. The invariant: those of the ones passed are cleared.
 use Prim.Native.Nat.{◌≤◌, ◌-◌}
-use Rattle.plan.proofs.Released.{Left, left-start, left-more, left_skip, left_end}
-use borrow.Author.Rules.{rules}
+use Rattle.plan.proofs.Released.{Left}
 use Rattle.plan.proofs.release.Given as goal
 
 abbrev pub invariant-loop-i : goal.invariant-loop-i

@@ -1,5 +1,4 @@
 -- `replaced` adds 128 to a data block below 128 where the entry is modified, so that both can be told again.
-use borrow.Author.Rules.{rules}
 use Rattle.plan.proofs.Housing.{replaced_modified, replaced_clean}
 use Rattle.plan.proofs.replaced.Goals as goal
 

@@ -1,6 +1,5 @@
 -- `save_refusal` answers its definition: one law for each answer.
 use Rattle.plan.proofs.Order.{own_request, own_full, own_passed}
-use borrow.Author.Rules.{rules}
 use Rattle.plan.proofs.save_refusal.Goals as goal
 
 pub returns-then-refusal-ne0 : goal.returns-then-refusal-ne0

@@ -1,7 +1,4 @@
 -- `tell` puts each block that was found into the same place of the output. The loop's invariant: the first i places have theirs.
-use mathlib.Core.Path.{◌≡◌}
-use Prim.Native.Nat.{ℕ, ◌≤◌, ◌<◌, ◌-◌}
-use lib.ListN.{length, get_or}
 use borrow.Author.Rules.{rules}
 use Rattle.preview.proofs.Answered.{tell_start, tell_turn, tell_end}
 use Rattle.preview.proofs.tell.Goals as goal

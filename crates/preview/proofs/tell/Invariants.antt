@@ -2,8 +2,6 @@
 use mathlib.Core.Path.{◌≡◌}
 use Prim.Native.Nat.{ℕ, ◌≤◌, ◌<◌, ◌-◌}
 use lib.ListN.{length, get_or}
-use borrow.Author.Rules.{rules}
-use Rattle.preview.proofs.Answered.{tell_start, tell_turn, tell_end}
 use Rattle.preview.proofs.tell.Given as goal
 
 abbrev pub invariant-loop-i : goal.invariant-loop-i

@@ -1,11 +1,9 @@
 -- `all_marked` joins one mark after the other. The invariant: `all` is 1 where the first i are marked, and else 0. Assumes nothing.
 use Prim.Native.Nat.{◌≤◌, ◌-◌}
-use mathlib.Core.Path.{◌≡◌, refl}
+use mathlib.Core.Path.{◌≡◌}
 use mathlib.Core.Bool.{cond}
 use Rattle.protocol.specs.Below.{all_below}
 use Rattle.recency.specs.Moved.{is_marked}
-use Rattle.recency.proofs.Marks.{join_turn, join_end}
-use borrow.Author.Rules.{rules}
 use Rattle.recency.proofs.all_marked.Given as goal
 
 abbrev pub invariant-loop-i : goal.invariant-loop-i

@@ -1,6 +1,5 @@
 -- `ascend` fills place after place with its own number. Assumes nothing.
-use Prim.Native.Nat.{◌≤◌, ◌-◌}
-use Rattle.recency.proofs.Start.{Filled, fill_start, fill_turn, fill_end}
+use Rattle.recency.proofs.Start.{fill_start, fill_turn, fill_end}
 use borrow.Author.Rules.{rules}
 use Rattle.recency.proofs.ascend.Goals as goal
 

@@ -1,7 +1,6 @@
 -- `ascend` fills place after place with its own number. Assumes nothing.
 use Prim.Native.Nat.{◌≤◌, ◌-◌}
-use Rattle.recency.proofs.Start.{Filled, fill_start, fill_turn, fill_end}
-use borrow.Author.Rules.{rules}
+use Rattle.recency.proofs.Start.{Filled}
 use Rattle.recency.proofs.ascend.Given as goal
 
 abbrev pub invariant-loop-i : goal.invariant-loop-i

@@ -1,7 +1,5 @@
 -- `marks_of` marks one number after the other. The invariant: the first i are marked, and no others. Assumes nothing.
-use Prim.Native.Nat.{◌≤◌, ◌-◌}
 use native.Mathlib.Omega.{arith}
-use Rattle.recency.specs.Moved.{Marks}
 use Rattle.recency.proofs.Marks.{marks_start, marks_turn, marks_end}
 use borrow.Author.Rules.{rules}
 use Rattle.recency.proofs.marks_of.Goals as goal

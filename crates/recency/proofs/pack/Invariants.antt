@@ -1,7 +1,6 @@
 -- `pack` reads the places from the last one down, and what is left of those read stands at the back. Assumes nothing.
 use Rattle.recency.specs.Moved.{is_marked}
-use Rattle.recency.proofs.Packing.{Packing, pack_start, pack_turn, pack_end}
-use borrow.Author.Rules.{rules}
+use Rattle.recency.proofs.Packing.{Packing}
 use Rattle.recency.proofs.pack.Given as goal
 
 abbrev pub invariant-loop-from : goal.invariant-loop-from

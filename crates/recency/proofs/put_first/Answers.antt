@@ -1,7 +1,5 @@
 -- `put_first` fills the first n places from the last one down. Assumes nothing.
-use Prim.Native.Nat.{◌≤◌, ◌-◌}
-use lib.ListN.{get_or}
-use Rattle.recency.proofs.Packing.{Putting, put_start, put_turn, put_end}
+use Rattle.recency.proofs.Packing.{put_start, put_turn, put_end}
 use borrow.Author.Rules.{rules}
 use Rattle.recency.proofs.put_first.Goals as goal
 

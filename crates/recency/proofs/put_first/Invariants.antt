@@ -1,8 +1,7 @@
 -- `put_first` fills the first n places from the last one down. Assumes nothing.
 use Prim.Native.Nat.{◌≤◌, ◌-◌}
 use lib.ListN.{get_or}
-use Rattle.recency.proofs.Packing.{Putting, put_start, put_turn, put_end}
-use borrow.Author.Rules.{rules}
+use Rattle.recency.proofs.Packing.{Putting}
 use Rattle.recency.proofs.put_first.Given as goal
 
 abbrev pub invariant-loop-i : goal.invariant-loop-i

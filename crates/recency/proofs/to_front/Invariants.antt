@@ -1,8 +1,7 @@
 -- `to_front` puts what it has in hand at each place and takes up what stood there, until that is x. Assumes nothing.
 use Prim.Native.Nat.{◌≤◌, ◌-◌}
 use lib.ListN.{length}
-use Rattle.recency.proofs.Front.{Shifting, front_start, front_turn, front_found, front_missed}
-use borrow.Author.Rules.{rules}
+use Rattle.recency.proofs.Front.{Shifting}
 use Rattle.recency.proofs.to_front.Given as goal
 
 abbrev pub invariant-loop-at : goal.invariant-loop-at

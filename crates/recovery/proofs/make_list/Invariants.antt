@@ -1,14 +1,10 @@
 -- `make_list` makes all of recovery's stores. The loop's invariant: those of the places passed are made and counted, which leaves the window
 -- and the entries ahead as they stood, and the blocks that the entries passed give up and take are noted.
 use Prim.Native.Nat.{◌+◌, ◌≤◌, ◌-◌, min}
-use borrow.Author.Rules.{rules}
 use Rattle.protocol.specs.Below.{each_below}
-use Rattle.stores.proofs.Laws.{did_length}
 use Rattle.recovery.specs.Step.{runs_at}
 use Rattle.recovery.specs.Went.{Went}
 use Rattle.recovery.specs.Blocks.{BlocksNoted}
-use Rattle.recovery.proofs.Moving.{noted_none, good_stays, noted_next, noted_last}
-use Rattle.recovery.proofs.Turns.{turn_first, turn_next, turn_last, fitted_stays, window_stays, place_fits, count_fits_lem}
 use Rattle.recovery.proofs.make_list.Given as goal
 
 abbrev pub invariant-loop-i : goal.invariant-loop-i

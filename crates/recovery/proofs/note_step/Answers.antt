@@ -1,5 +1,4 @@
 -- `note_step` notes an undone entry's blocks, and nothing of another step: one law for each of its three forms.
-use borrow.Author.Rules.{rules}
 use Rattle.recovery.proofs.Moving.{note_nothing, note_undo, note_tail, blocks_small}
 use Rattle.recovery.proofs.Turns.{undo_fits}
 use Rattle.recovery.proofs.note_step.Goals as goal

@@ -1,7 +1,6 @@
 -- `run_of` answers its definition: one law for each of the three forms.
 use Rattle.recovery.proofs.Turns.{undo_fits, run_nothing, run_undo, run_tail}
 use native.Mathlib.Omega.{arith}
-use borrow.Author.Rules.{rules}
 use Rattle.recovery.proofs.run_of.Goals as goal
 
 pub entry_place-requires : goal.entry_place-requires

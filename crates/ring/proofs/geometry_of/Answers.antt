@@ -1,6 +1,5 @@
 -- `geometry_of` answers the geometry that the header spells.
 use Rattle.protocol.specs.Layout.{geometry_of}
-use borrow.Author.Rules.{rules}
 use native.Mathlib.Omega.{arith}
 use Rattle.ring.proofs.geometry_of.Goals as goal
 

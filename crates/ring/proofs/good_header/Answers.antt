@@ -1,6 +1,5 @@
 -- `good_header` answers its definition, from what its tests answer.
 use Rattle.protocol.specs.Layout.{between, good_header}
-use borrow.Author.Rules.{rules}
 use Rattle.ring.proofs.good_header.Goals as goal
 
 pub returns : goal.returns

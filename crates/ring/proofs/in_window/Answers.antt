@@ -1,9 +1,5 @@
 -- `in_window_lem` answers whether the number stands in the window. The invariant: it stands in no slot passed.
-use Prim.Native.Nat.{◌≤◌, ◌-◌}
-use mathlib.Core.Bool.{false}
-use mathlib.Core.Path.{◌≡◌}
 use Rattle.protocol.specs.Below.{any_below}
-use Rattle.protocol.specs.Ring.{window_has}
 use Rattle.protocol.proofs.Below.{any_more}
 use Rattle.ring.proofs.Laws.{window_has_lem, window_lacks, in_window_found, in_window_none}
 use borrow.Author.Rules.{rules}

@@ -4,9 +4,6 @@ use mathlib.Core.Bool.{false}
 use mathlib.Core.Path.{◌≡◌}
 use Rattle.protocol.specs.Below.{any_below}
 use Rattle.protocol.specs.Ring.{window_has}
-use Rattle.protocol.proofs.Below.{any_more}
-use Rattle.ring.proofs.Laws.{window_has_lem, window_lacks, in_window_found, in_window_none}
-use borrow.Author.Rules.{rules}
 use Rattle.ring.proofs.in_window.Given as goal
 
 abbrev pub invariant-loop-j : goal.invariant-loop-j

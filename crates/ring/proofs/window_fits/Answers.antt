@@ -1,9 +1,6 @@
 -- `window_fits` answers whether every number in the window is below D. The invariant: those passed are.
-use Prim.Native.Nat.{◌≤◌, ◌-◌}
-use mathlib.Core.Bool.{true}
-use mathlib.Core.Path.{◌≡◌, sym}
+use mathlib.Core.Path.{sym}
 use Rattle.protocol.specs.Below.{all_below}
-use Rattle.protocol.specs.Check.{window_number_fits}
 use Rattle.protocol.proofs.Below.{all_more, all_fails, all_done}
 use Rattle.ring.proofs.Laws.{window_number_fits_lem, window_number_misfits}
 use borrow.Author.Rules.{rules}

@@ -1,12 +1,9 @@
 -- `window_fits` answers whether every number in the window is below D. The invariant: those passed are.
 use Prim.Native.Nat.{◌≤◌, ◌-◌}
 use mathlib.Core.Bool.{true}
-use mathlib.Core.Path.{◌≡◌, sym}
+use mathlib.Core.Path.{◌≡◌}
 use Rattle.protocol.specs.Below.{all_below}
 use Rattle.protocol.specs.Check.{window_number_fits}
-use Rattle.protocol.proofs.Below.{all_more, all_fails, all_done}
-use Rattle.ring.proofs.Laws.{window_number_fits_lem, window_number_misfits}
-use borrow.Author.Rules.{rules}
 use Rattle.ring.proofs.window_fits.Given as goal
 
 abbrev pub invariant-loop-j : goal.invariant-loop-j

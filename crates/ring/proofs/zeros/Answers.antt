@@ -1,9 +1,5 @@
 -- `zeros` answers whether every byte is zero. The invariant: what was read is 0 where the bytes passed are.
-use Prim.Native.Nat.{◌*◌, ◌≤◌, ◌-◌}
-use mathlib.Core.Path.{◌≡◌}
-use lib.Dec.{eqb}
 use Rattle.protocol.specs.Below.{all_below}
-use Rattle.protocol.specs.Layout.{zero_from}
 use Rattle.ring.proofs.Laws.{zeros_turn, zeros_end}
 use borrow.Author.Rules.{rules}
 use Rattle.ring.proofs.zeros.Goals as goal

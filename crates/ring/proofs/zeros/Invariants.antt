@@ -4,8 +4,6 @@ use mathlib.Core.Path.{◌≡◌}
 use lib.Dec.{eqb}
 use Rattle.protocol.specs.Below.{all_below}
 use Rattle.protocol.specs.Layout.{zero_from}
-use Rattle.ring.proofs.Laws.{zeros_turn, zeros_end}
-use borrow.Author.Rules.{rules}
 use Rattle.ring.proofs.zeros.Given as goal
 
 abbrev pub invariant-loop-i : goal.invariant-loop-i

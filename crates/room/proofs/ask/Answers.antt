@@ -1,5 +1,4 @@
 -- `ask` answers all refusals but 14, or what the search for victims goes on from: one law for each answer.
-use borrow.Author.Rules.{rules}
 use Rattle.room.proofs.Asking.{asked_met, asked_own, asked_passed}
 use Rattle.room.proofs.ask.Goals as goal
 

@@ -1,5 +1,4 @@
 -- `choose` answers 14, or where the numbers are cached and the victims: one law for each answer.
-use borrow.Author.Rules.{rules}
 use Rattle.protocol.proofs.Recency.{arranged_length}
 use Rattle.room.proofs.Sifting.{chosen_many, chosen_few, chosen}
 use Rattle.room.proofs.choose.Goals as goal

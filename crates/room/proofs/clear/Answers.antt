@@ -1,8 +1,5 @@
 -- `clear` makes the evictions in turn. The invariant: those passed are made as far as the credit goes.
-use Prim.Native.Nat.{◌≤◌, ◌-◌}
 use Rattle.stores.proofs.Laws.{did_length}
-use Rattle.room.specs.Made.{taken_runs}
-use Rattle.transfer.specs.Moved.{Both}
 use Rattle.room.proofs.Clearing.{clear_few, clear_start, clear_cut, clear_place, clear_leaving, clear_turn, clear_end}
 use borrow.Author.Rules.{rules}
 use Rattle.room.proofs.clear.Goals as goal

@@ -1,5 +1,4 @@
 -- `commit` answers its definition, hands its map on and leaves both media and the table as defined, refused or not.
-use borrow.Author.Rules.{rules}
 use Rattle.room.proofs.Prepared.{room_refused, room_makeable}
 use Rattle.room.proofs.commit.Goals as goal
 

@@ -1,11 +1,10 @@
 -- `gather` finds the first victims in one walk over the table. The invariant: those that the walk has passed stand in the row, in their order.
 use Prim.Native.Nat.{ℕ, ◌+◌, ◌≤◌}
 use mathlib.Core.List.{List}
-use mathlib.Core.Path.{◌≡◌, sym, ◌∙◌}
+use mathlib.Core.Path.{◌≡◌}
 use lib.ListN.{length}
 use Rattle.room.specs.Made.{Sifting}
-use Rattle.room.proofs.Sifting.{Swept, swept_start, swept_past, swept_found, swept_enough, swept_end}
-use borrow.Author.Rules.{rules}
+use Rattle.room.proofs.Sifting.{Swept}
 use Rattle.room.proofs.gather.Given as goal
 
 abbrev pub invariant-loop-j : goal.invariant-loop-j

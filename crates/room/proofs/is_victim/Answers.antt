@@ -1,5 +1,4 @@
 -- `is_victim` tells the victims by the entry's flag and its mark: one law for each answer.
-use borrow.Author.Rules.{rules}
 use Rattle.room.proofs.Sifting.{victim_far, victim_marked, victim_clear}
 use Rattle.room.proofs.is_victim.Goals as goal
 

@@ -1,6 +1,5 @@
 -- `prepare` answers all refusals, 14 the last of them, or what making the commit starts from.
 use mathlib.Core.Path.{sym, ◌∙◌}
-use borrow.Author.Rules.{rules}
 use Rattle.room.proofs.Asking.{asked_fits}
 use Rattle.room.proofs.Sifting.{asked_fit}
 use Rattle.room.proofs.Prepared.{prepared_asked, prepared_chosen}

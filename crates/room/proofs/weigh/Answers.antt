@@ -1,7 +1,7 @@
 -- `weigh` counts the stores and notes the data blocks. The invariant: those of the victims passed are counted and noted.
-use Prim.Native.Nat.{◌≤◌, ◌-◌}
+use Prim.Native.Nat.{◌≤◌}
 use native.Mathlib.Omega.{arith}
-use Rattle.room.proofs.Clearing.{clear_few, place_below, Counting, counting_start, count_few, current_few, counting_turn, counting_end}
+use Rattle.room.proofs.Clearing.{clear_few, place_below, counting_start, count_few, current_few, counting_turn, counting_end}
 use borrow.Author.Rules.{rules}
 use Rattle.room.proofs.weigh.Goals as goal
 

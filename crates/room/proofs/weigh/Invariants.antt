@@ -1,8 +1,6 @@
 -- `weigh` counts the stores and notes the data blocks. The invariant: those of the victims passed are counted and noted.
 use Prim.Native.Nat.{◌≤◌, ◌-◌}
-use native.Mathlib.Omega.{arith}
-use Rattle.room.proofs.Clearing.{clear_few, place_below, Counting, counting_start, count_few, current_few, counting_turn, counting_end}
-use borrow.Author.Rules.{rules}
+use Rattle.room.proofs.Clearing.{Counting}
 use Rattle.room.proofs.weigh.Given as goal
 
 abbrev pub invariant-loop-k : goal.invariant-loop-k

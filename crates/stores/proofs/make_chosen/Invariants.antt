@@ -1,11 +1,9 @@
 -- `make_chosen` makes the chosen units. The invariant: those of the units passed are made.
-use Prim.Native.Nat.{ℕ, ◌+◌, ◌≤◌, ◌<◌, ◌-◌, ◌*◌, ◌^◌}
-use mathlib.Core.Path.{◌≡◌, sym, subst}
+use Prim.Native.Nat.{◌≤◌, ◌-◌, ◌*◌, ◌^◌}
+use mathlib.Core.Path.{◌≡◌}
 use lib.ListN.{length}
 use Rattle.numbers.specs.Bytes.{part}
 use Rattle.protocol.specs.Store.{Medium, made_on, chosen, units}
-use Rattle.stores.proofs.Laws.{unit_sum, unit_room, chosen-start, chosen_turn, chosen_passed, chosen_end}
-use borrow.Author.Rules.{rules}
 use Rattle.stores.proofs.make_chosen.Given as goal
 
 abbrev pub invariant-loop-i : goal.invariant-loop-i

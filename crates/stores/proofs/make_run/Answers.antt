@@ -1,6 +1,5 @@
 -- `make_run` makes what the run stands for: one law for each of its kinds.
 use lib.ListN.{length}
-use borrow.Author.Rules.{rules}
 use Rattle.stores.proofs.Tells.{nothing_made, words-made, sectors-made, entry_made, word_made, words_asked, sectors_asked, entry_asked, word_asked}
 use Rattle.stores.proofs.make_run.Goals as goal
 

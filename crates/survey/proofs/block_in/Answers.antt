@@ -1,9 +1,5 @@
 -- `block_in` answers its definition. The invariant: `free` says whether none of the entries passed takes the block.
-use Prim.Native.Nat.{◌≤◌, ◌-◌}
-use mathlib.Core.Bool.{not}
-use mathlib.Core.Path.{◌≡◌}
 use Rattle.protocol.specs.Below.{any_below}
-use Rattle.survey.specs.Raw.{needed_by}
 use Rattle.survey.proofs.Laws.{none_more, block_free, block_taken}
 use borrow.Author.Rules.{rules}
 use Rattle.survey.proofs.block_in.Goals as goal

@@ -4,8 +4,6 @@ use mathlib.Core.Bool.{not}
 use mathlib.Core.Path.{◌≡◌}
 use Rattle.protocol.specs.Below.{any_below}
 use Rattle.survey.specs.Raw.{needed_by}
-use Rattle.survey.proofs.Laws.{none_more, block_free, block_taken}
-use borrow.Author.Rules.{rules}
 use Rattle.survey.proofs.block_in.Given as goal
 
 abbrev pub invariant-loop-i : goal.invariant-loop-i

@@ -1,7 +1,6 @@
 -- What is cached is told by `cached_at`.
 use mathlib.Core.Path.{ap, ◌∙◌}
 use Rattle.plain.specs.Plain.{plain_entry}
-use borrow.Author.Rules.{rules}
 use Rattle.tinca.proofs.tinca_cached.Goals as goal
 
 pub returns : goal.returns

@@ -2,7 +2,6 @@
 use Rattle.protocol.specs.declared.Map.{Map}
 use Rattle.protocol.specs.Load.{evict_work}
 use Rattle.plain.proofs.Lending.{lent_both}
-use borrow.Author.Rules.{rules}
 use Rattle.tinca.proofs.tinca_evict.Goals as goal
 
 pub returns-clause-answer : goal.returns-clause-answer
@@ -17,18 +16,18 @@ returns-clause-card c =
     (let x = c.args in
     let e = c.evict.ensures in
     lent_both (λ (m : Map). evict_work 2 x.card.now x.disk.now m x.block x.choice.now) _ _ _ _ _ _ _ c.lent-m.ensures e.answer e.map
-    (c.handed.ensures.answer, c.handed.ensures.words) _ _ _ e.card e.disk).1
+    (c.handed.ensures.answer, c.handed.ensures.words) _ _ _ e.card e.disk).1.0
 
 pub returns-clause-disk : goal.returns-clause-disk
 returns-clause-disk c =
     (let x = c.args in
     let e = c.evict.ensures in
     lent_both (λ (m : Map). evict_work 2 x.card.now x.disk.now m x.block x.choice.now) _ _ _ _ _ _ _ c.lent-m.ensures e.answer e.map
-    (c.handed.ensures.answer, c.handed.ensures.words) _ _ _ e.card e.disk).2
+    (c.handed.ensures.answer, c.handed.ensures.words) _ _ _ e.card e.disk).1.1.0
 
 pub returns-clause-map : goal.returns-clause-map
 returns-clause-map c =
     (let x = c.args in
     let e = c.evict.ensures in
     lent_both (λ (m : Map). evict_work 2 x.card.now x.disk.now m x.block x.choice.now) _ _ _ _ _ _ _ c.lent-m.ensures e.answer e.map
-    (c.handed.ensures.answer, c.handed.ensures.words) _ _ _ e.card e.disk).3
+    (c.handed.ensures.answer, c.handed.ensures.words) _ _ _ e.card e.disk).1.1.1

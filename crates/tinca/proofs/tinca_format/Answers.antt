@@ -1,7 +1,6 @@
 -- The answer and the card are those of `format`.
 use mathlib.Core.Path.{ap, ◌∙◌}
 use Rattle.plain.specs.Plain.{plain_outcome}
-use borrow.Author.Rules.{rules}
 use Rattle.tinca.proofs.tinca_format.Goals as goal
 
 pub returns-clause-answer : goal.returns-clause-answer

@@ -1,7 +1,6 @@
 -- The place is that of `find`.
 use mathlib.Core.Path.{ap, ◌∙◌}
 use Rattle.plain.specs.Plain.{plain_place}
-use borrow.Author.Rules.{rules}
 use Rattle.tinca.proofs.tinca_look.Goals as goal
 
 pub returns : goal.returns

@@ -1,7 +1,6 @@
 -- The map is that of `make_map`. Assumes nothing.
 use mathlib.Core.Path.{ap, ◌∙◌}
 use Rattle.plain.specs.Plain.{plain_map}
-use borrow.Author.Rules.{rules}
 use Rattle.tinca.proofs.tinca_make_map.Goals as goal
 
 pub returns : goal.returns

@@ -1,7 +1,6 @@
 -- The record is that of `open`. Assumes nothing.
 use mathlib.Core.Path.{ap, ◌∙◌}
 use Rattle.plain.specs.Plain.{plain_record}
-use borrow.Author.Rules.{rules}
 use Rattle.tinca.proofs.tinca_open.Goals as goal
 
 pub returns : goal.returns

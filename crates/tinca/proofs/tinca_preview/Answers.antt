@@ -3,15 +3,14 @@ use mathlib.Core.Path.{ap, ◌∙◌}
 use Rattle.protocol.specs.declared.Map.{Map}
 use Rattle.protocol.specs.Preview.{preview_answer, blocks_after}
 use Rattle.plain.specs.Plain.{plain_answer}
-use borrow.Author.Rules.{rules}
 use Rattle.tinca.proofs.tinca_preview.Goals as goal
 
 pub returns-clause-answer : goal.returns-clause-answer
 returns-clause-answer c =
     let x = c.args in
     c.answer.ensures
-          ∙ ap plain_answer
-          (c.preview.ensures.answer ∙ ap (λ (m : Map). preview_answer x.card.now m x.numbers.now x.bytes.now x.blocks.now) c.lent-m.ensures)
+    ∙ ap plain_answer
+    (c.preview.ensures.answer ∙ ap (λ (m : Map). preview_answer x.card.now m x.numbers.now x.bytes.now x.blocks.now) c.lent-m.ensures)
 
 pub returns-clause-blocks : goal.returns-clause-blocks
 returns-clause-blocks c =

@@ -1,7 +1,6 @@
 -- The state is that of `state`.
 use mathlib.Core.Path.{ap, ◌∙◌}
 use Rattle.plain.specs.Plain.{plain_state}
-use borrow.Author.Rules.{rules}
 use Rattle.tinca.proofs.tinca_state_of.Goals as goal
 
 pub returns : goal.returns

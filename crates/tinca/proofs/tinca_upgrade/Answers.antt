@@ -1,6 +1,5 @@
 -- `tinca_upgrade` answers as upgrade does, in the plain struct.
 use mathlib.Core.Path.{ap, ◌∙◌}
-use borrow.Author.Rules.{rules}
 use Rattle.plain.specs.Plain.{plain_answer}
 use Rattle.tinca.proofs.tinca_upgrade.Goals as goal
 

@@ -1,5 +1,4 @@
 -- `examine` answers the refusals that load and evict share, or what they go on from: one law for each answer.
-use borrow.Author.Rules.{rules}
 use Rattle.transfer.proofs.Shared.{examined_refused, examined_choice, examined_outside, examined_passed}
 use Rattle.transfer.proofs.examine.Goals as goal
 

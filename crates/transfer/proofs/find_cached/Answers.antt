@@ -1,5 +1,4 @@
 -- `find_cached` answers all of evict's refusals, or the entry's place.
-use borrow.Author.Rules.{rules}
 use Rattle.transfer.proofs.Found.{examined_key, located_refused, located_found, located_missing}
 use Rattle.transfer.proofs.find_cached.Goals as goal
 

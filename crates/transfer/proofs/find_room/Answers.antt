@@ -1,5 +1,4 @@
 -- `find_room` answers all of load's refusals, or the places: the shared ones stand first.
-use borrow.Author.Rules.{rules}
 use Rattle.transfer.proofs.Found.{examined_inside, roomed_refused, roomed_chosen}
 use Rattle.transfer.proofs.find_room.Goals as goal
 

@@ -1,5 +1,4 @@
 -- `load` answers its definition, hands its map on and leaves the card and the table as defined, refused or not; the disk stays.
-use borrow.Author.Rules.{rules}
 use Rattle.transfer.proofs.Found.{load_goes, load_touches}
 use Rattle.transfer.proofs.Moving.{load_refused, load_finished}
 use Rattle.transfer.proofs.load.Goals as goal

@@ -1,6 +1,5 @@
 -- `make_evict` takes the block off under a credit for all its stores, and answers by their count.
 use mathlib.Core.List.{[]}
-use borrow.Author.Rules.{rules}
 use Rattle.transfer.proofs.Moving.{evict_short, evicted}
 use Rattle.transfer.proofs.make_evict.Goals as goal
 

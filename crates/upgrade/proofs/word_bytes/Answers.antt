@@ -1,5 +1,4 @@
 -- `word_bytes` puts the word into the front of sixteen zeros.
-use borrow.Author.Rules.{rules}
 use mathlib.Core.Path.{refl}
 use Rattle.upgrade.proofs.Laws.{word_put}
 use Rattle.upgrade.proofs.word_bytes.Goals as goal

@@ -1,5 +1,5 @@
 -- `open` gives the record of a settled card, or the refusal.
-use Rattle.pending.proofs.Meeting.{open_misfit, open_framed, open_refused, open_given}
+use Rattle.pending.proofs.Meeting.{open_misfit, open_refused, open_given}
 use borrow.Author.Rules.{rules}
 use Rattle.pending.proofs.Save.open.Goals as goal
 

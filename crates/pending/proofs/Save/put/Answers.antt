@@ -1,7 +1,6 @@
 -- `put` answers as its definition does, hands on map and record and leaves the card so.
 use Rattle.pending.proofs.Putting.{never_done, put_refused, puttable, count_low, put_block}
 use mathlib.Core.Path.{sym, ◌∙◌}
-use borrow.Author.Rules.{rules}
 use Rattle.pending.proofs.Save.put.Goals as goal
 
 pub hand_back-requires : goal.hand_back-requires
