@@ -2,7 +2,8 @@
 // bytes; so each store is made in memory too, only after the file has it, and the contracts speak of that.
 #![tactic(auto)]
 
-ghost use Rattle.std.specs.Prelude.{◌≡◌, true, List, ◌++◌, ℕ, ◌+◌, ◌≤◌, ◌<◌, length, IfOk};
+ghost use Rattle.std.specs.Prelude.{◌≡◌, true, List, ◌++◌, ℕ, ◌+◌, ◌≤◌, ◌<◌, ◌↔◌, length, IfOk, IsOk};
+ghost use Rattle.std.specs.Str.{IsUtf8};
 ghost use Rattle.protocol.specs.Store.{Run};
 ghost use Rattle.protocol.specs.Recover.{recover_runs};
 ghost use Rattle.recovery.specs.Step.{step_runs, undoes};
@@ -26,7 +27,10 @@ pub fn buffer() -> [u8; 528513]
 }
 
 // The path as text, which is how std names a file. A name of other bytes is refused.
-pub fn name(path: &[u8]) -> io::Result<&str> {
+pub fn name(path: &[u8]) -> io::Result<&str>
+    ensures ok { IfOk result (λ text. text.now ≡ path.now) }
+    ensures succeeds { IsOk result ↔ IsUtf8 path.now }
+{
     match str::from_utf8(path) {
         Ok(text) => Ok(text),
         Err(_) => Err(io::Error::new(ErrorKind::InvalidInput, "the name is not UTF-8")),
