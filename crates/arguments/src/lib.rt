@@ -1,7 +1,7 @@
 // The program's arguments as numbers, how many there are, and whether one came whole.
 #![tactic(auto)]
 
-ghost use Rattle.std.specs.Prelude.{◌≡◌, true, ◌-◌, ◌≤◌, min, length};
+ghost use Rattle.std.specs.Prelude.{◌≡◌, true, ◌-◌, ◌≤◌, min, length, take};
 
 use std::env::FillError;
 use std::rt::Env;
@@ -49,7 +49,7 @@ pub struct ArgumentList {
 // The numbers from argument 3 up to `end`. The first 256 are kept: no card takes a save of more than 255, and one that refuses 256 for their
 // count refuses more of them with the same number.
 pub fn numbers(env: &impl Env, end: usize) -> ArgumentList
-    ensures { (result.count ≤ 256) × (result.count ≤ length result.list) × (result.all ≡ true → result.count ≡ min (end - 3) 256) }
+    ensures { (result.count ≤ 256) × (result.count ≤ length result.list) × (result.count ≡ length (take result.count result.list)) × (result.all ≡ true → result.count ≡ min (end - 3) 256) }
 {
     let mut list = [0u64; 256];
     let mut kept: usize = 0;

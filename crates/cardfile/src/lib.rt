@@ -1,7 +1,7 @@
 // A card's file, opened and read, and what is wrong with it, in a line on standard error.
 #![tactic(auto)]
 
-ghost use Rattle.std.specs.Prelude.{◌≡◌, ◌≤◌, length, IfSome};
+ghost use Rattle.std.specs.Prelude.{◌≡◌, ◌≤◌, length, take, IfSome};
 
 use listing::{count, fail, say};
 use std::fs::{File, OpenOptions};
@@ -51,7 +51,7 @@ pub fn open_update(rt: &HostRuntime, path: &[u8]) -> Option<File> {
 
 // Reads the file, and returns how many bytes it put at the front of the buffer; or none, and it is said what went wrong.
 pub fn load(rt: &HostRuntime, path: &[u8], file: &mut File, buf: &mut [u8]) -> Option<usize>
-    ensures within { IfSome result (λ count. count ≤ length buf.new) }
+    ensures within { IfSome result (λ count. (count ≤ length buf.new) × (count ≡ length (take count buf.new))) }
     ensures kept { length buf.new ≡ length buf.old }
 {
     match image::read(file, buf) {
@@ -65,7 +65,7 @@ pub fn load(rt: &HostRuntime, path: &[u8], file: &mut File, buf: &mut [u8]) -> O
 
 // Opens the file, reads it and closes it, and says what went wrong.
 pub fn fetch(rt: &HostRuntime, path: &[u8], buf: &mut [u8]) -> Option<usize>
-    ensures within { IfSome result (λ count. count ≤ length buf.new) }
+    ensures within { IfSome result (λ count. (count ≤ length buf.new) × (count ≡ length (take count buf.new))) }
     ensures kept { length buf.new ≡ length buf.old }
 {
     let mut file = open(rt, path)?;

@@ -2,7 +2,7 @@
 // bytes; so each store is made in memory too, only after the file has it, and the contracts speak of that.
 #![tactic(auto)]
 
-ghost use Rattle.std.specs.Prelude.{◌≡◌, true, List, ◌++◌, ℕ, ◌+◌, ◌≤◌, ◌<◌, ◌↔◌, length, IfOk, IsOk};
+ghost use Rattle.std.specs.Prelude.{◌≡◌, true, List, ◌++◌, ℕ, ◌+◌, ◌≤◌, ◌<◌, ◌↔◌, length, IfOk, IsOk, take};
 ghost use Rattle.std.specs.Str.{IsUtf8};
 ghost use Rattle.protocol.specs.Store.{Run};
 ghost use Rattle.protocol.specs.Recover.{recover_runs};
@@ -40,7 +40,7 @@ pub fn name(path: &[u8]) -> io::Result<&str>
 // Reads the file's first bytes, as many as the buffer holds, and returns how many it put at the front. Where a read fails, what was read
 // before it is of no use.
 pub fn read(file: &mut impl Read, buf: &mut [u8]) -> io::Result<usize>
-    ensures within { IfOk result (λ count. count ≤ length buf.new) }
+    ensures within { IfOk result (λ count. (count ≤ length buf.new) × (count ≡ length (take count buf.new))) }
     ensures kept { length buf.new ≡ length buf.old }
 {
     let mut count = 0;
