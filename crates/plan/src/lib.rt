@@ -90,7 +90,7 @@ pub fn choice_room(choice: &[u8]) -> usize
 }
 
 // 8, 9, 17, 10 and 11, which the numbers, the data's length and the choice's room decide alone. Nothing is shifted before the count has passed:
-// typeof.n.B then fits a word.
+// n·B then fits a word.
 pub fn request_refusal(g: Geometry, numbers: &[u64], size: usize, room: usize) -> u8
     requires { good_geometry g ≡ true }
     ensures { result ≡ request_refusal g numbers.now size room }

@@ -9,7 +9,7 @@ use Rattle.protocol.specs.declared.Entry.{Entry}
 use Rattle.protocol.specs.Entry.{FRESH, entry_of, unused, in_use, is_modified, has_log_role, was_modified, allowed_flags, is_unused, good_entry, log_flags, switched, undone_flags}
 use Rattle.protocol.proofs.Below.{either, and_left, and_right, and_both, or_true, or_left, or_right, absurd_bool}
 
--- an in_use_lem entry's flag byte, with the version v: clean, modified, or in the log; with P only in version 2
+-- an in-use entry's flag byte, with the version v: clean, modified, or in the log; with P only in version 2
 pub data Flag (v f : ℕ) : Type 0 where
   clean : f ≡ 0x80 → Flag v f
   modified : f ≡ 0x82 → Flag v f
@@ -17,7 +17,7 @@ pub data Flag (v f : ℕ) : Type 0 where
   modified_over : v ≡ 2 → f ≡ 0x86 → Flag v f
   logged_over : v ≡ 2 → f ≡ 0x87 → Flag v f
 
--- an in_use_lem entry with the version v, N data blocks and D disk blocks
+-- an in-use entry with the version v, N data blocks and D disk blocks
 pub record UsedEntry (v n d : ℕ) (e : Entry) : Type 0 where
   pub flag : Flag v e.flags
   pub number_below : e.number < d

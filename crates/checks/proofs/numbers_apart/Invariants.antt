@@ -1,4 +1,4 @@
--- `numbers_apart_lem` answers whether the numbers are distinct. The invariant: those of the entries passed are.
+-- `numbers_apart` answers whether the numbers are distinct. The invariant: those of the entries passed are.
 use Rattle.std.proofs.Common.{◌≡◌, ◌-◌, ◌≤◌, true}
 use Rattle.protocol.specs.Below.{all_below}
 use Rattle.checks.specs.Keys.{NONE, number_key, lone}

@@ -1,4 +1,4 @@
--- `in_use_lem` answers its definition, by computing it.
+-- `in_use` answers its definition, by computing it.
 use mathlib.Core.Path.{refl}
 use Rattle.protocol.specs.Entry.{in_use}
 use Rattle.codec.proofs.in_use.Goals as goal

@@ -1,4 +1,4 @@
--- `numbers_apart_lem` answers whether no number stands twice. The invariant: those passed are apart, and their remainders have marks.
+-- `numbers_apart` answers whether no number stands twice. The invariant: those passed are apart, and their remainders have marks.
 use mathlib.Core.Path.{sym}
 use Rattle.protocol.specs.Commit.{numbers_apart}
 use Rattle.protocol.proofs.Below.{all_fails, all_done}

@@ -1,4 +1,4 @@
--- `numbers_apart_lem` answers whether no number stands twice. The invariant: those passed are apart, and their remainders have marks.
+-- `numbers_apart` answers whether no number stands twice. The invariant: those passed are apart, and their remainders have marks.
 use Prim.Native.Nat.{◌≤◌, ◌-◌}
 use lib.ListN.{length}
 use Rattle.plan.proofs.Seen.{Seen}

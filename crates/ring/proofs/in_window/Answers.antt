@@ -1,4 +1,4 @@
--- `in_window_lem` answers whether the number stands in the window. The invariant: it stands in no slot passed.
+-- `in_window` answers whether the number stands in the window. The invariant: it stands in no slot passed.
 use Rattle.protocol.specs.Below.{any_below}
 use Rattle.protocol.proofs.Below.{any_more}
 use Rattle.ring.proofs.Laws.{window_has_lem, window_lacks, in_window_found, in_window_none}

@@ -1,4 +1,4 @@
--- `in_window_lem` answers whether the number stands in the window. The invariant: it stands in no slot passed.
+-- `in_window` answers whether the number stands in the window. The invariant: it stands in no slot passed.
 use Prim.Native.Nat.{◌≤◌, ◌-◌}
 use mathlib.Core.Bool.{false}
 use mathlib.Core.Path.{◌≡◌}
