@@ -1,5 +1,7 @@
-// The types of the cache's calls. What the calls mean stands in specs/, in the order of document 01; no code is here.
+// The types of the cache's calls, and the words that a program prints of an answer. What the calls mean stands in specs/, in the order of document 01.
 #![tactic(auto)]
+
+use std::fmt;
 
 // An entry's previous block where the block number was not cached before: no data block has this number.
 pub const FRESH: u32 = 0xFFFF_FFFF;
@@ -28,6 +30,16 @@ pub enum Answer {
     Done(u64),
     Cut,
     Refused(u8),
+}
+
+impl fmt::Display for Answer {
+    fn fmt<W: fmt::Write>(&self, f: &mut fmt::Formatter<W>) -> fmt::Result {
+        match self {
+            Answer::Done(stores) => write!(f, "done {stores}"),
+            Answer::Cut => write!(f, "cut"),
+            Answer::Refused(r) => write!(f, "refused {r}"),
+        }
+    }
 }
 
 // A map of the card's data blocks, a bit for each: bit d mod 64, from the lowest, of word d / 64 is set unless data block d is free.
@@ -72,6 +84,15 @@ pub enum Outcome {
     Refused(u8),
 }
 
+impl fmt::Display for Outcome {
+    fn fmt<W: fmt::Write>(&self, f: &mut fmt::Formatter<W>) -> fmt::Result {
+        match self {
+            Outcome::Done => write!(f, "done"),
+            Outcome::Refused(r) => write!(f, "refused {r}"),
+        }
+    }
+}
+
 // A single entry as it was read: its fields, or a refusal's number.
 #[derive(Clone, Copy)]
 pub enum Decoded {
@@ -94,11 +115,30 @@ pub enum Held {
     Refused(u8),
 }
 
+impl fmt::Display for Held {
+    fn fmt<W: fmt::Write>(&self, f: &mut fmt::Formatter<W>) -> fmt::Result {
+        match self {
+            Held::Card => write!(f, "card"),
+            Held::Disk => write!(f, "disk"),
+            Held::Refused(r) => write!(f, "refused {r}"),
+        }
+    }
+}
+
 // A card's condition: settled, with its in-use and modified entries, or unsettled, with its undoable entries and the window's slots.
 #[derive(Clone, Copy)]
 pub enum Condition {
     Settled { used: u64, modified: u64 },
     Unsettled { undoable: u64, window: u64 },
+}
+
+impl fmt::Display for Condition {
+    fn fmt<W: fmt::Write>(&self, f: &mut fmt::Formatter<W>) -> fmt::Result {
+        match self {
+            Condition::Settled { used, modified } => write!(f, "settled {used} {modified}"),
+            Condition::Unsettled { undoable, window } => write!(f, "unsettled {undoable} {window}"),
+        }
+    }
 }
 
 // The geometry together with the condition.
@@ -108,9 +148,29 @@ pub struct State {
     pub condition: Condition,
 }
 
+impl fmt::Display for State {
+    fn fmt<W: fmt::Write>(&self, f: &mut fmt::Formatter<W>) -> fmt::Result {
+        let g = &self.geometry;
+        write!(
+            f,
+            "{} {} {} {} {}",
+            g.k, g.slots, g.blocks, g.disk, self.condition
+        )
+    }
+}
+
 // A card's state, or a refusal's number.
 #[derive(Clone, Copy)]
 pub enum Reported {
     Is(State),
     Refused(u8),
+}
+
+impl fmt::Display for Reported {
+    fn fmt<W: fmt::Write>(&self, f: &mut fmt::Formatter<W>) -> fmt::Result {
+        match self {
+            Reported::Is(state) => write!(f, "{state}"),
+            Reported::Refused(r) => write!(f, "refused {r}"),
+        }
+    }
 }
