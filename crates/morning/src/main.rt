@@ -5,23 +5,13 @@
 
 use lookup::{Cached, Found};
 use protocol::{Answer, Map, Mapped, Stored};
-use std::io;
+use recency::Recency;
+use std::{array, io};
 
-const AMPLE: u64 = 0xFFFF_FFFF_FFFF_FFFF;
+const AMPLE: u64 = u64::MAX;
 
-// No block has this number.
-const NONE: u64 = 16;
-
-// What the station keeps beside the card: the map and the table of recency.
-#[derive(Clone, Copy)]
-struct Desk {
-    map: Map,
-    table: [u8; 128],
-}
-
-fn byte(x: u8) -> u64 {
-    x as u64
-}
+// The words of a run in which the power fails are not made.
+const NONE: [u8; 64] = [0; 64];
 
 fn made(card: &[u8]) -> Map {
     match recovery::make_map(card) {
@@ -30,346 +20,254 @@ fn made(card: &[u8]) -> Map {
     }
 }
 
-// A station that starts: the map made, the table ascending.
-fn start(card: &[u8]) -> Desk {
-    let fresh = recency::ascend();
-    let table = fresh.order;
-    Desk {
-        map: made(card),
-        table: table,
-    }
-}
-
-// Prints the answer; the map to go on with is the one handed on, and made again after a cut.
-fn told(rt: &impl Print, card: &[u8], s: Stored) -> io::Result<Map> {
-    let a = s.answer;
-    print::answer(rt, a)?;
-    Ok(match a {
-        Answer::Done(_) => s.map,
-        Answer::Cut => made(card),
-        Answer::Refused(_) => s.map,
-    })
-}
-
 // The block that entry i caches.
-fn block_at(card: &[u8], i: u8) -> u64 {
+fn block_at(card: &[u8], i: usize) -> Option<u64> {
     match lookup::cached_at(card, i as u64) {
-        Cached::Block(b, _) => b,
-        Cached::Nothing => NONE,
-        Cached::Refused(_) => NONE,
+        Cached::Block(b, _) => Some(b),
+        _ => None,
     }
 }
 
-fn cached_number(rt: &impl Print, card: &[u8], i: u8) -> io::Result<()> {
-    let b = block_at(card, i);
-    if b != NONE {
-        print::number(rt, b)?;
+// The station: the card over its disk, and what is kept beside the card, the map and the table of recency.
+#[derive(Drop)]
+struct Station {
+    card: [u8; 2304],
+    disk: [u8; 8192],
+    map: Map,
+    recency: Recency,
+}
+
+impl Station {
+    // A fresh card, the map made, the table ascending.
+    fn start(&mut self) {
+        format::format(9, 8, 4, 16, &mut self.card);
+        self.map = made(&self.card);
+        self.recency = recency::ascend();
     }
-    Ok(())
-}
 
-// The blocks that the card has, the most recently used first.
-fn cached_numbers(rt: &impl Print, card: &[u8], table: &[u8; 128]) -> io::Result<()> {
-    let mut j: usize = 0;
-    while j < 128 {
-        cached_number(rt, card, table[j])?;
-        j += 1;
+    // Prints the answer; the map to go on with is the one handed on, and made again after a cut.
+    fn told(&mut self, rt: &impl Print, s: Stored) -> io::Result<()> {
+        println!(rt; " {}", s.answer)?;
+        self.map = match s.answer {
+            Answer::Cut => made(&self.card),
+            _ => s.map,
+        };
+        Ok(())
     }
-    Ok(())
-}
 
-fn show(rt: &impl Print, card: &[u8], d: Desk) -> io::Result<()> {
-    let table = d.table;
-    print::text(rt, b"cached")?;
-    cached_numbers(rt, card, &table)?;
-    print::text(rt, b", free")?;
-    print::number(rt, freemap::free_count(d.map))?;
-    print::text(rt, b"\n")
-}
-
-// The block b, if the disk has it now: it was evicted.
-fn gone(rt: &impl Print, card: &[u8], disk: &[u8], b: u64) -> io::Result<()> {
-    match lookup::find(card, disk, b) {
-        Found::Disk(_, _) => print::number(rt, b)?,
-        Found::Card(_, _, _) => {}
-        Found::Refused(_) => {}
-        Found::Outside(_) => {}
+    // The blocks that the card has, the most recently used first, and how many data blocks are free.
+    fn show(&self, rt: &impl Print) -> io::Result<()> {
+        print!(rt; "cached")?;
+        for i in &self.recency.order {
+            if let Some(b) = block_at(&self.card, usize::from(*i)) {
+                print!(rt; " {b}")?;
+            }
+        }
+        println!(rt; ", free {}", freemap::free_count(self.map))
     }
-    Ok(())
-}
 
-// The block that stands at this place of the four, if the disk has it now.
-fn gone_from(
-    rt: &impl Print,
-    card: &[u8],
-    disk: &[u8],
-    before: &[u64; 4],
-    x: u8,
-) -> io::Result<()> {
-    if x < 4 {
-        gone(rt, card, disk, before[x as usize])?;
+    // Of the blocks that were cached before, by the table of then, those that the disk has now, the least recently used first: they were evicted.
+    fn victims(
+        &self,
+        rt: &impl Print,
+        before: &[Option<u64>; 4],
+        recency: &Recency,
+    ) -> io::Result<()> {
+        print!(rt; "evicted")?;
+        for i in recency.order.iter().rev() {
+            if let Some(Some(b)) = before.get(usize::from(*i)) {
+                if let Found::Disk(_, _) = lookup::find(&self.card, &self.disk, *b) {
+                    print!(rt; " {b}")?;
+                }
+            }
+        }
+        println!(rt; "")
     }
-    Ok(())
-}
 
-// The blocks that were cached and no longer are, the least recently used first.
-fn victims(
-    rt: &impl Print,
-    card: &[u8],
-    disk: &[u8],
-    before: &[u64; 4],
-    table: &[u8; 128],
-) -> io::Result<()> {
-    let mut j: usize = 128;
-    while 0 < j {
-        j -= 1;
-        gone_from(rt, card, disk, before, table[j])?;
+    // Saves blocks a and b, filled with one byte, by document 01's commit.
+    fn save(&mut self, rt: &impl Print, a: u64, b: u64, fill: u8) -> io::Result<()> {
+        print!(rt; "commit {a} {b} {fill}")?;
+        let bytes = [fill; 1024];
+        let s = commit::commit(&mut self.card, self.map, &[a, b], &bytes, &NONE, AMPLE);
+        self.told(rt, s)
     }
-    Ok(())
-}
 
-fn title(rt: &impl Print, what: &[u8], a: u64, b: u64, fill: u8) -> io::Result<()> {
-    print::text(rt, what)?;
-    print::number(rt, a)?;
-    print::number(rt, b)?;
-    print::number(rt, byte(fill))
-}
+    // Saves them by the room-making commit, and shows which blocks it evicted.
+    fn save_in(
+        &mut self,
+        rt: &impl Print,
+        a: u64,
+        b: u64,
+        fill: u8,
+        allowance: u64,
+    ) -> io::Result<()> {
+        let before: [Option<u64>; 4] = array::from_fn(|i| block_at(&self.card, i));
+        let was = self.recency;
+        print!(rt; "room-making commit {a} {b} {fill}")?;
+        let s = room::commit(
+            &mut self.card,
+            &mut self.disk,
+            self.map,
+            &mut self.recency.order,
+            &[a, b],
+            &[fill; 1024],
+            &NONE,
+            allowance,
+        );
+        self.told(rt, s)?;
+        self.victims(rt, &before, &was)
+    }
 
-// Saves blocks a and b, filled with one byte, by document 01's commit.
-fn save(rt: &impl Print, card: &mut [u8], d: Desk, a: u64, b: u64, fill: u8) -> io::Result<Desk> {
-    let mut numbers = [a; 2];
-    numbers[1] = b;
-    let bytes = [fill; 1024];
-    title(rt, b"commit", a, b, fill)?;
-    let s = commit::commit(card, d.map, &numbers, &bytes, &[0u8; 64], AMPLE);
-    let map = told(rt, card, s)?;
-    let table = d.table;
-    Ok(Desk {
-        map: map,
-        table: table,
-    })
-}
+    fn recover(&mut self, rt: &impl Print) -> io::Result<()> {
+        print!(rt; "recover")?;
+        let s = recovery::recover(&mut self.card, self.map, AMPLE);
+        self.told(rt, s)
+    }
 
-// Saves them by the room-making commit, and shows which blocks it evicted.
-fn save_in(
-    rt: &impl Print,
-    card: &mut [u8],
-    disk: &mut [u8],
-    d: Desk,
-    a: u64,
-    b: u64,
-    fill: u8,
-    allowance: u64,
-) -> io::Result<Desk> {
-    let mut numbers = [a; 2];
-    numbers[1] = b;
-    let bytes = [fill; 1024];
-    let mut before = [block_at(card, 0); 4];
-    before[1] = block_at(card, 1);
-    before[2] = block_at(card, 2);
-    before[3] = block_at(card, 3);
-    let was = d.table;
-    let mut table = was;
-    title(rt, b"room-making commit", a, b, fill)?;
-    let s = room::commit(
-        card, disk, d.map, &mut table, &numbers, &bytes, &[0u8; 64], allowance,
-    );
-    let map = told(rt, card, s)?;
-    print::text(rt, b"evicted")?;
-    victims(rt, card, disk, &before, &was)?;
-    print::text(rt, b"\n")?;
-    Ok(Desk {
-        map: map,
-        table: table,
-    })
-}
+    fn load(&mut self, rt: &impl Print, b: u64) -> io::Result<()> {
+        print!(rt; "load {b}")?;
+        let s = transfer::load(
+            &mut self.card,
+            &self.disk,
+            self.map,
+            &mut self.recency.order,
+            b,
+            &NONE,
+            AMPLE,
+        );
+        self.told(rt, s)
+    }
 
-fn recover(rt: &impl Print, card: &mut [u8], d: Desk) -> io::Result<Desk> {
-    print::text(rt, b"recover")?;
-    let s = recovery::recover(card, d.map, AMPLE);
-    let map = told(rt, card, s)?;
-    let table = d.table;
-    Ok(Desk {
-        map: map,
-        table: table,
-    })
-}
+    fn evict(&mut self, rt: &impl Print, b: u64) -> io::Result<()> {
+        print!(rt; "evict {b}")?;
+        let s = transfer::evict(&mut self.card, &mut self.disk, self.map, b, &NONE, AMPLE);
+        self.told(rt, s)
+    }
 
-fn load(rt: &impl Print, card: &mut [u8], disk: &[u8], d: Desk, b: u64) -> io::Result<Desk> {
-    let mut table = d.table;
-    print::text(rt, b"load")?;
-    print::number(rt, b)?;
-    let s = transfer::load(card, disk, d.map, &mut table, b, &[0u8; 64], AMPLE);
-    let map = told(rt, card, s)?;
-    Ok(Desk {
-        map: map,
-        table: table,
-    })
-}
-
-fn evict(rt: &impl Print, card: &mut [u8], disk: &mut [u8], d: Desk, b: u64) -> io::Result<Desk> {
-    print::text(rt, b"evict")?;
-    print::number(rt, b)?;
-    let s = transfer::evict(card, disk, d.map, b, &[0u8; 64], AMPLE);
-    let map = told(rt, card, s)?;
-    let table = d.table;
-    Ok(Desk {
-        map: map,
-        table: table,
-    })
-}
-
-// Reads a block, as a use of it: who held it, and its first and last byte.
-fn read(rt: &impl Print, card: &[u8], disk: &[u8], d: Desk, b: u64) -> io::Result<Desk> {
-    let mut table = d.table;
-    let mut out = [0u8; 512];
-    print::text(rt, b"read")?;
-    print::number(rt, b)?;
-    print::held(rt, lookup::read_recent(card, disk, &mut table, b, &mut out))?;
-    print::number(rt, byte(out[0]))?;
-    print::number(rt, byte(out[511]))?;
-    print::text(rt, b"\n")?;
-    let map = d.map;
-    Ok(Desk {
-        map: map,
-        table: table,
-    })
+    // Reads a block, as a use of it: who held it, and its first and last byte.
+    fn read(&mut self, rt: &impl Print, b: u64) -> io::Result<()> {
+        let mut out = [0u8; 512];
+        let held = lookup::read_recent(
+            &self.card,
+            &self.disk,
+            &mut self.recency.order,
+            b,
+            &mut out,
+        );
+        println!(rt; "read {b} {held} {} {}", out[0], out[511])
+    }
 }
 
 // The third save finds no room, and its blocks are still those of the disk.
-fn without(rt: &impl Print, card: &mut [u8], disk: &[u8]) -> io::Result<()> {
-    print::text(rt, b"-- without room-making\n")?;
-    let d0 = start(card);
-    let d1 = save(rt, card, d0, 1, 2, 11)?;
-    let d2 = save(rt, card, d1, 3, 4, 12)?;
-    let d3 = save(rt, card, d2, 5, 6, 13)?;
-    show(rt, card, d3)?;
-    read(rt, card, disk, d3, 5)?;
-    Ok(())
+fn without(rt: &impl Print, s: &mut Station) -> io::Result<()> {
+    println!(rt; "-- without room-making")?;
+    s.start();
+    s.save(rt, 1, 2, 11)?;
+    s.save(rt, 3, 4, 12)?;
+    s.save(rt, 5, 6, 13)?;
+    s.show(rt)?;
+    s.read(rt, 5)
 }
 
 // The same saves up to the full card.
-fn fill(rt: &impl Print, card: &mut [u8], disk: &mut [u8]) -> io::Result<Desk> {
-    print::text(rt, b"-- with room-making\n")?;
-    let d0 = start(card);
-    let d1 = save_in(rt, card, disk, d0, 1, 2, 11, AMPLE)?;
-    let d2 = save_in(rt, card, disk, d1, 3, 4, 12, AMPLE)?;
-    show(rt, card, d2)?;
-    Ok(d2)
+fn fill(rt: &impl Print, s: &mut Station) -> io::Result<()> {
+    println!(rt; "-- with room-making")?;
+    s.start();
+    s.save_in(rt, 1, 2, 11, AMPLE)?;
+    s.save_in(rt, 3, 4, 12, AMPLE)?;
+    s.show(rt)
 }
 
 // The third one evicts the two blocks that were used the longest time ago, and they are read from the disk as they were saved.
-fn third(rt: &impl Print, card: &mut [u8], disk: &mut [u8], d: Desk) -> io::Result<Desk> {
-    let d1 = save_in(rt, card, disk, d, 5, 6, 13, AMPLE)?;
-    show(rt, card, d1)?;
-    let d2 = read(rt, card, disk, d1, 1)?;
-    let d3 = read(rt, card, disk, d2, 2)?;
-    read(rt, card, disk, d3, 5)
+fn third(rt: &impl Print, s: &mut Station) -> io::Result<()> {
+    s.save_in(rt, 5, 6, 13, AMPLE)?;
+    s.show(rt)?;
+    s.read(rt, 1)?;
+    s.read(rt, 2)?;
+    s.read(rt, 5)
 }
 
 // A read makes block 3 the most recent one, so that 4 goes before it.
-fn by_read(rt: &impl Print, card: &mut [u8], disk: &mut [u8], d: Desk) -> io::Result<Desk> {
-    print::text(rt, b"-- by use\n")?;
-    let d1 = read(rt, card, disk, d, 3)?;
-    show(rt, card, d1)?;
-    let d2 = save_in(rt, card, disk, d1, 7, 8, 14, AMPLE)?;
-    show(rt, card, d2)?;
-    Ok(d2)
+fn by_read(rt: &impl Print, s: &mut Station) -> io::Result<()> {
+    println!(rt; "-- by use")?;
+    s.read(rt, 3)?;
+    s.show(rt)?;
+    s.save_in(rt, 7, 8, 14, AMPLE)?;
+    s.show(rt)
 }
 
 // A load makes no room. What it loads is clean, and goes without a write.
-fn by_load(rt: &impl Print, card: &mut [u8], disk: &mut [u8], d: Desk) -> io::Result<Desk> {
-    let d1 = load(rt, card, disk, d, 9)?;
-    let d2 = evict(rt, card, disk, d1, 8)?;
-    let d3 = load(rt, card, disk, d2, 9)?;
-    show(rt, card, d3)?;
-    Ok(d3)
+fn by_load(rt: &impl Print, s: &mut Station) -> io::Result<()> {
+    s.load(rt, 9)?;
+    s.evict(rt, 8)?;
+    s.load(rt, 9)?;
+    s.show(rt)
 }
 
 // The blocks of a transaction stay, though one is the least recently used; of the others a modified and a clean one go. The next save finds room.
-fn own(rt: &impl Print, card: &mut [u8], disk: &mut [u8], d: Desk) -> io::Result<Desk> {
-    let d1 = save_in(rt, card, disk, d, 5, 7, 15, AMPLE)?;
-    show(rt, card, d1)?;
-    let d2 = save_in(rt, card, disk, d1, 1, 2, 16, AMPLE)?;
-    show(rt, card, d2)?;
-    Ok(d2)
+fn own(rt: &impl Print, s: &mut Station) -> io::Result<()> {
+    s.save_in(rt, 5, 7, 15, AMPLE)?;
+    s.show(rt)?;
+    s.save_in(rt, 1, 2, 16, AMPLE)?;
+    s.show(rt)
 }
 
 // The power fails in a save: once it is back the card is recovered.
-fn cut_at(
-    rt: &impl Print,
-    card: &mut [u8],
-    disk: &mut [u8],
-    d: Desk,
-    allowance: u64,
-) -> io::Result<Desk> {
-    let d1 = save_in(rt, card, disk, d, 3, 10, 17, allowance)?;
-    let d2 = recover(rt, card, d1)?;
-    show(rt, card, d2)?;
-    Ok(d2)
+fn cut_at(rt: &impl Print, s: &mut Station, allowance: u64) -> io::Result<()> {
+    s.save_in(rt, 3, 10, 17, allowance)?;
+    s.recover(rt)?;
+    s.show(rt)
 }
 
-// Between a block's sector and its entry, and between two evictions: nothing is lost.
-fn evicting(rt: &impl Print, card: &mut [u8], disk: &mut [u8], d: Desk) -> io::Result<Desk> {
-    print::text(rt, b"-- power cuts\n")?;
-    let d1 = cut_at(rt, card, disk, d, 1)?;
-    cut_at(rt, card, disk, d1, 2)
-}
-
-// Between the evictions and the first block, and at the commit's last store.
-fn committing(rt: &impl Print, card: &mut [u8], disk: &mut [u8], d: Desk) -> io::Result<Desk> {
-    let d1 = cut_at(rt, card, disk, d, 2)?;
-    cut_at(rt, card, disk, d1, 136)
-}
-
-// The same save, made.
-fn again(rt: &impl Print, card: &mut [u8], disk: &mut [u8], d: Desk) -> io::Result<Desk> {
-    let d1 = read(rt, card, disk, d, 5)?;
-    let d2 = read(rt, card, disk, d1, 7)?;
-    let d3 = read(rt, card, disk, d2, 3)?;
-    let d4 = save_in(rt, card, disk, d3, 3, 10, 17, AMPLE)?;
-    show(rt, card, d4)?;
-    Ok(d4)
-}
-
-fn evening(rt: &impl Print, card: &[u8], disk: &[u8], d: Desk) -> io::Result<Desk> {
-    print::text(rt, b"-- in the evening\n")?;
-    let d1 = read(rt, card, disk, d, 1)?;
-    let d2 = read(rt, card, disk, d1, 3)?;
-    let d3 = read(rt, card, disk, d2, 4)?;
-    let d4 = read(rt, card, disk, d3, 6)?;
-    let d5 = read(rt, card, disk, d4, 8)?;
-    read(rt, card, disk, d5, 9)
-}
-
-// A table with a number twice.
-fn wrong(rt: &impl Print, card: &mut [u8], disk: &mut [u8], d: Desk) -> io::Result<()> {
-    let mut table = d.table;
-    table[127] = table[0];
-    let map = d.map;
-    let other = Desk {
-        map: map,
-        table: table,
-    };
-    let d1 = read(rt, card, disk, other, 2)?;
-    save_in(rt, card, disk, d1, 1, 2, 18, AMPLE)?;
+// Between a block's sector and its entry, and between two evictions: nothing is lost. Between the evictions and the first block, and at the
+// commit's last store.
+fn cuts(rt: &impl Print, s: &mut Station) -> io::Result<()> {
+    println!(rt; "-- power cuts")?;
+    for allowance in [1, 2, 2, 136] {
+        cut_at(rt, s, allowance)?;
+    }
     Ok(())
 }
 
+// The same save, made.
+fn again(rt: &impl Print, s: &mut Station) -> io::Result<()> {
+    for b in [5, 7, 3] {
+        s.read(rt, b)?;
+    }
+    s.save_in(rt, 3, 10, 17, AMPLE)?;
+    s.show(rt)
+}
+
+fn evening(rt: &impl Print, s: &mut Station) -> io::Result<()> {
+    println!(rt; "-- in the evening")?;
+    for b in [1, 3, 4, 6, 8, 9] {
+        s.read(rt, b)?;
+    }
+    Ok(())
+}
+
+// A table with a number twice.
+fn wrong(rt: &impl Print, s: &mut Station) -> io::Result<()> {
+    s.recency.order[127] = s.recency.order[0];
+    s.read(rt, 2)?;
+    s.save_in(rt, 1, 2, 18, AMPLE)
+}
+
 fn main(rt: HostRuntime) -> io::Result<()> {
-    let mut card = [0u8; 2304];
-    let mut disk = [1u8; 8192];
-    format::format(9, 8, 4, 16, &mut card);
-    without(&rt, &mut card, &disk)?;
-    format::format(9, 8, 4, 16, &mut card);
-    let d1 = fill(&rt, &mut card, &mut disk)?;
-    let d2 = third(&rt, &mut card, &mut disk, d1)?;
-    let d3 = by_read(&rt, &mut card, &mut disk, d2)?;
-    let d4 = by_load(&rt, &mut card, &mut disk, d3)?;
-    let d5 = own(&rt, &mut card, &mut disk, d4)?;
-    let d6 = evicting(&rt, &mut card, &mut disk, d5)?;
-    let d7 = committing(&rt, &mut card, &mut disk, d6)?;
-    let d8 = again(&rt, &mut card, &mut disk, d7)?;
-    let d9 = evening(&rt, &card, &disk, d8)?;
-    wrong(&rt, &mut card, &mut disk, d9)
+    let mut s = Station {
+        card: [0; 2304],
+        disk: [1; 8192],
+        map: Map { low: 0, high: 0 },
+        recency: recency::ascend(),
+    };
+    without(&rt, &mut s)?;
+    fill(&rt, &mut s)?;
+    third(&rt, &mut s)?;
+    by_read(&rt, &mut s)?;
+    by_load(&rt, &mut s)?;
+    own(&rt, &mut s)?;
+    cuts(&rt, &mut s)?;
+    again(&rt, &mut s)?;
+    evening(&rt, &mut s)?;
+    wrong(&rt, &mut s)
 }
