@@ -4,8 +4,6 @@
 // eight slots, eight data blocks, sixteen disk blocks.
 #![tactic(auto)]
 
-ghost use Rattle.std.specs.Prelude.{◌+◌, ◌*◌, ◌≤◌, ◌<◌};
-
 use protocol::{Answer, Map, Mapped, Stored};
 use std::{fmt, io};
 

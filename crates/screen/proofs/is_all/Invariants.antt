@@ -1,9 +1,0 @@
--- `is_all` stays in the block and ends. The invariant: i is at most 512.
-use Rattle.std.proofs.Common.{◌-◌, ◌≤◌}
-use Rattle.screen.proofs.is_all.Given as goal
-
-abbrev pub invariant-loop-i : goal.invariant-loop-i
-invariant-loop-i l = l.i ≤ 512
-
-abbrev pub decreases-loop-i : goal.decreases-loop-i
-decreases-loop-i l = 512 - l.i
