@@ -15,12 +15,6 @@ ghost use Rattle.commit.specs.Committed.{Committed, Savable, Saved};
 use protocol::{Answer, Entry, FRESH, Geometry, Map, Stored};
 use stores::Run;
 
-fn wide(x: u8) -> usize
-    ensures { result ≡ x }
-{
-    x as usize
-}
-
 // The previous block that a plan's number stands for.
 fn previous_of(x: u16) -> u32
     ensures { result ≡ previous_of x }
@@ -41,11 +35,10 @@ fn log_entry(number: u64, previous: u16, block: u8) -> Entry
     ensures { result ≡ entry_of (log_flags 2 (over_of previous)) number (previous_of previous) block }
 {
     let low = number as u32;
-    let before = previous_of(previous);
     Entry {
         flags: log_flags(previous),
         number: low as u64,
-        previous: before,
+        previous: previous_of(previous),
         current: block as u32,
     }
 }
@@ -56,9 +49,7 @@ pub fn switch_role(e: Entry) -> Entry
 {
     Entry {
         flags: e.flags / 2 * 2,
-        number: e.number,
-        previous: e.previous,
-        current: e.current,
+        ..e
     }
 }
 
@@ -220,12 +211,10 @@ fn make_blocks(
     ensures { Did Medium.card (each_below (planned_block g (plan_by entries.now previous.now blocks.now) head numbers.now «data».now) (length numbers.now)) choice.now credit card.old card.new result }
 {
     let mut a = credit;
-    let mut i: usize = 0;
-    while i < numbers.len() {
+    for i in 0..numbers.len() {
         let e = log_entry(numbers[i], previous[i], blocks[i]);
-        let at = wide(entries[i]);
+        let at = usize::from(entries[i]);
         a = make_block(g, card, at, e, numbers, data, head, i, choice, a);
-        i += 1;
     }
     a
 }
@@ -244,12 +233,10 @@ fn make_switches(
     ensures { (ch : List ℕ) → Did Medium.card (each_below (planned_switch g (plan_by entries.now previous.now blocks.now) numbers.now) (length numbers.now)) ch left card.old card.new result }
 {
     let mut a = left;
-    let mut i: usize = 0;
-    while i < numbers.len() {
+    for i in 0..numbers.len() {
         let e = switch_role(log_entry(numbers[i], previous[i], blocks[i]));
-        let place = stores::entry_place(g, wide(entries[i]));
+        let place = stores::entry_place(g, usize::from(entries[i]));
         a = stores::make_entry(card, place, e, a);
-        i += 1;
     }
     a
 }

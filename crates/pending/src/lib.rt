@@ -42,17 +42,11 @@ pub struct Standing {
     pub currents: Map,
 }
 
-fn wide(x: u8) -> usize
-    ensures { result ≡ x }
-{
-    x as usize
-}
-
 fn stopped(g: Geometry, refusal: u8) -> Standing
     ensures { result.refusal ≡ refusal }
 {
     Standing {
-        refusal: refusal,
+        refusal,
         geometry: g,
         window: Window {
             tail: 0,
@@ -92,13 +86,12 @@ fn meet(held: Pending, card: &[u8], map: Map, index: &mut [u8; 640]) -> Standing
     if !freemap::same(map, v.map) {
         return stopped(g, 15);
     }
-    let currents = v.currents;
     Standing {
         refusal: 0,
         geometry: g,
         window: w,
         free: v.free,
-        currents: currents,
+        currents: v.currents,
     }
 }
 
@@ -192,9 +185,8 @@ fn make_put(
         allowance,
         false,
     );
-    let answer = made.answer;
-    let after = freemap::with(map, wide(blocks[0]));
-    stores::hand_on(answer, map, after)
+    let after = freemap::with(map, usize::from(blocks[0]));
+    stores::hand_on(made.answer, map, after)
 }
 
 // The place of the entry of each of the window's numbers.
@@ -202,12 +194,9 @@ fn find_places(g: Geometry, card: &[u8], index: &[u8; 640], w: Window, places: &
     requires { Findable g card.now index.now w × (length places.old ≡ 128) }
     ensures { Places g card.now places.new w.count }
 {
-    let n = w.count as usize;
-    let mut j: usize = 0;
-    while j < n {
+    for j in 0..w.count as usize {
         let at = checks::find(g, card, index, ring::window_number(g, card, w, j as u64));
         places[j] = at as u8;
-        j += 1;
     }
 }
 
@@ -217,12 +206,10 @@ fn make_switches(g: Geometry, card: &mut [u8], places: &[u8; 128], n: usize, cre
     ensures { (ch : List ℕ) → Did Medium.card (each_below (switch_at g card.old places.now) n) ch credit card.old card.new result }
 {
     let mut left = credit;
-    let mut j: usize = 0;
-    while j < n {
-        let at = wide(places[j]);
+    for j in 0..n {
+        let at = usize::from(places[j]);
         let e = commit::switch_role(checks::entry_of(g, card, at));
         left = stores::make_entry(card, stores::entry_place(g, at), e, left);
-        j += 1;
     }
     left
 }
@@ -253,29 +240,17 @@ fn hand_back(s: Stored, held: Pending) -> Put
     requires { (n : ℕ) → s.answer ≡ Answer.Done n → held.count + 1 < 18446744073709551616 }
     ensures { (result.answer ≡ s.answer) × (result.map ≡ s.map) × (result.save.held ≡ next_record s.answer held) }
 {
-    let a = s.answer;
-    let map = s.map;
-    match a {
-        Answer::Done(n) => Put {
-            answer: Answer::Done(n),
-            map: map,
-            save: Save {
-                held: Pending {
-                    tail: held.tail,
-                    count: held.count + 1,
-                },
-            },
+    let held = match s.answer {
+        Answer::Done(_) => Pending {
+            count: held.count + 1,
+            ..held
         },
-        Answer::Cut => Put {
-            answer: Answer::Cut,
-            map: map,
-            save: Save { held: held },
-        },
-        Answer::Refused(r) => Put {
-            answer: Answer::Refused(r),
-            map: map,
-            save: Save { held: held },
-        },
+        _ => held,
+    };
+    Put {
+        answer: s.answer,
+        map: s.map,
+        save: Save { held },
     }
 }
 

@@ -7,21 +7,13 @@ ghost use Rattle.preview.specs.ToldBlocks.{ToldBlocks};
 
 use protocol::{Answer, Map};
 
-fn wide(x: u8) -> u32
-    ensures { result ≡ x }
-{
-    x as u32
-}
-
 // Tells the data blocks that were found, each as a number of its own.
 fn tell(found: &[u8; 128], blocks: &mut [u32])
     requires { length blocks.old ≤ 128 }
     ensures { ToldBlocks found.now blocks.old blocks.new }
 {
-    let mut i: usize = 0;
-    while i < blocks.len() {
-        blocks[i] = wide(found[i]);
-        i += 1;
+    for i in 0..blocks.len() {
+        blocks[i] = u32::from(found[i]);
     }
 }
 

@@ -3,4 +3,4 @@ use Rattle.protocol.specs.Entry.{entry_of}
 use Rattle.commit.proofs.log_entry.Goals as goal
 
 pub returns : goal.returns
-returns c = λ t. entry_of (c.log_flags.ensures t) c.args.number (c.previous_of-before.ensures t) c.args.block
+returns c = λ t. entry_of (c.log_flags.ensures t) c.args.number (c.previous_of.ensures t) c.args.block

@@ -17,7 +17,7 @@ pub make_block-a-requires : goal.make_block-a-requires
 make_block-a-requires c =
     let r = c.requires.1 in (
       record { good = search rules; long = search rules },
-      entry_on _ _ _ _ r.named c.loop-i-test.true _ c.wide-at.ensures,
+      entry_on _ _ _ _ r.named c.loop-i-test.true _ c.from-at.ensures,
       block_on _ _ _ _ r.named c.loop-i-test.true _ _ _ _ c.log_entry-e.ensures,
       data_on _ _ _ _ _ _ r c.loop-i-test.true,
       r.head,
@@ -30,8 +30,7 @@ make_block-a-requires c =
 pub loop-i-preserved : goal.loop-i-preserved
 loop-i-preserved c = (
   search rules,
-  search rules,
-  block_turn _ _ _ _ _ _ _ _ _ _ _ _ _ c.wide-at.ensures c.log_entry-e.ensures _ _ c.loop-i.invariant.2 c.make_block-a.ensures,
+  block_turn _ _ _ _ _ _ _ _ _ _ _ _ _ c.from-at.ensures c.log_entry-e.ensures _ _ c.loop-i.invariant.1 c.make_block-a.ensures,
 )
 
 pub returns : goal.returns

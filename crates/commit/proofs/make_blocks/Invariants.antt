@@ -1,5 +1,4 @@
 -- `make_blocks` makes the stores of every block. The invariant: those of the blocks passed are made.
-use Prim.Native.Nat.{◌≤◌, ◌-◌}
 use mathlib.Core.Path.{◌≡◌}
 use lib.ListN.{length}
 use Rattle.protocol.specs.Below.{each_below}
@@ -10,7 +9,4 @@ use Rattle.commit.proofs.make_blocks.Given as goal
 
 abbrev pub invariant-loop-i : goal.invariant-loop-i
 invariant-loop-i l =
-    (l.i ≤ length l.numbers) × (length l.card ≡ length l.initial.card) × Did Medium.card (each_below (planned_block l.g (plan_by l.entries l.previous l.blocks) l.head l.numbers l.«data») l.i) l.choice l.credit l.initial.card l.card l.a
-
-abbrev pub decreases-loop-i : goal.decreases-loop-i
-decreases-loop-i l = length l.numbers - l.i
+    (length l.card ≡ length l.initial.card) × Did Medium.card (each_below (planned_block l.g (plan_by l.entries l.previous l.blocks) l.head l.numbers l.«data») l.i) l.choice l.credit l.initial.card l.card l.a

@@ -1,5 +1,5 @@
 -- `make_switches` makes every role switch. The invariant: those of the blocks passed are made.
-use Prim.Native.Nat.{ℕ, ◌≤◌, ◌-◌}
+use Prim.Native.Nat.{ℕ}
 use mathlib.Core.List.{List}
 use mathlib.Core.Path.{◌≡◌}
 use lib.ListN.{length}
@@ -11,7 +11,4 @@ use Rattle.commit.proofs.make_switches.Given as goal
 
 abbrev pub invariant-loop-i : goal.invariant-loop-i
 invariant-loop-i l =
-    (l.i ≤ length l.numbers) × (length l.card ≡ length l.initial.card) × ((ch : List ℕ) → Did Medium.card (each_below (planned_switch l.g (plan_by l.entries l.previous l.blocks) l.numbers) l.i) ch l.left l.initial.card l.card l.a)
-
-abbrev pub decreases-loop-i : goal.decreases-loop-i
-decreases-loop-i l = length l.numbers - l.i
+    (length l.card ≡ length l.initial.card) × ((ch : List ℕ) → Did Medium.card (each_below (planned_switch l.g (plan_by l.entries l.previous l.blocks) l.numbers) l.i) ch l.left l.initial.card l.card l.a)

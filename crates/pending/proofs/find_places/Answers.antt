@@ -28,9 +28,8 @@ pub loop-j-preserved : goal.loop-j-preserved
 loop-j-preserved c =
     let f = c.requires.0 in
     let few = places_few _ _ _ _ f in (
-      omega (arith, c.loop-j-test.true),
-      length-set c.loop-j.places c.loop-j.j c.find-at.result ∙ c.loop-j.invariant.1,
-      lists_more _ _ _ _ (omega (arith, c.loop-j-test.true, c.loop-j.invariant.1)) c.loop-j.invariant.2
+      length-set c.loop-j.places c.loop-j.j c.find-at.result ∙ c.loop-j.invariant.0,
+      lists_more _ _ _ _ (omega (arith, c.loop-j-test.true, c.loop-j.invariant.0)) c.loop-j.invariant.1
           (place_is _ _ _ _ f _ _ c.loop-j-test.true c.window_number.ensures _ c.find-at.ensures),
     )
 

@@ -1,5 +1,4 @@
 -- `find_places` looks up each of the window's numbers. The invariant: the places of those passed are filled in.
-use Prim.Native.Nat.{◌≤◌, ◌-◌}
 use mathlib.Core.Path.{◌≡◌}
 use lib.ListN.{length}
 use Rattle.checks.specs.Keys.{Lists}
@@ -7,7 +6,4 @@ use Rattle.pending.specs.Finishing.{place_at}
 use Rattle.pending.proofs.find_places.Given as goal
 
 abbrev pub invariant-loop-j : goal.invariant-loop-j
-invariant-loop-j l = (l.j ≤ l.n) × (length l.places ≡ 128) × Lists (place_at l.g l.card) l.places l.j
-
-abbrev pub decreases-loop-j : goal.decreases-loop-j
-decreases-loop-j l = l.n - l.j
+invariant-loop-j l = (length l.places ≡ 128) × Lists (place_at l.g l.card) l.places l.j

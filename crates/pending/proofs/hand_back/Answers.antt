@@ -1,27 +1,31 @@
 -- `hand_back` hands on the next record where the put is done.
-use mathlib.Core.Path.{refl, sym, ap}
+use mathlib.Core.Path.{◌≡◌, refl, sym, ap, ◌∙◌}
+use Prim.Native.Nat.{ℕ}
 use Rattle.protocol.specs.declared.Answer.{Answer}
+use Rattle.protocol.specs.declared.Answer.TheVariants.{Done, Cut, Refused}
+use Rattle.protocol.specs.declared.Pending.{Pending}
 use Rattle.protocol.specs.Pending.{next_record}
 use borrow.Author.Rules.{rules}
 use Rattle.pending.proofs.hand_back.Goals as goal
+use Rattle.pending.proofs.hand_back.Goals.{in-Done, in_default}
 
-pub overflow_add-result : goal.overflow_add-result
-overflow_add-result c = search (c.requires _ c.in-Done.is, rules)
+pub overflow_add-held : goal.overflow_add-held
+overflow_add-held c = search (c.requires _ c.in-Done.is, rules)
 
-pub returns-in-Done : goal.returns-in-Done
+-- an answer that is not done leaves the record
+kept : (p : Pending) (a : Answer) → ((n : ℕ) → a ≡ Done n → ⊥) → next_record a p ≡ p
 unfolding next_record
-returns-in-Done c =
-    let s = c.args in
-    let e = sym c.in-Done.is in
-    (e, refl, ap (λ (y : Answer). next_record y s.held) e)
+kept p (Done n) not-done = absurd (not-done n refl)
+kept p Cut not-done = refl
+kept p (Refused r) not-done = refl
 
-pub returns-in-Cut : goal.returns-in-Cut
+pub returns : goal.returns
 unfolding next_record
-returns-in-Cut c = search rules
-
-pub returns-in-Refused : goal.returns-in-Refused
-unfolding next_record
-returns-in-Refused c =
-    let s = c.args in
-    let e = sym c.in-Refused.is in
-    (e, refl, ap (λ (y : Answer). next_record y s.held) e)
+returns c = (
+  refl,
+  refl,
+  elim c.match-s.branch [
+    | in-Done w ↦ w.held-is ∙ sym (ap (λ (y : Answer). next_record y c.args.held) w.in-Done.is)
+    | in_default w ↦ w.held-is ∙ sym (kept _ _ w.in_default.not-Done)
+  ],
+)

@@ -1,12 +1,9 @@
 -- `tell` puts each block that was found into the same place of the output. The loop's invariant: the first i places have theirs.
 use mathlib.Core.Path.{◌≡◌}
-use Prim.Native.Nat.{ℕ, ◌≤◌, ◌<◌, ◌-◌}
+use Prim.Native.Nat.{ℕ, ◌<◌}
 use lib.ListN.{length, get_or}
 use Rattle.preview.proofs.tell.Given as goal
 
 abbrev pub invariant-loop-i : goal.invariant-loop-i
 invariant-loop-i l =
-    (l.i ≤ length l.initial.blocks) × (length l.blocks ≡ length l.initial.blocks) × ((k : ℕ) → k < l.i → get_or l.blocks k 0 ≡ get_or l.found k 0)
-
-abbrev pub decreases-loop-i : goal.decreases-loop-i
-decreases-loop-i l = length l.initial.blocks - l.i
+    (length l.blocks ≡ length l.initial.blocks) × ((k : ℕ) → k < l.i → get_or l.blocks k 0 ≡ get_or l.found k 0)
