@@ -245,7 +245,8 @@ fn hand_back(s: Stored, held: Pending) -> Put
             count: held.count + 1,
             ..held
         },
-        _ => held,
+        Answer::Cut => held,
+        Answer::Refused(_) => held,
     };
     Put {
         answer: s.answer,
