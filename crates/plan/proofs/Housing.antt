@@ -1,16 +1,17 @@
 -- The entries of a commit's blocks: what is found by the index and the walk is what the plan's definitions name, one number after the other.
 -- Assumes nothing.
 use Prim.Native.Nat.{ℕ, ◌+◌, ◌/◌, ◌%◌, ◌≤◌, ◌<◌}
-use mathlib.Core.List.{List}
+use mathlib.Core.List.{List, ◌++◌}
 use mathlib.Core.Bool.{Bool, true, false, cond, not}
 use mathlib.Core.Path.{◌≡◌, refl, sym, ap, ◌∙◌, subst}
 use mathlib.Core.Logic.{⊎_elim}
 use native.Mathlib.Nat.{not-suc-le-zero}
 use native.Mathlib.Numerals.{add-one}
 use native.Mathlib.Omega.{arith}
-use lib.ListN.{length, get_or, set, length-set}
+use lib.ListN.{length, get_or, set, take, length-set, get_or-append}
 use lib.Seq.{get_or-set_same, get_or-set_other}
 use lib.Dec.{ltb, leb}
+use Rattle.std.proofs.lemmas.List.{get_or-take, length-take-le}
 use borrow.Author.Tests.{eq-eqb, ne_eqb, lt-ltb, le-ltb, ltb-true, lt-leb, le-leb, not-false}
 use Rattle.protocol.specs.declared.Geometry.{Geometry}
 use Rattle.protocol.specs.declared.Entry.{Entry}
@@ -171,34 +172,34 @@ module _ (g : Geometry) (c ns : List ℕ) (i : ℕ) (es ps : List ℕ) (f : Foun
 
 -- ---- those not cached get the next unused entries
 
--- what i turns have housed, of the bytes zs at first
-pub record Walking (g : Geometry) (c zs : List ℕ) (i : ℕ) (es : List ℕ) (from : ℕ) : Type 0 where
+-- what i turns have housed, of the first n of the bytes zs at first
+pub record Walking (g : Geometry) (c zs : List ℕ) (n i : ℕ) (es : List ℕ) (from : ℕ) : Type 0 where
   pub entries : Lists (housed_at g c zs) es i
-  pub rest : (j : ℕ) → i ≤ j → get_or es j 0 ≡ get_or zs j 0
+  pub rest : (j : ℕ) → i ≤ j → j < n → get_or es j 0 ≡ get_or zs j 0
   pub count : unused_before g c from ≡ count_below (is_nowhere zs) i
   pub most : from ≤ g.blocks
-  pub long : length es ≡ 128
+  pub long : length es ≡ n
 
-pub walking_start : (g : Geometry) (c zs : List ℕ) → length zs ≡ 128 → Walking g c zs 0 zs 0
+pub walking_start : (g : Geometry) (c zs : List ℕ) (n : ℕ) → n ≤ length zs → Walking g c zs n 0 (take n zs) 0
 unfolding count_below unused_before passed_by
-walking_start g c zs a = record {
-  entries = lists_none (housed_at g c zs) zs;
-  rest = λ j l. refl;
+walking_start g c zs n l = record {
+  entries = lists_none (housed_at g c zs) (take n zs);
+  rest = λ j a b. get_or-take n zs j 0 b;
   count = refl;
   most = omega arith;
-  long = a;
+  long = length-take-le n zs l;
 }
 
-module _ (g : Geometry) (c zs : List ℕ) (i from : ℕ) (es : List ℕ) (w : Walking g c zs i es from) where
+module _ (g : Geometry) (c zs : List ℕ) (n i from : ℕ) (es : List ℕ) (w : Walking g c zs n i es from) (l : i < n) where
   -- an unused entry is left for each number
-  pub walking_room : (n : ℕ) → i < n → n ≤ length (unused_entries g c) → unused_before g c from < length (unused_entries g c)
-  walking_room n l room = omega (arith, w.count, count_le (is_nowhere zs) i)
+  pub walking_room : n ≤ length (unused_entries g c) → unused_before g c from < length (unused_entries g c)
+  walking_room room = omega (arith, w.count, count_le (is_nowhere zs) i)
 
   -- a cached one keeps its entry
-  pub walking_past : get_or es i 0 < 128 → Walking g c zs (i + 1) es from
+  pub walking_past : get_or es i 0 < 128 → Walking g c zs n (i + 1) es from
   unfolding housed_at is_nowhere key_at
-  walking_past l =
-      let here = w.rest i (omega arith) in
+  walking_past h =
+      let here = w.rest i (omega arith) l in
       let off : leb 128 (get_or zs i 0) ≡ false = lt-leb 128 (get_or zs i 0) (omega arith) in
       record {
         entries = λ j k. ⊎_elim (λ (q : j ≡ i). rw (q, off) here) (λ (q : j < i). w.entries j q) (last_or_before j i (rw add-one at k));
@@ -214,22 +215,27 @@ module _ (g : Geometry) (c zs : List ℕ) (i from : ℕ) (es : List ℕ) (w : Wa
       pub walking_below : j < g.blocks
       walking_below = reached_below g c start from j s r room
 
-      pub walking_housed : i < 128 → 128 ≤ get_or es i 0 → place ≡ around g.blocks start j → Walking g c zs (i + 1) (set es i place) (j + 1)
+      pub walking_housed : 128 ≤ get_or es i 0 → place ≡ around g.blocks start j → Walking g c zs n (i + 1) (set es i place) (j + 1)
       unfolding housed_at is_nowhere
-      walking_housed l h q =
-          let on : leb 128 (get_or zs i 0) ≡ true = le-leb 128 (get_or zs i 0) (omega (arith, w.rest i (omega arith))) in
+      walking_housed h q =
+          let on : leb 128 (get_or zs i 0) ≡ true = le-leb 128 (get_or zs i 0) (omega (arith, w.rest i (omega arith) l)) in
           record {
             entries =
                 lists_more (housed_at g c zs) es i place (omega (arith, w.long)) w.entries
                 (rw on (reached_is g c start from j s r room place q ∙ ap (λ (k : ℕ). get_or (unused_entries g c) k 0) w.count));
-            rest = λ k b. get_or-set_other es i k place 0 (omega arith) ∙ w.rest k (omega arith);
+            rest = λ k a b. get_or-set_other es i k place 0 (omega arith) ∙ w.rest k (omega arith) b;
             count = reached_on g c start from j s r room ∙ ap (λ (x : ℕ). x + 1) w.count ∙ sym (count_hit (is_nowhere zs) i on);
             most = let b = walking_below in omega arith;
             long = length-set es i place ∙ w.long;
           }
 
-  pub walking_end : (n : ℕ) → n ≤ i → Lists (housed_at g c zs) es n
-  walking_end n l = lists_all (housed_at g c zs) es i n l w.entries
+-- whatever stands behind them
+pub walking_end : (g : Geometry) (c zs : List ℕ) (n i from : ℕ) (es : List ℕ) → Walking g c zs n i es from → n ≤ length zs → length (take n zs) ≤ i
+    → (rest : List ℕ) → Lists (housed_at g c zs) (es ++ rest) n
+unfolding key_at
+walking_end g c zs n i from es w inside l rest j k =
+    let few : j < i = omega (arith, length-take-le n zs inside) in
+    get_or-append es rest 0 j (omega (arith, w.long)) ∙ w.entries j few
 
 -- ---- so each has the entry that the plan's definitions name
 

@@ -6,8 +6,9 @@ use mathlib.Core.Bool.{Bool, true, false, not, ◌&&◌, ◌||◌}
 use mathlib.Core.Path.{◌≡◌, refl, sym, ap, ◌∙◌}
 use native.Mathlib.Numerals.{add-one}
 use native.Mathlib.Omega.{arith}
-use lib.ListN.{get_or}
+use lib.ListN.{length, get_or, take}
 use lib.Dec.{eqb}
+use Rattle.std.proofs.lemmas.List.{get_or-take, length-take-le}
 use borrow.Author.Tests.{ne_eqb, lt-ltb, le-ltb}
 use Rattle.protocol.specs.declared.Map.{Map}
 use Rattle.protocol.specs.Below.{any_below}
@@ -31,28 +32,36 @@ left-start m xs p e = e ∙ map_cong _ _ (λ x l. sym (all_of (p x)))
     all_of true = refl
     all_of false = refl
 
-module _ (m₀ m : Map) (xs : List ℕ) (i d : ℕ) (h : Left m₀ xs i m) (q : d ≡ get_or xs i 0) where
-  pub left-more : (n : Map) → d < 256 → n ≡ without_bit m (d % 128) → Left m₀ xs (i + 1) n
+module _ (m₀ m : Map) (xs : List ℕ) (n i : ℕ) (inside : n ≤ length xs) (l : i < length (take n xs)) (h : Left m₀ xs i m) where
+  -- the block that the turn looks at
+  here : get_or (take n xs) i 0 ≡ get_or xs i 0
+  here = let k : i < n = omega (arith, length-take-le n xs inside) in get_or-take n xs i 0 k
+
+  pub left-more : (d : ℕ) (o : Map) → get_or (take n xs) i 0 < 256 → d ≡ get_or (take n xs) i 0 % 128 → o ≡ without_bit m d → Left m₀ xs (i + 1) o
   unfolding released previous_of any_below
-  left-more n b e p r =
-      e ∙ ap (λ (y : Map). without_bit y (d % 128)) (h p r) ∙ without_by (released p xs i) (d % 128) (omega arith)
+  left-more d o b f e p r =
+      let x = get_or (take n xs) i 0 in
+      e ∙ (λ t. without_bit (h p r t) (f t)) ∙ without_by (released p xs i) (x % 128) (omega arith)
       ∙ map_cong _ _
-      (λ x l.
-      ap (λ (z : ℕ). released p xs i x && not (eqb z x)) (sym (rw (lt-ltb d 256 b)) ∙ ap previous_of q)
-      ∙ joined (p x) (any_below (λ k. eqb (previous_of (get_or xs k 0)) x) i) (eqb (previous_of (get_or xs i 0)) x)
-      ∙ ap (λ (z : ℕ). released p xs z x) (sym (add-one i)))
+      (λ y l.
+      ap (λ (z : ℕ). released p xs i y && not (eqb z y)) (sym (rw (lt-ltb x 256 b)) ∙ ap previous_of here)
+      ∙ joined (p y) (any_below (λ k. eqb (previous_of (get_or xs k 0)) y) i) (eqb (previous_of (get_or xs i 0)) y)
+      ∙ ap (λ (z : ℕ). released p xs z y) (sym (add-one i)))
     where
       joined : (a o n : Bool) → (a && not o) && not n ≡ a && not (o || n)
       joined true true n = refl
       joined true false n = refl
       joined false o n = refl
 
-  pub left_skip : 256 ≤ d → Left m₀ xs (i + 1) m
+  pub left_skip : 256 ≤ get_or (take n xs) i 0 → Left m₀ xs (i + 1) m
   unfolding released previous_of
   left_skip b p r =
+      let x = get_or (take n xs) i 0 in
       h p r ∙ map_cong _ _
-      (λ x l. ap (λ (o : Bool). p x && not o) (sym (any_miss (λ k. eqb (previous_of (get_or xs k 0)) x) i
-      (ap (λ (z : ℕ). eqb (previous_of z) x) (sym q) ∙ ap (λ (z : ℕ). eqb z x) (rw (le-ltb d 256 b)) ∙ ne_eqb FRESH x (omega arith)))))
+      (λ y l. ap (λ (o : Bool). p y && not o) (sym (any_miss (λ k. eqb (previous_of (get_or xs k 0)) y) i
+      (ap (λ (z : ℕ). eqb (previous_of z) y) (sym here) ∙ ap (λ (z : ℕ). eqb z y) (rw (le-ltb x 256 b)) ∙ ne_eqb FRESH y (omega arith)))))
 
-pub left_end : (m₀ m : Map) (xs : List ℕ) (i n : ℕ) → Left m₀ xs i m → i ≤ n → n ≤ i → Left m₀ xs n m
-left_end m₀ m xs i n h a b p r = let e : i ≡ n = omega arith in h p r ∙ ap (λ (z : ℕ). map_by (released p xs z)) e
+pub left_end : (m₀ m : Map) (xs : List ℕ) (n i : ℕ) → n ≤ length xs → Left m₀ xs i m → i ≤ length (take n xs) → length (take n xs) ≤ i → Left m₀ xs n m
+left_end m₀ m xs n i inside h a b p r =
+    let e : i ≡ n = omega (arith, length-take-le n xs inside) in
+    h p r ∙ ap (λ (z : ℕ). map_by (released p xs z)) e

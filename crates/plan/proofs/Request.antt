@@ -6,14 +6,20 @@ use mathlib.Core.Path.{◌≡◌, refl, sym, ap, ◌∙◌}
 use native.Mathlib.Numerals.{add-one}
 use native.Mathlib.Omega.{arith}
 use mathlib.Core.Logic.{⊎_elim}
-use lib.ListN.{length, get_or, replicate, length-replicate}
+use lib.ListN.{length, get_or, take, replicate, length-replicate}
+use lib.Seq.{take-length}
 use lib.Dec.{eqb, ltb, leb}
 use borrow.Author.Tests.{eq-eqb, ne_eqb, le-leb, lt-leb, lt-ltb, le-ltb, not-true, not-false}
+use Rattle.std.specs.List.{list_all}
+use Rattle.std.proofs.Common.{Equal, Greater}
+use Rattle.std.specs.Ordering.{is_lt, nat_cmp, ord_max}
+use Rattle.std.proofs.lemmas.List.{get_or-take, length-take-le}
+use Rattle.std.proofs.lemmas.List.Folds.{list_all_more}
 use Rattle.protocol.specs.declared.Geometry.{Geometry}
 use Rattle.protocol.specs.Below.{all_below}
 use Rattle.protocol.specs.Layout.{good_geometry, geometry_of, block_size}
 use Rattle.protocol.specs.Check.{refuse, ◌or_else◌, fit_refusal, choice_byte_fits, choice_fits}
-use Rattle.protocol.specs.Commit.{number_of, count_fits, numbers_fit, numbers_differ, new_number, numbers_apart}
+use Rattle.protocol.specs.Commit.{number_of, number_fits, count_fits, numbers_fit, numbers_differ, new_number, numbers_apart}
 use Rattle.protocol.proofs.Below.{and_fails, and_both, all_of, below_or_above}
 use Rattle.protocol.proofs.Checks.{Limits, limits, refuse_passed, refuse_failed, or_else_first, or_else_next}
 use Rattle.ring.proofs.Laws.{fit_fitted}
@@ -26,17 +32,35 @@ test_passed t b e h = sym e ∙ not-false t h
 pub test_failed : (t b : Bool) → t ≡ b → not t ≡ true → b ≡ false
 test_failed t b e h = sym e ∙ not-true t h
 
+-- ---- each number below D
+
+-- a test of every item is one of every index
+all_items : (p : ℕ → Bool) (xs : List ℕ) (i : ℕ) → i ≤ length xs → list_all p (take i xs) ≡ all_below (λ k. p (get_or xs k 0)) i
+unfolding all_below
+all_items p xs zero l = refl
+all_items p xs (suc i) l =
+    rw (← add-one) (list_all_more p xs i 0 (omega arith))
+    ∙ ap (λ (t : Bool). t && p (get_or xs i 0)) (all_items p xs i (omega arith))
+
+pub fit_is : (g : Geometry) (ns : List ℕ) → list_all (λ b. ltb b g.disk) ns ≡ numbers_fit g ns
+unfolding numbers_fit number_fits number_of
+fit_is g ns = ap (list_all (λ b. ltb b g.disk)) (sym (take-length ns)) ∙ all_items (λ b. ltb b g.disk) ns (length ns) (omega arith)
+
 -- ---- a number against those before it
 
--- fresh says that the first j differ from number i, which is x
-pub differ_turn : (ns : List ℕ) (i j x : ℕ) (fresh : Bool) → x ≡ get_or ns i 0 → fresh ≡ all_below (numbers_differ ns i) j
-    → fresh && not (eqb x (get_or ns j 0)) ≡ all_below (numbers_differ ns i) (j + 1)
-unfolding all_below numbers_differ number_of
-differ_turn ns i j x fresh p q = rw add-one (λ t. q t && not (eqb (p t) (get_or ns j 0)))
+module _ (ns : List ℕ) (i : ℕ) (inside : i < length ns) (j : ℕ) (fresh : Bool) (so : fresh ≡ all_below (numbers_differ ns i) j) where
+  -- fresh says that the first j differ from number i
+  pub differ_turn : j < length (take i ns) → fresh && not (eqb (get_or ns i 0) (get_or (take i ns) j 0)) ≡ all_below (numbers_differ ns i) (j + 1)
+  unfolding all_below numbers_differ number_of
+  differ_turn l =
+      let k : j < i = omega (arith, length-take-le i ns) in
+      rw (add-one, get_or-take i ns j 0 k) (ap (λ (t : Bool). t && not (eqb (get_or ns i 0) (get_or ns j 0))) so)
 
-pub differ_end : (ns : List ℕ) (i j : ℕ) (fresh : Bool) → j ≤ i → i ≤ j → fresh ≡ all_below (numbers_differ ns i) j → fresh ≡ new_number ns i
-unfolding new_number
-differ_end ns i j fresh a b q = let e : j ≡ i = omega arith in q ∙ ap (all_below (numbers_differ ns i)) e
+  pub differ_end : length (take i ns) ≤ j → j ≤ length (take i ns) → fresh ≡ new_number ns i
+  unfolding new_number
+  differ_end a b =
+      let e : j ≡ i = omega (arith, length-take-le i ns) in
+      so ∙ ap (all_below (numbers_differ ns i)) e
 
 -- ---- the room of a choice
 
@@ -46,7 +70,7 @@ module _ (ch : List ℕ) (i most x : ℕ) (e : x ≡ get_or ch i 0) (so : ltb mo
   unfolding all_below choice_byte_fits
   next_byte k q = q ∙ rw add-one (λ t. so t && leb (e t) 1)
 
-  pub byte_more : most < x → ltb x 2 ≡ all_below (choice_byte_fits ch) (i + 1)
+  byte_more : most ≤ x → ltb x 2 ≡ all_below (choice_byte_fits ch) (i + 1)
   byte_more l =
       next_byte x
       (⊎_elim
@@ -57,13 +81,24 @@ module _ (ch : List ℕ) (i most x : ℕ) (e : x ≡ get_or ch i 0) (so : ltb mo
       (λ h. let n : 1 < x = omega arith in le-ltb x 2 h ∙ sym (and_fails (ltb most 2) _ (lt-leb x 1 n)))
       (below_or_above x 2))
 
-  pub byte_less : x ≤ most → ltb most 2 ≡ all_below (choice_byte_fits ch) (i + 1)
+  byte_less : x ≤ most → ltb most 2 ≡ all_below (choice_byte_fits ch) (i + 1)
   byte_less l =
       next_byte most
       (⊎_elim
       (λ h. let n : x ≤ 1 = omega arith in rw (lt-ltb most 2 h, le-leb x 1 n))
       (λ h. rw (le-ltb most 2 h))
       (below_or_above most 2))
+
+  pub byte_turn : (m : ℕ) → m ≡ ord_max nat_cmp most x → ltb m 2 ≡ all_below (choice_byte_fits ch) (i + 1)
+  byte_turn m q =
+      ⊎_elim
+      (λ (l : x < most). ap (λ (z : ℕ). ltb z 2) (q ∙ rw (lt-ltb x most l)) ∙ byte_less (omega arith))
+      (λ (l : most ≤ x). ap (λ (z : ℕ). ltb z 2) (q ∙ rw (le-ltb x most l) (last (eqb x most))) ∙ byte_more l)
+      (below_or_above x most)
+    where
+      last : (t : Bool) → cond (is_lt (cond t Equal Greater)) most x ≡ x
+      last true = refl
+      last false = refl
 
 pub byte_first : (ch : List ℕ) → ltb 0 2 ≡ all_below (choice_byte_fits ch) 0
 unfolding all_below

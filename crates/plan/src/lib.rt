@@ -24,14 +24,7 @@ use ring::Fit;
 fn numbers_fit(g: Geometry, numbers: &[u64]) -> bool
     ensures { result ≡ numbers_fit g numbers.now }
 {
-    let mut i: usize = 0;
-    while i < numbers.len() {
-        if numbers[i] >= g.disk {
-            return false;
-        }
-        i += 1;
-    }
-    true
+    numbers.iter().all(|b| *b < g.disk)
 }
 
 // Whether number i is none of those before it. It looks at all of them, so that the compiler compares several at a time.
@@ -41,10 +34,8 @@ fn is_new(numbers: &[u64], i: usize) -> bool
 {
     let number = numbers[i];
     let mut fresh = true;
-    let mut j: usize = 0;
-    while j < i {
-        fresh = fresh & (number != numbers[j]);
-        j += 1;
+    for b in &numbers[..i] {
+        fresh &= number != *b;
     }
     fresh
 }
@@ -57,15 +48,10 @@ fn numbers_apart(numbers: &[u64]) -> bool
         return true;
     }
     let mut seen = [0u8; 256];
-    let mut i: usize = 0;
-    while i < numbers.len() {
-        let at = i;
-        let r = (numbers[at] % 256) as usize;
-        i += 1;
-        if seen[r] != 0 {
-            if !is_new(numbers, at) {
-                return false;
-            }
+    for (i, b) in numbers.iter().enumerate() {
+        let r = (*b % 256) as usize;
+        if seen[r] != 0 && !is_new(numbers, i) {
+            return false;
         }
         seen[r] = 1;
     }
@@ -77,14 +63,9 @@ fn numbers_apart(numbers: &[u64]) -> bool
 pub fn choice_room(choice: &[u8]) -> usize
     ensures { result ≡ choice_room choice.now }
 {
-    let mut most: u8 = 0;
-    let mut i: usize = 0;
-    while i < choice.len() {
-        let x = choice[i];
-        i += 1;
-        if most < x {
-            most = x;
-        }
+    let mut most = 0;
+    for x in choice {
+        most = most.max(*x);
     }
     if most < 2 { choice.len() } else { 0 }
 }
@@ -140,13 +121,11 @@ pub fn next_unused(g: Geometry, card: &[u8], start: usize, from: usize) -> usize
     ensures { Reached (unused_at g card.now) g.blocks start from result }
 {
     let n = g.blocks as usize;
-    let mut j = from;
-    while j < n {
+    for j in from..n {
         let e = checks::entry_of(g, card, place_after(g, start, j));
         if !codec::in_use(e) {
             return j;
         }
-        j += 1;
     }
     n
 }
@@ -178,9 +157,8 @@ fn home_of(g: Geometry, card: &[u8], index: &[u8; 640], b: u64) -> Home
     let at = checks::find(g, card, index, b);
     if at < g.blocks as usize {
         let e = checks::entry_of(g, card, at);
-        let found = at as u8;
         return Home {
-            entry: found,
+            entry: at as u8,
             previous: replaced(e),
         };
     }
@@ -202,12 +180,10 @@ pub fn find_homes(
     requires { Indexed g card.now index.now × (numbers_fit g numbers.now ≡ true) × (length numbers.now ≤ 128) × (length entries.old ≡ 128) × (length previous.old ≡ 128) }
     ensures { Homes g card.now numbers.now entries.new previous.new }
 {
-    let mut i: usize = 0;
-    while i < numbers.len() {
-        let h = home_of(g, card, index, numbers[i]);
+    for (i, b) in numbers.iter().enumerate() {
+        let h = home_of(g, card, index, *b);
         entries[i] = h.entry;
         previous[i] = h.previous;
-        i += 1;
     }
 }
 
@@ -216,23 +192,14 @@ fn house(g: Geometry, card: &[u8], start: usize, n: usize, entries: &mut [u8; 12
     requires { Fitted g card.now × (start ≡ search_start g card.now) × (start < g.blocks) × (n ≤ 128) × (n ≤ length (unused_entries g card.now)) × (length entries.old ≡ 128) }
     ensures { Lists (housed_at g card.now entries.old) entries.new n }
 {
-    let mut walked: usize = 0;
-    let mut i: usize = 0;
-    while i < n {
-        let at = i;
-        i += 1;
-        if 128 <= entries[at] {
+    let mut walked = 0;
+    for entry in &mut entries[..n] {
+        if 128 <= *entry {
             let j = next_unused(g, card, start, walked);
-            entries[at] = place_after(g, start, j) as u8;
+            *entry = place_after(g, start, j) as u8;
             walked = j + 1;
         }
     }
-}
-
-fn wide(x: u16) -> usize
-    ensures { result ≡ x }
-{
-    x as usize
 }
 
 // The map with the bits of the first n previous blocks cleared: a finished commit gives them up. FRESH is no block.
@@ -241,12 +208,9 @@ pub fn release(map: Map, previous: &[u16; 128], n: usize) -> Map
     ensures { (p : ℕ → Bool) → map ≡ map_by p → result ≡ map_by (released p previous.now n) }
 {
     let mut left = map;
-    let mut i: usize = 0;
-    while i < n {
-        let d = wide(previous[i]);
-        i += 1;
-        if d < 256 {
-            left = freemap::without(left, d % 128);
+    for p in &previous[..n] {
+        if *p < 256 {
+            left = freemap::without(left, usize::from(*p % 128));
         }
     }
     left
@@ -309,18 +273,17 @@ pub fn admit(
     ensures { Admission card.now map numbers.now size room index.new result }
 {
     let f = ring::fit_of(card, 2, 2);
-    let g = f.geometry;
     if f.refusal != 0 {
         return Admitted {
             refusal: f.refusal,
-            geometry: g,
+            geometry: f.geometry,
             head: 0,
         };
     }
-    let r = examine(f, card, map, numbers, size, room, index);
+    let refusal = examine(f, card, map, numbers, size, room, index);
     Admitted {
-        refusal: r,
-        geometry: g,
+        refusal,
+        geometry: f.geometry,
         head: f.head,
     }
 }
@@ -338,7 +301,7 @@ pub fn stopped(g: Geometry, refusal: u8) -> Basis
     ensures { result.refusal ≡ refusal }
 {
     Basis {
-        refusal: refusal,
+        refusal,
         geometry: g,
         head: 0,
         free: 0,
@@ -363,8 +326,7 @@ pub fn meet(card: &[u8], disk: &[u8], map: Map, arranged: bool, index: &mut [u8;
     if w.refusal != 0 {
         return stopped(g, w.refusal);
     }
-    let same = freemap::same(map, w.map);
-    if !same {
+    if !freemap::same(map, w.map) {
         return stopped(g, 15);
     }
     if !arranged {
@@ -419,7 +381,7 @@ pub fn unplanned(refusal: u8) -> Saving
     ensures { result.refusal ≡ refusal }
 {
     Saving {
-        refusal: refusal,
+        refusal,
         plan: Plan {
             entries: [0u8; 128],
             previous: [0u16; 128],
@@ -440,10 +402,16 @@ pub fn prepare(card: &[u8], map: Map, numbers: &[u64], size: usize) -> Saving
     let mut entries = [0u8; 128];
     let mut previous = [0u16; 128];
     let mut blocks = [0u8; 128];
-    let g = a.geometry;
-    find_homes(g, card, &index, numbers, &mut entries, &mut previous);
+    find_homes(
+        a.geometry,
+        card,
+        &index,
+        numbers,
+        &mut entries,
+        &mut previous,
+    );
     plan_of(
-        g,
+        a.geometry,
         card,
         a.head,
         map,
@@ -455,9 +423,9 @@ pub fn prepare(card: &[u8], map: Map, numbers: &[u64], size: usize) -> Saving
     Saving {
         refusal: 0,
         plan: Plan {
-            entries: entries,
-            previous: previous,
-            blocks: blocks,
+            entries,
+            previous,
+            blocks,
         },
     }
 }

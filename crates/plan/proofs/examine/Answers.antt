@@ -11,10 +11,6 @@ returns-then-v-ne0 c = search (examined_damaged, rules)
 pub returns-then-not-same : goal.returns-then-not-same
 returns-then-not-same c = search (examined_other, rules)
 
-pub save_refusal-requires : goal.save_refusal-requires
-save_refusal-requires c =
-    c.requires.0.fitted.good
-
 pub returns : goal.returns
 returns c =
     examined_passed _ _ _ _ _ _ _ _ c.examine-v.ensures c.if-v-ne0.false _ c.same.ensures _ (ap not c.if-not-same.false) c.save_refusal.ensures

@@ -3,8 +3,8 @@ use Rattle.plan.proofs.Housing.{found_few, housed_found, housed_missed}
 use borrow.Author.Rules.{rules}
 use Rattle.plan.proofs.home_of.Goals as goal
 
-pub overflow_cast-found : goal.overflow_cast-found
-overflow_cast-found c =
+pub overflow_cast-result : goal.overflow_cast-result
+overflow_cast-result c =
     search ((found_few _ _ _ _ _ c.requires.0 c.find-at.ensures c.if-at-g.true).0, rules)
 
 pub replaced-requires : goal.replaced-requires

@@ -4,12 +4,12 @@ use Rattle.plan.proofs.Request.{differ_turn, differ_end}
 use borrow.Author.Rules.{rules}
 use Rattle.plan.proofs.is_new.Goals as goal
 
-pub loop-j-init : goal.loop-j-init
+pub loop-b-init : goal.loop-b-init
 unfolding all_below
-loop-j-init c = search rules
+loop-b-init c = search rules
 
-pub loop-j-preserved : goal.loop-j-preserved
-loop-j-preserved c = search (differ_turn, rules)
+pub loop-b-preserved : goal.loop-b-preserved
+loop-b-preserved c = differ_turn _ _ c.requires _ _ c.loop-b.invariant c.loop-b-test.true
 
 pub returns : goal.returns
 returns c = search (differ_end, rules)

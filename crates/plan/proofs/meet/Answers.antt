@@ -1,5 +1,4 @@
 -- `meet` answers the refusals before a call's own, or what it goes on from: one law for each answer.
-use borrow.Author.Rules.{rules}
 use Rattle.plan.proofs.Meeting.{met_misfit, met_disk, met_damaged, met_other, met_table, met_passed}
 use mathlib.Core.Bool.{not}
 use Rattle.std.proofs.Common.{ap}
@@ -8,16 +7,10 @@ use Rattle.plan.proofs.meet.Goals as goal
 pub returns-then-f-ne0 : goal.returns-then-f-ne0
 returns-then-f-ne0 c = met_misfit _ _ _ _ _ _ c.fit_of-f.ensures _ c.if-f-ne0.true c.stopped.ensures
 
-pub disk_refusal-other-requires : goal.disk_refusal-other-requires
-disk_refusal-other-requires c = (c.fit_of-f.ensures.framed c.if-f-ne0.false).fitted.good
-
 pub returns-then-other-ne0 : goal.returns-then-other-ne0
 returns-then-other-ne0 c =
     met_disk _ _ _ _ _ _ c.fit_of-f.ensures c.if-f-ne0.false _ c.disk_refusal-other.ensures _ c.if-other-ne0.true
     c.stopped-then-other-ne0.ensures
-
-pub examine-w-requires : goal.examine-w-requires
-examine-w-requires c = (c.fit_of-f.ensures.framed c.if-f-ne0.false, search rules)
 
 pub returns-then-w-ne0 : goal.returns-then-w-ne0
 returns-then-w-ne0 c =
@@ -27,14 +20,14 @@ returns-then-w-ne0 c =
 pub returns-then-not-same : goal.returns-then-not-same
 returns-then-not-same c =
     met_other _ _ _ _ _ _ c.fit_of-f.ensures c.if-f-ne0.false _ c.disk_refusal-other.ensures c.if-other-ne0.false _
-    c.examine-w.ensures c.if-w-ne0.false _ c.same-same.ensures _ (ap not c.if-not-same.true) c.stopped-then-not-same.ensures
+    c.examine-w.ensures c.if-w-ne0.false _ c.same.ensures _ (ap not c.if-not-same.true) c.stopped-then-not-same.ensures
 
 pub returns-then-not-arranged : goal.returns-then-not-arranged
 returns-then-not-arranged c =
     met_table _ _ _ _ _ _ c.fit_of-f.ensures c.if-f-ne0.false _ c.disk_refusal-other.ensures c.if-other-ne0.false _
-    c.examine-w.ensures c.if-w-ne0.false _ c.same-same.ensures (ap not c.if-not-same.false) _ (ap not c.if-not-arranged.true) c.stopped-then-not-arranged.ensures
+    c.examine-w.ensures c.if-w-ne0.false _ c.same.ensures (ap not c.if-not-same.false) _ (ap not c.if-not-arranged.true) c.stopped-then-not-arranged.ensures
 
 pub returns : goal.returns
 returns c =
     met_passed _ _ _ _ _ _ c.fit_of-f.ensures c.if-f-ne0.false _ c.disk_refusal-other.ensures c.if-other-ne0.false _
-    c.examine-w.ensures c.if-w-ne0.false _ c.same-same.ensures (ap not c.if-not-same.false) (ap not c.if-not-arranged.false)
+    c.examine-w.ensures c.if-w-ne0.false _ c.same.ensures (ap not c.if-not-same.false) (ap not c.if-not-arranged.false)

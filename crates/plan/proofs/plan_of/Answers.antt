@@ -6,9 +6,6 @@ use Rattle.plan.proofs.Start.{start_is}
 use Rattle.plan.proofs.Order.{plan_few, plan_ready, plan_made}
 use Rattle.plan.proofs.plan_of.Goals as goal
 
-pub search_start-start-requires : goal.search_start-start-requires
-search_start-start-requires c = c.requires.0.fitted.good
-
 pub take-taken-requires : goal.take-taken-requires
 take-taken-requires c =
     let start_of' : let a = c.args in

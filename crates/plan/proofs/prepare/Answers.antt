@@ -13,10 +13,6 @@ find_homes-requires c =
     let h = f.plannable in
     (f.indexed, f.numbers, plan_few _ _ c.args.numbers.now h.fitted.good _ h.map_is h.room, search rules, search rules)
 
-pub plan_of-requires : goal.plan_of-requires
-plan_of-requires c =
-    ((c.admit-a.ensures.findable c.if-a-ne0.false).plannable, c.find_homes.ensures, search rules)
-
 pub returns : goal.returns
 returns c =
     prepared_planned _ _ _ _ _ _ c.admit-a.ensures c.if-a-ne0.false _ _ _ _ c.plan_of.ensures

@@ -1,16 +1,17 @@
 -- `release` clears the bits of the previous blocks. The invariant: those of the ones passed are cleared.
-use Rattle.plan.proofs.Released.{left-start, left-more, left_skip, left_end}
+use native.Mathlib.Omega.{arith}
+use Rattle.plan.proofs.Released.{left-start, left-more, left_skip}
 use borrow.Author.Rules.{rules}
 use Rattle.plan.proofs.release.Goals as goal
+use Rattle.plan.proofs.release.Goals.{then-p-lt256, else-p-lt256}
 
-pub loop-i-init : goal.loop-i-init
-loop-i-init c = (search rules, left-start _ _)
+pub loop-p-init : goal.loop-p-init
+loop-p-init c = left-start _ _
 
-pub loop-i-preserved-then-d-lt256 : goal.loop-i-preserved-then-d-lt256
-loop-i-preserved-then-d-lt256 c = (search rules, search (left-more, rules))
-
-pub loop-i-preserved : goal.loop-i-preserved
-loop-i-preserved c = (search rules, search (left_skip, rules))
-
-pub returns : goal.returns
-returns c = search (left_end, rules)
+pub loop-p-preserved : goal.loop-p-preserved
+loop-p-preserved c =
+    elim c.if-p-lt256.branch [
+      | then-p-lt256 w ↦
+          left-more _ _ _ _ _ (omega arith) c.loop-p-test.true c.loop-p.invariant _ _ w.if-p-lt256.true w.from.ensures (search rules)
+      | else-p-lt256 w ↦ rw w.left-is (left_skip _ _ _ _ _ (omega arith) c.loop-p-test.true c.loop-p.invariant w.if-p-lt256.false)
+    ]
