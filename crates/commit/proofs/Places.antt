@@ -24,15 +24,15 @@ use Rattle.stores.specs.declared.Run.{Run}
 use Rattle.stores.specs.declared.Run.TheVariants.{Words, Entry, Word}
 use Rattle.stores.specs.Told.{told, Placed}
 use Rattle.stores.proofs.Laws.{entry_aligned}
-use Rattle.commit.specs.Making.{plan_by, step_runs, planned_entry, planned_block, planned_switch, planned_end, planned_runs, block_run, switch_run, run_at, Named, Ready}
+use Rattle.commit.specs.Making.{step_runs, planned_entry, planned_block, planned_switch, planned_end, planned_runs, block_run, switch_run, run_at, Named, Ready}
 
 -- ---- what the plan names
 
-module _ (g : Geometry) (es ps qs ns : List ℕ) (i : ℕ) (n : Named g (plan_by es ps qs) ns) (l : i < length ns) where
-  pub named_entry : get_or es i 0 < g.blocks
+module _ (g : Geometry) (p : Plan) (ns : List ℕ) (i : ℕ) (n : Named g p ns) (l : i < length ns) where
+  pub named_entry : get_or p.entries i 0 < g.blocks
   named_entry = n.entries i l
 
-  pub named_block : get_or qs i 0 < g.blocks
+  pub named_block : get_or p.blocks i 0 < g.blocks
   named_block = n.blocks i l
 
   pub named_low : get_or ns i 0 < 4294967296
@@ -40,43 +40,43 @@ module _ (g : Geometry) (es ps qs ns : List ℕ) (i : ℕ) (n : Named g (plan_by
 
 -- ---- one law for each answer
 
-module _ (g : Geometry) (es ps qs : List ℕ) (h : ℕ) (ns : List ℕ) (i part : ℕ) (r : Run) where
-  pub at_words : part ≡ 0 → r ≡ Words (block_place g (get_or qs i 0)) (i * block_size g) → r ≡ block_run g (plan_by es ps qs) h ns i part
+module _ (g : Geometry) (p : Plan) (h : ℕ) (ns : List ℕ) (i part : ℕ) (r : Run) where
+  pub at_words : part ≡ 0 → r ≡ Words (block_place g (get_or p.blocks i 0)) (i * block_size g) → r ≡ block_run g p h ns i part
   unfolding block_run
   at_words z e = e ∙ sym (rw (eq-eqb part 0 z))
 
   module _ (a : part ≡ 0 → ⊥) where
-    pub at_entry : part ≡ 1 → (x : Fields) → x ≡ entry_of (log_flags 2 (over_of (get_or ps i 0))) (get_or ns i 0) (previous_of (get_or ps i 0)) (get_or qs i 0)
-        → r ≡ Entry (entry_place g (get_or es i 0)) x → r ≡ block_run g (plan_by es ps qs) h ns i part
+    pub at_entry : part ≡ 1 → (x : Fields) → x ≡ entry_of (log_flags 2 (over_of (get_or p.previous i 0))) (get_or ns i 0) (previous_of (get_or p.previous i 0)) (get_or p.blocks i 0)
+        → r ≡ Entry (entry_place g (get_or p.entries i 0)) x → r ≡ block_run g p h ns i part
     unfolding block_run planned_entry number_of
-    at_entry z x q e = e ∙ ap (λ (y : Fields). Entry (entry_place g (get_or es i 0)) y) q ∙ sym (rw (ne_eqb part 0 a, eq-eqb part 1 z))
+    at_entry z x q e = e ∙ ap (λ (y : Fields). Entry (entry_place g (get_or p.entries i 0)) y) q ∙ sym (rw (ne_eqb part 0 a, eq-eqb part 1 z))
 
     module _ (b : part ≡ 1 → ⊥) where
-      pub at_slot : part ≡ 2 → r ≡ Word (slot_place (around g.slots h i)) (get_or ns i 0) → r ≡ block_run g (plan_by es ps qs) h ns i part
+      pub at_slot : part ≡ 2 → r ≡ Word (slot_place (around g.slots h i)) (get_or ns i 0) → r ≡ block_run g p h ns i part
       unfolding block_run number_of
       at_slot z e = e ∙ sym (rw (ne_eqb part 0 a, ne_eqb part 1 b, eq-eqb part 2 z))
 
-      pub at_head : (part ≡ 2 → ⊥) → r ≡ Word 64 (around g.slots h (i + 1)) → r ≡ block_run g (plan_by es ps qs) h ns i part
+      pub at_head : (part ≡ 2 → ⊥) → r ≡ Word 64 (around g.slots h (i + 1)) → r ≡ block_run g p h ns i part
       unfolding block_run
       at_head d e = e ∙ sym (rw (ne_eqb part 0 a, ne_eqb part 1 b, ne_eqb part 2 d))
 
-pub at_switch : (g : Geometry) (es ps qs ns : List ℕ) (i : ℕ) (r : Run) (x y : Fields)
-    → x ≡ entry_of (log_flags 2 (over_of (get_or ps i 0))) (get_or ns i 0) (previous_of (get_or ps i 0)) (get_or qs i 0) → y ≡ switched x → r ≡ Entry (entry_place g (get_or es i 0)) y
-    → r ≡ switch_run g (plan_by es ps qs) ns i
+pub at_switch : (g : Geometry) (p : Plan) (ns : List ℕ) (i : ℕ) (r : Run) (x y : Fields)
+    → x ≡ entry_of (log_flags 2 (over_of (get_or p.previous i 0))) (get_or ns i 0) (previous_of (get_or p.previous i 0)) (get_or p.blocks i 0) → y ≡ switched x → r ≡ Entry (entry_place g (get_or p.entries i 0)) y
+    → r ≡ switch_run g p ns i
 unfolding switch_run planned_entry number_of
-at_switch g es ps qs ns i r x y p q e = e ∙ ap (λ (z : Fields). Entry (entry_place g (get_or es i 0)) z) (q ∙ ap switched p)
+at_switch g p ns i r x y f q e = e ∙ ap (λ (z : Fields). Entry (entry_place g (get_or p.entries i 0)) z) (q ∙ ap switched f)
 
-module _ (g : Geometry) (es ps qs : List ℕ) (h : ℕ) (ns : List ℕ) (at : ℕ) (r : Run) where
-  pub at_block : at < 4 * length ns → r ≡ block_run g (plan_by es ps qs) h ns (at / 4) (at % 4) → r ≡ run_at g (plan_by es ps qs) h ns at
+module _ (g : Geometry) (p : Plan) (h : ℕ) (ns : List ℕ) (at : ℕ) (r : Run) where
+  pub at_block : at < 4 * length ns → r ≡ block_run g p h ns (at / 4) (at % 4) → r ≡ run_at g p h ns at
   unfolding run_at
   at_block l e = e ∙ sym (rw (lt-ltb at (4 * length ns) l))
 
   module _ (l : 4 * length ns ≤ at) where
-    pub at_role : at - 4 * length ns < length ns → r ≡ switch_run g (plan_by es ps qs) ns (at - 4 * length ns) → r ≡ run_at g (plan_by es ps qs) h ns at
+    pub at_role : at - 4 * length ns < length ns → r ≡ switch_run g p ns (at - 4 * length ns) → r ≡ run_at g p h ns at
     unfolding run_at
     at_role k e = e ∙ sym (rw (le-ltb at (4 * length ns) l, lt-ltb (at - 4 * length ns) (length ns) k))
 
-    pub at_tail : length ns ≤ at - 4 * length ns → r ≡ Word 72 (around g.slots h (length ns)) → r ≡ run_at g (plan_by es ps qs) h ns at
+    pub at_tail : length ns ≤ at - 4 * length ns → r ≡ Word 72 (around g.slots h (length ns)) → r ≡ run_at g p h ns at
     unfolding run_at
     at_tail k e = e ∙ sym (rw (le-ltb at (4 * length ns) l, le-ltb (at - 4 * length ns) (length ns) k))
 

@@ -12,6 +12,7 @@ ghost use Rattle.plan.specs.Planned.{previous_of, over_of};
 ghost use Rattle.commit.specs.Making.{step_runs, plan_by, planned_block, planned_switch, planned_end, part_runs, block_run, switch_run, run_at, Named, Ready, Makable, Made};
 ghost use Rattle.commit.specs.Committed.{Committed, Savable, Saved};
 
+use plan::{EMPTY, Plan};
 use protocol::{Answer, Entry, FRESH, Geometry, Map, Stored};
 use stores::Run;
 
@@ -89,25 +90,16 @@ fn ring_run(g: Geometry, at: usize, head: u64, n: usize) -> Run
 }
 
 // What the list has of block i: its words, its entry, its number into the slot at Head, Head forward by one.
-fn block_run(
-    g: Geometry,
-    entries: &[u8; 128],
-    previous: &[u16; 128],
-    blocks: &[u8; 128],
-    numbers: &[u64],
-    head: u64,
-    i: usize,
-    part: usize,
-) -> Run
-    requires { (good_geometry g ≡ true) × Named g (plan_by entries.now previous.now blocks.now) numbers.now × (length numbers.now < g.slots) × (head < g.slots) × (i < length numbers.now) }
-    ensures { result ≡ block_run g (plan_by entries.now previous.now blocks.now) head numbers.now i part }
+fn block_run(g: Geometry, plan: &Plan, numbers: &[u64], head: u64, i: usize, part: usize) -> Run
+    requires { (good_geometry g ≡ true) × Named g plan.now numbers.now × (length numbers.now < g.slots) × (head < g.slots) × (i < length numbers.now) }
+    ensures { result ≡ block_run g plan.now head numbers.now i part }
 {
     if part == 0 {
-        return words_run(g, blocks[i], i);
+        return words_run(g, plan.blocks[i], i);
     }
     if part == 1 {
-        let e = log_entry(numbers[i], previous[i], blocks[i]);
-        return entry_run(g, entries[i], e);
+        let e = log_entry(numbers[i], plan.previous[i], plan.blocks[i]);
+        return entry_run(g, plan.entries[i], e);
     }
     if part == 2 {
         return slot_run(g, head, i, numbers[i]);
@@ -116,42 +108,27 @@ fn block_run(
 }
 
 // The role switch of block i: its entry again, without R.
-fn switch_run(
-    g: Geometry,
-    entries: &[u8; 128],
-    previous: &[u16; 128],
-    blocks: &[u8; 128],
-    numbers: &[u64],
-    i: usize,
-) -> Run
-    requires { (good_geometry g ≡ true) × Named g (plan_by entries.now previous.now blocks.now) numbers.now × (i < length numbers.now) }
-    ensures { result ≡ switch_run g (plan_by entries.now previous.now blocks.now) numbers.now i }
+fn switch_run(g: Geometry, plan: &Plan, numbers: &[u64], i: usize) -> Run
+    requires { (good_geometry g ≡ true) × Named g plan.now numbers.now × (i < length numbers.now) }
+    ensures { result ≡ switch_run g plan.now numbers.now i }
 {
-    let e = switch_role(log_entry(numbers[i], previous[i], blocks[i]));
-    entry_run(g, entries[i], e)
+    let e = switch_role(log_entry(numbers[i], plan.previous[i], plan.blocks[i]));
+    entry_run(g, plan.entries[i], e)
 }
 
 // What a commit's list has at a place: four for each block in turn, then one role switch for each, then Tail set to Head. Whoever makes these in
 // order, and no others, makes commit's stores.
-pub fn run_at(
-    g: Geometry,
-    entries: &[u8; 128],
-    previous: &[u16; 128],
-    blocks: &[u8; 128],
-    numbers: &[u64],
-    head: u64,
-    at: usize,
-) -> Run
-    requires { (good_geometry g ≡ true) × Named g (plan_by entries.now previous.now blocks.now) numbers.now × (length numbers.now < g.slots) × (head < g.slots) }
-    ensures { result ≡ run_at g (plan_by entries.now previous.now blocks.now) head numbers.now at }
+pub fn run_at(g: Geometry, plan: &Plan, numbers: &[u64], head: u64, at: usize) -> Run
+    requires { (good_geometry g ≡ true) × Named g plan.now numbers.now × (length numbers.now < g.slots) × (head < g.slots) }
+    ensures { result ≡ run_at g plan.now head numbers.now at }
 {
     let n = numbers.len();
     if at < 4 * n {
-        return block_run(g, entries, previous, blocks, numbers, head, at / 4, at % 4);
+        return block_run(g, plan, numbers, head, at / 4, at % 4);
     }
     let i = at - 4 * n;
     if i < n {
-        return switch_run(g, entries, previous, blocks, numbers, i);
+        return switch_run(g, plan, numbers, i);
     }
     ring_run(g, 72, head, n)
 }
@@ -198,44 +175,34 @@ fn make_block(
 fn make_blocks(
     g: Geometry,
     card: &mut [u8],
-    entries: &[u8; 128],
-    previous: &[u16; 128],
-    blocks: &[u8; 128],
+    plan: &Plan,
     numbers: &[u64],
     data: &[u8],
     head: u64,
     choice: &[u8],
     credit: u64,
 ) -> u64
-    requires { Fitted g card.old × Ready g (plan_by entries.now previous.now blocks.now) head numbers.now «data».now × (block_size g / 8 ≤ length choice.now) }
-    ensures { Did Medium.card (each_below (planned_block g (plan_by entries.now previous.now blocks.now) head numbers.now «data».now) (length numbers.now)) choice.now credit card.old card.new result }
+    requires { Fitted g card.old × Ready g plan.now head numbers.now «data».now × (block_size g / 8 ≤ length choice.now) }
+    ensures { Did Medium.card (each_below (planned_block g plan.now head numbers.now «data».now) (length numbers.now)) choice.now credit card.old card.new result }
 {
     let mut a = credit;
     for i in 0..numbers.len() {
-        let e = log_entry(numbers[i], previous[i], blocks[i]);
-        let at = usize::from(entries[i]);
+        let e = log_entry(numbers[i], plan.previous[i], plan.blocks[i]);
+        let at = usize::from(plan.entries[i]);
         a = make_block(g, card, at, e, numbers, data, head, i, choice, a);
     }
     a
 }
 
 // The role switches: each entry again, without R.
-fn make_switches(
-    g: Geometry,
-    card: &mut [u8],
-    entries: &[u8; 128],
-    previous: &[u16; 128],
-    blocks: &[u8; 128],
-    numbers: &[u64],
-    left: u64,
-) -> u64
-    requires { Fitted g card.old × Named g (plan_by entries.now previous.now blocks.now) numbers.now }
-    ensures { (ch : List ℕ) → Did Medium.card (each_below (planned_switch g (plan_by entries.now previous.now blocks.now) numbers.now) (length numbers.now)) ch left card.old card.new result }
+fn make_switches(g: Geometry, card: &mut [u8], plan: &Plan, numbers: &[u64], left: u64) -> u64
+    requires { Fitted g card.old × Named g plan.now numbers.now }
+    ensures { (ch : List ℕ) → Did Medium.card (each_below (planned_switch g plan.now numbers.now) (length numbers.now)) ch left card.old card.new result }
 {
     let mut a = left;
     for i in 0..numbers.len() {
-        let e = switch_role(log_entry(numbers[i], previous[i], blocks[i]));
-        let place = stores::entry_place(g, usize::from(entries[i]));
+        let e = switch_role(log_entry(numbers[i], plan.previous[i], plan.blocks[i]));
+        let place = stores::entry_place(g, usize::from(plan.entries[i]));
         a = stores::make_entry(card, place, e, a);
     }
     a
@@ -245,17 +212,15 @@ fn make_switches(
 fn close_list(
     g: Geometry,
     card: &mut [u8],
-    entries: &[u8; 128],
-    previous: &[u16; 128],
-    blocks: &[u8; 128],
+    plan: &Plan,
     numbers: &[u64],
     head: u64,
     left: u64,
 ) -> u64
-    requires { Fitted g card.old × Named g (plan_by entries.now previous.now blocks.now) numbers.now × (length numbers.now < g.slots) × (head < g.slots) }
-    ensures { (ch : List ℕ) → Did Medium.card (planned_end g (plan_by entries.now previous.now blocks.now) head numbers.now) ch left card.old card.new result }
+    requires { Fitted g card.old × Named g plan.now numbers.now × (length numbers.now < g.slots) × (head < g.slots) }
+    ensures { (ch : List ℕ) → Did Medium.card (planned_end g plan.now head numbers.now) ch left card.old card.new result }
 {
-    let b = make_switches(g, card, entries, previous, blocks, numbers, left);
+    let b = make_switches(g, card, plan, numbers, left);
     let end = ring::forward(g.slots, head, numbers.len() as u64);
     stores::make_word(card, 72, end, b)
 }
@@ -265,9 +230,7 @@ fn close_list(
 fn make_list(
     g: Geometry,
     card: &mut [u8],
-    entries: &[u8; 128],
-    previous: &[u16; 128],
-    blocks: &[u8; 128],
+    plan: &Plan,
     numbers: &[u64],
     data: &[u8],
     head: u64,
@@ -275,14 +238,12 @@ fn make_list(
     credit: u64,
     closed: bool,
 ) -> u64
-    requires { Fitted g card.old × Ready g (plan_by entries.now previous.now blocks.now) head numbers.now «data».now × (block_size g / 8 ≤ length choice.now) }
-    ensures { Did Medium.card (part_runs closed g (plan_by entries.now previous.now blocks.now) head numbers.now «data».now) choice.now credit card.old card.new result }
+    requires { Fitted g card.old × Ready g plan.now head numbers.now «data».now × (block_size g / 8 ≤ length choice.now) }
+    ensures { Did Medium.card (part_runs closed g plan.now head numbers.now «data».now) choice.now credit card.old card.new result }
 {
-    let a = make_blocks(
-        g, card, entries, previous, blocks, numbers, data, head, choice, credit,
-    );
+    let a = make_blocks(g, card, plan, numbers, data, head, choice, credit);
     if closed {
-        return close_list(g, card, entries, previous, blocks, numbers, head, a);
+        return close_list(g, card, plan, numbers, head, a);
     }
     a
 }
@@ -297,24 +258,30 @@ pub fn make_save(
     map: Map,
     numbers: &[u64],
     data: &[u8],
-    entries: &mut [u8; 128],
-    previous: &[u16; 128],
-    blocks: &mut [u8; 128],
+    plan: &mut Plan,
     choice: &[u8],
     count: u64,
     allowance: u64,
     closed: bool,
 ) -> Stored
-    requires { Makable g card.old tail head map numbers.now «data».now choice.now entries.old previous.now blocks.old count }
-    ensures { Made closed g card.old head map numbers.now «data».now choice.now entries.new previous.now blocks.new count allowance result card.new }
+    requires { Makable g card.old tail head map numbers.now «data».now choice.now plan.old.entries plan.old.previous plan.old.blocks count }
+    ensures made { Made closed g card.old head map numbers.now «data».now choice.now plan.new.entries plan.old.previous plan.new.blocks count allowance result card.new }
+    ensures previous { plan.new.previous ≡ plan.old.previous }
 {
-    let after = plan::plan_of(g, card, tail, map, numbers, entries, previous, blocks);
+    let after = plan::plan_of(
+        g,
+        card,
+        tail,
+        map,
+        numbers,
+        &mut plan.entries,
+        &plan.previous,
+        &mut plan.blocks,
+    );
     make_list(
         g,
         card,
-        entries,
-        previous,
-        blocks,
+        plan,
         numbers,
         data,
         head,
@@ -333,31 +300,18 @@ pub fn save(
     map: Map,
     numbers: &[u64],
     data: &[u8],
-    entries: &mut [u8; 128],
-    previous: &[u16; 128],
+    plan: &mut Plan,
     choice: &[u8],
     allowance: u64,
 ) -> Stored
-    requires { Savable g card.old head map numbers.now «data».now choice.now entries.old previous.now }
-    ensures { Saved card.old map numbers.now «data».now choice.now allowance result card.new entries.new }
+    requires { Savable g card.old head map numbers.now «data».now choice.now plan.old.entries plan.old.previous }
+    ensures saved { Saved card.old map numbers.now «data».now choice.now allowance result card.new plan.new.entries }
+    ensures previous { plan.new.previous ≡ plan.old.previous }
 {
-    let mut blocks = [0u8; 128];
+    plan.blocks = [0; 128];
     let count = plan::count_of(g, numbers.len());
     make_save(
-        g,
-        card,
-        head,
-        head,
-        map,
-        numbers,
-        data,
-        entries,
-        previous,
-        &mut blocks,
-        choice,
-        count,
-        allowance,
-        true,
+        g, card, head, head, map, numbers, data, plan, choice, count, allowance, true,
     )
 }
 
@@ -387,25 +341,17 @@ pub fn commit(
         return stores::hand_on(Answer::Refused(s.refusal), map, map);
     }
     let g = s.geometry;
-    let mut entries = [0u8; 128];
-    let mut previous = [0u16; 128];
-    plan::find_homes(g, card, &index, numbers, &mut entries, &mut previous);
-    let mut blocks = [0u8; 128];
-    let count = plan::count_of(g, numbers.len());
-    make_save(
+    let mut plan = EMPTY;
+    plan::find_homes(
         g,
         card,
-        s.head,
-        s.head,
-        map,
+        &index,
         numbers,
-        data,
-        &mut entries,
-        &previous,
-        &mut blocks,
-        choice,
-        count,
-        allowance,
-        true,
+        &mut plan.entries,
+        &mut plan.previous,
+    );
+    let count = plan::count_of(g, numbers.len());
+    make_save(
+        g, card, s.head, s.head, map, numbers, data, &mut plan, choice, count, allowance, true,
     )
 }

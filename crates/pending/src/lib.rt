@@ -14,6 +14,7 @@ ghost use Rattle.pending.specs.Standing.{Met, Findable};
 ghost use Rattle.pending.specs.Putting.{own_refusal, Asked, Puttable, Logged, PutBlock};
 ghost use Rattle.pending.specs.Finishing.{switch_at, Places, Finishable, Finished};
 
+use plan::EMPTY;
 use protocol::{Answer, Geometry, Map, Opened, Pending, Stored};
 use ring::Window;
 
@@ -164,28 +165,20 @@ fn make_put(
     let g = s.geometry;
     let w = s.window;
     let numbers = [block];
-    let mut entries = [0u8; 128];
-    let mut previous = [0u16; 128];
-    let mut blocks = [0u8; 128];
-    plan::find_homes(g, card, index, &numbers, &mut entries, &mut previous);
-    let count = codec::block_size(g) / 8 + 3;
-    let made = commit::make_save(
+    let mut plan = EMPTY;
+    plan::find_homes(
         g,
         card,
-        w.tail,
-        w.head,
-        map,
+        index,
         &numbers,
-        data,
-        &mut entries,
-        &previous,
-        &mut blocks,
-        choice,
-        count,
-        allowance,
-        false,
+        &mut plan.entries,
+        &mut plan.previous,
     );
-    let after = freemap::with(map, usize::from(blocks[0]));
+    let count = codec::block_size(g) / 8 + 3;
+    let made = commit::make_save(
+        g, card, w.tail, w.head, map, &numbers, data, &mut plan, choice, count, allowance, false,
+    );
+    let after = freemap::with(map, usize::from(plan.blocks[0]));
     stores::hand_on(made.answer, map, after)
 }
 

@@ -362,13 +362,20 @@ pub fn plan_of(
     release(taken, previous, n)
 }
 
-// A plan as a whole, for whoever shows it.
+// A plan as a whole: for each block its entry's place, what it replaces, and its new data block.
 #[derive(Clone, Copy)]
 pub struct Plan {
     pub entries: [u8; 128],
     pub previous: [u16; 128],
     pub blocks: [u8; 128],
 }
+
+// A plan of nothing yet.
+pub const EMPTY: Plan = Plan {
+    entries: [0; 128],
+    previous: [0; 128],
+    blocks: [0; 128],
+};
 
 // What a commit comes to: refused, or planned.
 #[derive(Clone, Copy)]
@@ -382,11 +389,7 @@ pub fn unplanned(refusal: u8) -> Saving
 {
     Saving {
         refusal,
-        plan: Plan {
-            entries: [0u8; 128],
-            previous: [0u16; 128],
-            blocks: [0u8; 128],
-        },
+        plan: EMPTY,
     }
 }
 
@@ -399,16 +402,14 @@ pub fn prepare(card: &[u8], map: Map, numbers: &[u64], size: usize) -> Saving
     if a.refusal != 0 {
         return unplanned(a.refusal);
     }
-    let mut entries = [0u8; 128];
-    let mut previous = [0u16; 128];
-    let mut blocks = [0u8; 128];
+    let mut plan = EMPTY;
     find_homes(
         a.geometry,
         card,
         &index,
         numbers,
-        &mut entries,
-        &mut previous,
+        &mut plan.entries,
+        &mut plan.previous,
     );
     plan_of(
         a.geometry,
@@ -416,18 +417,11 @@ pub fn prepare(card: &[u8], map: Map, numbers: &[u64], size: usize) -> Saving
         a.head,
         map,
         numbers,
-        &mut entries,
-        &previous,
-        &mut blocks,
+        &mut plan.entries,
+        &plan.previous,
+        &mut plan.blocks,
     );
-    Saving {
-        refusal: 0,
-        plan: Plan {
-            entries,
-            previous,
-            blocks,
-        },
-    }
+    Saving { refusal: 0, plan }
 }
 
 // m, the count of stores of a commit of n blocks.

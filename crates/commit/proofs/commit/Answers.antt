@@ -39,4 +39,4 @@ returns c =
     let v =
     commit_savable _ _ _ x.«data».now x.choice.now _ _ _ c.choice_room.ensures c.admit-s.ensures
     c.if-s-ne0.false _ _ c.find_homes.ensures in
-    (save-made _ _ _ _ _ _ _ _ _ v _ _ _ _ _ _ c.count_of-count.ensures c.make_save.ensures).committed
+    (save-made _ _ _ _ _ _ _ _ _ v _ _ _ _ _ _ c.count_of-count.ensures c.make_save.ensures.made).committed

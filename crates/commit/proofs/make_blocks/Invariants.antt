@@ -9,4 +9,4 @@ use Rattle.commit.proofs.make_blocks.Given as goal
 
 abbrev pub invariant-loop-i : goal.invariant-loop-i
 invariant-loop-i l =
-    (length l.card ≡ length l.initial.card) × Did Medium.card (each_below (planned_block l.g (plan_by l.entries l.previous l.blocks) l.head l.numbers l.«data») l.i) l.choice l.credit l.initial.card l.card l.a
+    (length l.card ≡ length l.initial.card) × Did Medium.card (each_below (planned_block l.g l.plan l.head l.numbers l.«data») l.i) l.choice l.credit l.initial.card l.card l.a

@@ -7,7 +7,7 @@ make_list-requires c =
     let v = c.requires in
     (v.plannable.fitted, v.ready _ _ _ c.plan_of-after.ensures, v.wide)
 
-pub returns : goal.returns
-returns c =
+pub returns-clause-made : goal.returns-clause-made
+returns-clause-made c =
     save_stored _ _ _ _ _ _ _ _ _ _ _ _ _ _ _ _ _ _ _ c.plan_of-after.ensures c.credit.ensures
     c.make_list.ensures c.answer.ensures c.hand_on.ensures

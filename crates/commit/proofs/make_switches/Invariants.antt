@@ -11,4 +11,4 @@ use Rattle.commit.proofs.make_switches.Given as goal
 
 abbrev pub invariant-loop-i : goal.invariant-loop-i
 invariant-loop-i l =
-    (length l.card ≡ length l.initial.card) × ((ch : List ℕ) → Did Medium.card (each_below (planned_switch l.g (plan_by l.entries l.previous l.blocks) l.numbers) l.i) ch l.left l.initial.card l.card l.a)
+    (length l.card ≡ length l.initial.card) × ((ch : List ℕ) → Did Medium.card (each_below (planned_switch l.g l.plan l.numbers) l.i) ch l.left l.initial.card l.card l.a)

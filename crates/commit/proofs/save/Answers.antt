@@ -12,6 +12,6 @@ pub make_save-requires : goal.make_save-requires
 make_save-requires c =
     save_makable _ _ _ _ _ _ _ _ _ c.requires _ (search rules) _ c.count_of-count.ensures
 
-pub returns : goal.returns
-returns c =
-    save-made _ _ _ _ _ _ _ _ _ c.requires _ _ _ _ _ _ c.count_of-count.ensures c.make_save.ensures
+pub returns-clause-saved : goal.returns-clause-saved
+returns-clause-saved c =
+    save-made _ _ _ _ _ _ _ _ _ c.requires _ _ _ _ _ _ c.count_of-count.ensures c.make_save.ensures.made

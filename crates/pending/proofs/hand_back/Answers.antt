@@ -20,8 +20,8 @@ returns c = (
   refl,
   refl,
   elim c.match-s.branch [
-      in-Done w ↦ w.held-is ∙ known _ _ _ w.in-Done.is
+    | in-Done w ↦ w.held-is ∙ known _ _ _ w.in-Done.is
     | in-Cut w ↦ w.held-is ∙ known _ _ _ w.in-Cut.is
     | in-Refused w ↦ w.held-is ∙ known _ _ _ w.in-Refused.is
-    ],
+  ],
 )

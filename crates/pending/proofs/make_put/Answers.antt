@@ -20,9 +20,9 @@ make_save-made-requires c =
     put_makable _ _ _ _ _ _ _ _ c.requires.1 _ _ _ _ c.find_homes.ensures (search rules) (ap (λ (z : ℕ). z / 8 + 3) c.block_size.ensures)
 
 pub with-after-requires : goal.with-after-requires
-with-after-requires c = put_small _ _ _ _ _ _ _ _ c.requires.1 _ _ _ _ c.make_save-made.ensures.planned _ c.from.ensures
+with-after-requires c = put_small _ _ _ _ _ _ _ _ c.requires.1 _ _ _ _ c.make_save-made.ensures.made.planned _ c.from.ensures
 
 pub returns : goal.returns
 returns c =
-    λ q p. put_made _ _ q _ _ _ _ _ p _ _ _ _ _ _ _ _ _ (ap (λ (z : ℕ). z / 8 + 3) c.block_size.ensures) c.make_save-made.ensures
+    λ q p. put_made _ _ q _ _ _ _ _ p _ _ _ _ _ _ _ _ _ (ap (λ (z : ℕ). z / 8 + 3) c.block_size.ensures) c.make_save-made.ensures.made
     (c.with-after.ensures ∙ ap (with_bit _) c.from.ensures) c.hand_on.ensures
