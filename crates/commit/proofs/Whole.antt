@@ -33,7 +33,7 @@ use Rattle.plan.specs.Planned.{Homes, Planned, Plannable, Admission}
 use Rattle.plan.specs.Request.{choice_room}
 use Rattle.plan.proofs.Count.{runs_count}
 use Rattle.plan.proofs.Bounds.{Passed, passed, passed_tail, late_passed, few_numbers, new_below, entry_below, unused_room}
-use Rattle.plan.proofs.Order.{map_eq}
+use Rattle.protocol.proofs.Maps.{map_eq}
 use Rattle.stores.proofs.Laws.{did_same, refused_answer, refused_after, refused_map, made_answer, made_after, made_map_lem}
 use Rattle.commit.specs.Making.{step_runs, planned_entry, plan_by, planned_block, planned_switch, planned_end, planned_runs, part_runs, Named, Ready, Makable, Made}
 use Rattle.commit.specs.Committed.{Committed, Savable, Saved}

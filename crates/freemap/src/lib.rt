@@ -3,7 +3,7 @@
 
 ghost use Rattle.std.specs.Prelude.{◌≡◌, ℕ, ◌+◌, ◌%◌, ◌≤◌, ◌<◌, leb, length};
 ghost use Rattle.std.specs.Int.Count.{ones};
-ghost use Rattle.protocol.specs.Map.{map_by, free_count, same_map};
+ghost use Rattle.protocol.specs.Map.{map_by, free_count};
 ghost use Rattle.freemap.specs.Bits.{with_bit, without_bit, moved_map, clear_from, free_from, next_free, taken_at};
 ghost use Rattle.freemap.specs.Taken.{Took};
 
@@ -73,12 +73,6 @@ pub fn beyond(n: usize) -> Map
     } else {
         Map { low: 0, high: 0 }
     }
-}
-
-pub fn same(a: Map, b: Map) -> bool
-    ensures { result ≡ same_map a b }
-{
-    (a.low == b.low) & (a.high == b.high)
 }
 
 // The ones of the sixteen lowest bits.

@@ -25,7 +25,7 @@ use Rattle.ring.specs.Fitted.{Fitted, Framed, Placed, WindowOf}
 use Rattle.ring.specs.Fitted.{Opened as Fitting}
 use Rattle.checks.specs.declared.Verdict.{Verdict}
 use Rattle.checks.specs.Passed.{Inspected}
-use Rattle.plan.proofs.Order.{map_eq}
+use Rattle.protocol.proofs.Maps.{map_eq}
 use Rattle.pending.specs.declared.Standing.{Standing}
 use Rattle.pending.specs.Standing.{met_refusal, Met}
 

@@ -84,7 +84,7 @@ fn meet(held: Pending, card: &[u8], map: Map, index: &mut [u8; 640]) -> Standing
     if !is_pending(held, w, v.matched) {
         return stopped(g, 18);
     }
-    if !freemap::same(map, v.map) {
+    if map != v.map {
         return stopped(g, 15);
     }
     Standing {

@@ -17,7 +17,7 @@ use Rattle.checks.specs.declared.Verdict.{Verdict}
 use Rattle.checks.specs.Passed.{Examined as Checked}
 use Rattle.plan.specs.declared.Basis.{Basis}
 use Rattle.plan.specs.Met.{met_refusal, Met}
-use Rattle.plan.proofs.Order.{map_eq}
+use Rattle.protocol.proofs.Maps.{map_eq}
 
 module _ (c d : List ℕ) (m : Map) (arranged : Bool) (xs : List ℕ) (f : Fit) (o : Opened 2 2 c f) where
   -- a refusal comes alone

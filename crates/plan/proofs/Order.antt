@@ -28,19 +28,12 @@ use Rattle.checks.specs.Passed.{Examined as Checked}
 use Rattle.plan.specs.declared.Admitted.{Admitted}
 use Rattle.plan.specs.declared.Saving.{Saving}
 use Rattle.plan.specs.Request.{size_fits, choice_room, room_fits, request_refusal, sized_refusal}
+use Rattle.protocol.proofs.Maps.{map_eq}
 use Rattle.plan.proofs.Request.{room_is, quiet_room, quiet_fits}
 use Rattle.plan.proofs.Bounds.{passed, passed_tail, unused_room}
 use Rattle.plan.proofs.Housing.{housed_is}
 use Rattle.plan.proofs.Room.{enough_free, no_room, room as has_room, room_few, taken_block, taken_map_lem, take_ready}
 use Rattle.plan.specs.Planned.{released, Homes, housed_at, Planned, Examined, Admission, Findable, Prepared}
-
--- two maps that are the same, word for word
-pub map_eq : (m n : Map) → same_map m n ≡ true → m ≡ n
-unfolding same_map
-map_eq m n h =
-    let a = eqb-true _ _ (and_left (eqb m.low n.low) _ h) in
-    let b = eqb-true _ _ (and_right (eqb m.low n.low) _ h) in
-    λ t. record { low = a t; high = b t }
 
 -- what stands behind a refusal that is one of several
 pub or_else_assoc : (a b c : ℕ) → (a or_else b) or_else c ≡ a or_else (b or_else c)

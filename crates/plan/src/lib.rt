@@ -245,7 +245,7 @@ fn examine(
     if v.refusal != 0 {
         return v.refusal;
     }
-    if !freemap::same(map, v.map) {
+    if map != v.map {
         return 15;
     }
     save_refusal(f.geometry, v.free, numbers, size, room)
@@ -326,7 +326,7 @@ pub fn meet(card: &[u8], disk: &[u8], map: Map, arranged: bool, index: &mut [u8;
     if w.refusal != 0 {
         return stopped(g, w.refusal);
     }
-    if !freemap::same(map, w.map) {
+    if map != w.map {
         return stopped(g, 15);
     }
     if !arranged {

@@ -10,6 +10,7 @@ use lib.Dec.{eqb, ltb}
 use borrow.Author.Tests.{eq-eqb, eqb-true, lt-ltb, le-ltb, not-true}
 use Rattle.protocol.specs.declared.Entry.{Entry}
 use Rattle.protocol.specs.declared.Geometry.{Geometry}
+use Rattle.protocol.specs.declared.Map.{Map}
 use Rattle.protocol.specs.Below.{any_below}
 use Rattle.protocol.specs.Layout.{geometry_of}
 use Rattle.protocol.specs.Entry.{entry_at, in_use}
@@ -22,6 +23,19 @@ use Rattle.protocol.proofs.Checks.{Limits, limits}
 use Rattle.protocol.proofs.Holds.{settled_undoable}
 use Rattle.protocol.proofs.Lawful.{Intact, currents_apart, current_below_lem}
 use Rattle.protocol.proofs.Words.{map_cong}
+
+-- what `==` tells of two maps
+pub maps_alike : (m n : Map) → (eqb m.low n.low && eqb m.high n.high) ≡ same_map m n
+unfolding same_map
+maps_alike m n = refl
+
+-- two maps that are the same, word for word
+pub map_eq : (m n : Map) → same_map m n ≡ true → m ≡ n
+unfolding same_map
+map_eq m n h =
+    let a = eqb-true _ _ (and_left (eqb m.low n.low) _ h) in
+    let b = eqb-true _ _ (and_right (eqb m.low n.low) _ h) in
+    λ t. record { low = a t; high = b t }
 
 -- the map that the card gives is not refused
 pub own_map : (c : List ℕ) → map_refusal c (map_of c) ≡ 0

@@ -43,7 +43,7 @@ impl fmt::Display for Answer {
 }
 
 // A map of the card's data blocks, a bit for each: bit d mod 64, from the lowest, of word d / 64 is set unless data block d is free.
-#[derive(Clone, Copy)]
+#[derive(Clone, Copy, PartialEq, Eq)]
 pub struct Map {
     pub low: u64,
     pub high: u64,

@@ -15,6 +15,7 @@ use Rattle.protocol.specs.declared.Mapped.TheVariants.{Is, Refused as RefusedMap
 use Rattle.protocol.specs.Layout.{geometry_of}
 use Rattle.protocol.specs.Check.{entries_fit, fit_refusal, damage_refusal}
 use Rattle.protocol.specs.Store.{card, stores_of, answer_of, after_on}
+use Rattle.protocol.proofs.Maps.{map_eq}
 use Rattle.protocol.specs.Map.{map_by, is_marked, map_of, same_map, make_refusal, made_map, map_refusal, handed_on, map_after}
 use Rattle.protocol.specs.Recover.{recover_runs, recover_refusal, recover_work}
 use Rattle.protocol.proofs.Below.{and_left, and_right}
@@ -105,13 +106,6 @@ module _ (c : List ℕ) (s : Checked) (x : Examined c s) (z : s.refusal ≡ 0) w
 
 -- ---- a refused call
 
-same_map_lem : (m n : Map) → same_map m n ≡ true → m ≡ n
-unfolding same_map
-same_map_lem m n h =
-    let low = eqb-true m.low n.low (and_left (eqb m.low n.low) _ h) in
-    let high = eqb-true m.high n.high (and_right (eqb m.low n.low) _ h) in
-    λ t. record { low = low t; high = high t }
-
 module _ (a : ℕ) (c : List ℕ) (m : Map) where
   refused_call : (r : ℕ) → r ≡ recover_refusal 2 c m → (r ≡ 0 → ⊥) → Recovered a c m c (record { answer = Refused r; map = m })
   unfolding recover_work map_after handed_on
@@ -176,7 +170,7 @@ module _ (a : ℕ) (c : List ℕ) (m : Map) where
         unfolding handed_on recover_work
         done_recovery l b q n e =
             let said = answer_is (Done p.count) (says_done a p.count l) in
-            let old : m ≡ map_of c = same_map_lem m (map_of c) (sym told ∙ not-false t h) in
+            let old : m ≡ map_of c = map_eq m (map_of c) (sym told ∙ not-false t h) in
             let own = subst (λ (g : Geometry). BlocksNoted g c g.blocks b) (x.own z) q in
             let left = e ∙ ap (λ (o : Map). moved_map o b.gone b.come) old ∙ moved_map_lem c m (sym none) b own in
             record {

@@ -346,7 +346,7 @@ pub fn recover(card: &mut [u8], map: Map, allowance: u64) -> Stored
             map: map,
         };
     }
-    if !freemap::same(map, s.map) {
+    if map != s.map {
         return Stored {
             answer: Answer::Refused(15),
             map: map,

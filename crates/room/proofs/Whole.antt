@@ -40,7 +40,7 @@ use Rattle.recency.specs.Moved.{Places}
 use Rattle.plan.specs.Planned.{previous_of, released, home_at, NOWHERE, Homes}
 use Rattle.plan.proofs.Bounds.{Passed, passed, few_numbers, entry_below}
 use Rattle.plan.proofs.Count.{runs_count}
-use Rattle.plan.proofs.Order.{map_eq}
+use Rattle.protocol.proofs.Maps.{map_eq}
 use Rattle.stores.proofs.Laws.{did_all}
 use Rattle.commit.specs.Committed.{Savable, Saved}
 use Rattle.transfer.specs.Moved.{Both, Finished}

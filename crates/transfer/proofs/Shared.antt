@@ -21,7 +21,8 @@ use Rattle.ring.proofs.Laws.{fit_fitted}
 use Rattle.plan.specs.declared.Basis.{Basis}
 use Rattle.plan.specs.Met.{met_refusal, Met}
 use Rattle.plan.specs.Request.{choice_room, room_fits}
-use Rattle.plan.proofs.Order.{map_eq, or_else_assoc}
+use Rattle.protocol.proofs.Maps.{map_eq}
+use Rattle.plan.proofs.Order.{or_else_assoc}
 use Rattle.plan.proofs.Request.{room_is}
 use Rattle.transfer.specs.Examined.{shared_refusal, Examined}
 

@@ -1,4 +1,6 @@
 -- `recover` answers its definition, leaves the card as defined and hands on the map, refused, cut or done: one law for each way.
+use mathlib.Core.Path.{sym, ◌∙◌}
+use Rattle.protocol.proofs.Maps.{maps_alike}
 use borrow.Author.Rules.{rules}
 use Rattle.recovery.proofs.Passed.{refused_recovery, refused_map, cut_recovery, done_recovery, examined_fitted, examined_window, examined_entries}
 use mathlib.Core.Bool.{not}
@@ -8,18 +10,19 @@ use Rattle.recovery.proofs.recover.Goals as goal
 pub returns-then-s-ne0 : goal.returns-then-s-ne0
 returns-then-s-ne0 c = search (refused_recovery, rules)
 
-pub returns-then-not-same : goal.returns-then-not-same
-returns-then-not-same c = search (refused_map, rules)
+pub returns-then-ne : goal.returns-then-ne
+returns-then-ne c =
+    refused_map _ _ _ _ c.examine-s.ensures c.if-s-ne0.false _ (maps_alike _ _) (sym c.ne.ensures ∙ c.if-ne.true)
 
 pub make_list-r-requires : goal.make_list-r-requires
 make_list-r-requires c = search (examined_fitted, examined_window, examined_entries, rules)
 
 pub returns-then-allowance-count : goal.returns-then-allowance-count
 returns-then-allowance-count c =
-    cut_recovery _ _ _ _ c.examine-s.ensures c.if-s-ne0.false _ c.same.ensures (ap not c.if-not-same.false) _ c.credit-credit.ensures
+    cut_recovery _ _ _ _ c.examine-s.ensures c.if-s-ne0.false _ (maps_alike _ _) (sym c.ne.ensures ∙ c.if-ne.false) _ c.credit-credit.ensures
     _ _ c.make_list-r.ensures.0 c.if-allowance-count.true
 
 pub returns : goal.returns
 returns c =
-    done_recovery _ _ _ _ c.examine-s.ensures c.if-s-ne0.false _ c.same.ensures (ap not c.if-not-same.false) _ c.credit-credit.ensures
+    done_recovery _ _ _ _ c.examine-s.ensures c.if-s-ne0.false _ (maps_alike _ _) (sym c.ne.ensures ∙ c.if-ne.false) _ c.credit-credit.ensures
     _ _ c.make_list-r.ensures.0 c.if-allowance-count.false _ c.make_list-r.ensures.1 _ c.moved.ensures
