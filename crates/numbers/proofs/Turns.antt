@@ -10,7 +10,7 @@ use native.Mathlib.Nat.{pow-suc, pow-le-pow_right, zero-lt-suc, div-div-eq-div-m
 use native.Mathlib.Numerals.{add-one}
 use native.Mathlib.Omega.{arith}
 use lib.ListN.{replicate, length-replicate, length, get_or, take, drop, set}
-use lib.Seq.{drop-drop}
+use lib.Seq.{drop-drop, ext_get_or}
 use Rattle.numbers.specs.Bytes.{be_from, be, bytes_be, part, number_at, patch}
 use Rattle.numbers.specs.Post.{Number}
 use Rattle.numbers.proofs.Laws.{length_part, get_d_part, part_one, part_append, patch_nil, patch_past, patch_as_parts}
@@ -133,12 +133,20 @@ part_back d bs at n e h =
     ∙ ap (λ (j : ℕ). take at d ++ (bs ++ drop j d)) (sym end)
     ∙ ap (λ (r : List ℕ). take at d ++ (bs ++ r)) (sym (drop-drop k at d)))
 
-pub copy_back : (d last src : List ℕ) (to from n : ℕ) → to + n ≤ length d → from + n ≤ length src → last ≡ mid_of from (from + n - from) src
-    → put_mid to (to + n - to) d last ≡ patch d to (part src from n)
+-- a place whose bytes are those of a part
+pub copy_back : (d place src : List ℕ) (to from n i : ℕ) → to + n ≤ length d → from + n ≤ length src → length place ≡ length (mid_of to (to + n - to) d)
+    → length (mid_of from (from + n - from) src) ≤ i → ((k : ℕ) → k < i → get_or place k 0 ≡ get_or (mid_of from (from + n - from) src) k 0)
+    → put_mid to (to + n - to) d place ≡ patch d to (part src from n)
 unfolding part
-copy_back d last src to from n h k e =
-    let as_many : from + n - from ≡ n = omega arith in
-    let is : last ≡ part src from n = e ∙ ap (λ (j : ℕ). take j (drop from src)) as_many in
+copy_back d place src to from n i h k long l same =
+    let there : to + n - to ≡ n = omega arith in
+    let here : from + n - from ≡ n = omega arith in
+    let bytes : mid_of from (from + n - from) src ≡ part src from n = ap (λ (j : ℕ). take j (drop from src)) here in
+    let as_many : length place ≡ n = long ∙ ap (λ (j : ℕ). length (take j (drop to d))) there ∙ length_part d to n h in
+    let all : n ≤ i = omega (arith, ap length bytes, length_part src from n k) in
+    let is : place ≡ part src from n =
+    ext_get_or 0 place (part src from n) (as_many ∙ sym (length_part src from n k))
+    (λ j m. same j (omega arith) ∙ ap (λ (r : List ℕ). get_or r j 0) bytes) in
     ap (put_mid to (to + n - to) d) is ∙ part_back d (part src from n) to n (length_part src from n k) h
 
 pub fill_back : (d last : List ℕ) (at n v : ℕ) → at + n ≤ length d → last ≡ replicate (length (mid_of at (at + n - at) d)) v

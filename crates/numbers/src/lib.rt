@@ -30,12 +30,16 @@ pub fn put(s: &mut [u8], at: usize, width: usize, v: u64)
     }
 }
 
-// Copies n bytes of src from `from` on into dst from `to` on.
+// Copies n bytes of src from `from` on into dst from `to` on. Both parts start at 0 and are as long, so that the compiler makes vector moves
+// of the loop; `copy_from_slice` would call `memmove`, which a board need not have.
 pub fn copy(dst: &mut [u8], to: usize, src: &[u8], from: usize, n: usize)
     requires { (to + n ≤ length dst.old) × (from + n ≤ length src.now) }
     ensures { dst.new ≡ patch dst.old to (part src.now from n) }
 {
-    dst[to..to + n].copy_from_slice(&src[from..from + n]);
+    let place = &mut dst[to..to + n];
+    for (i, b) in src[from..from + n].iter().enumerate() {
+        place[i] = *b;
+    }
 }
 
 // Makes n bytes of dst from `at` on v.
