@@ -14,7 +14,7 @@ use borrow.Author.Tests.{not-true, not-false, lt-ltb, le-ltb}
 use Rattle.protocol.specs.Below.{all_below}
 use Rattle.protocol.specs.Layout.{between}
 use Rattle.protocol.proofs.Below.{and_both, and_fails, all_more, all_fails, all_done}
-use Rattle.text.specs.declared.Parsed.TheVariants.{Number, Wrong}
+use Rattle.std.specs.Prelude.{Some, None}
 use Rattle.text.specs.Text.{is_digit, digit_at, value_from, is_number, parsed}
 use Rattle.text.proofs.Laws.{chosen, passed, within_low, within_high}
 
@@ -34,11 +34,11 @@ module _ (b : ℕ) (t : Bool) (q : t ≡ is_digit b) (n : not t ≡ false) where
   unfolding is_digit between
   digit_high = within_high 48 57 b (sym q ∙ not-false t n)
 
-wrong_by : (bs : List ℕ) → is_number bs ≡ false → Wrong ≡ parsed bs
+wrong_by : (bs : List ℕ) → is_number bs ≡ false → None ≡ parsed bs
 unfolding parsed
 wrong_by bs h = passed _ _ _ _ h refl
 
-pub read_none : (bs : List ℕ) → length bs ≡ 0 → Wrong ≡ parsed bs
+pub read_none : (bs : List ℕ) → length bs ≡ 0 → None ≡ parsed bs
 unfolding is_number
 read_none bs h = let l : length bs ≤ 0 = omega arith in wrong_by bs (rw (le-ltb 0 (length bs) l))
 
@@ -60,14 +60,14 @@ module _ (bs : List ℕ) (i value : ℕ) (h : Read bs i value) where
       (sym (ap (value_from value) (drop-cons bs i 0 l)) ∙ h.rest)
 
   module _ (l : i < length bs) (t : Bool) (q : t ≡ is_digit (get_or bs i 0)) where
-    pub read_bad : not t ≡ true → Wrong ≡ parsed bs
+    pub read_bad : not t ≡ true → None ≡ parsed bs
     unfolding is_number digit_at
     read_bad n =
         let e : is_digit (get_or bs i 0) ≡ false = sym q ∙ not-true t n in
         wrong_by bs (and_fails (ltb 0 (length bs)) _ (rw (all_fails (digit_at bs) (length bs) i l e)))
 
     module _ (n : not t ≡ false) (d : ℕ) (e : d ≡ get_or bs i 0 - 48) where
-      pub read_past : (18446744073709551615 - d) / 10 < value → Wrong ≡ parsed bs
+      pub read_past : (18446744073709551615 - d) / 10 < value → None ≡ parsed bs
       unfolding is_number
       read_past p =
           let past : 2 ^ 64 ≤ value_from 0 bs =
@@ -82,11 +82,11 @@ module _ (bs : List ℕ) (i value : ℕ) (h : Read bs i value) where
         small = omega (arith, digit_high _ t q n);
       }
 
-  pub read_end : i ≤ length bs → length bs ≤ i → (length bs ≡ 0 → ⊥) → Number value ≡ parsed bs
+  pub read_end : i ≤ length bs → length bs ≤ i → (length bs ≡ 0 → ⊥) → Some value ≡ parsed bs
   unfolding parsed is_number value_from
   read_end a b n =
       let v : value ≡ value_from 0 bs = sym (ap (value_from value) (drop_of_length-le bs b)) ∙ h.rest in
       let some : 0 < length bs = omega arith in
       chosen _ _ _ _
       (and_both (lt-ltb _ _ some) (and_both (all_done (digit_at bs) (length bs) i h.digits b a) (lt-ltb _ _ (rw v at h.small))))
-      (ap Number v)
+      (ap Some v)
