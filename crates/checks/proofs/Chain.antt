@@ -115,13 +115,6 @@ pub record Walked (f : ℕ → ℕ) (k from at : ℕ) : Type 0 where
   pub end : last_below (in_chain f (k % CHAINS)) at ≡ at
   pub left : last_below (keyed f k) at ≡ last_below (keyed f k) from
 
-pub walk_start : (f : ℕ → ℕ) (k from at : ℕ) → at ≡ from → last_below (in_chain f (k % CHAINS)) from ≡ from → Walked f k from at
-walk_start f k from at e h = record {
-  within = omega arith;
-  end = ap (last_below (in_chain f (k % CHAINS))) e ∙ h ∙ sym e;
-  left = ap (last_below (keyed f k)) e;
-}
-
 -- an index above zero, by what stands below it
 below_it : (n : ℕ) → 0 < n → n ≡ suc (n - 1)
 below_it n h = omega arith

@@ -9,3 +9,4 @@ pub mod Laws
 pub mod Search
 pub mod Marks
 pub mod Order
+pub mod Reading

@@ -10,7 +10,7 @@ use Rattle.protocol.specs.Check.{window_number_fits}
 use Rattle.protocol.specs.Pending.{slot_logged, slot_new, role_in_window, is_matched}
 use Rattle.protocol.proofs.Below.{absurd_bool, either, and_left, and_right, and_both, and_fails, same_or_other, all_at, any_found, any_miss, first_found, first_missed}
 use Rattle.ring.specs.declared.Window.{Window}
-use Rattle.ring.specs.Fitted.{Fitted, WindowOf}
+use Rattle.ring.specs.Fitted.{Fitted}
 use Rattle.ring.proofs.Laws.{fitted_blocks, fitted_disk}
 use Rattle.checks.specs.declared.Settling.{Settling}
 use Rattle.checks.specs.Keys.{NONE, number_key, distinct}
@@ -163,16 +163,6 @@ pub once_more : (g : Geometry) (c : List ℕ) (j : ℕ) (once r : Bool) → once
     → once && r ≡ all_below (slot_once g c) (j + 1)
 unfolding all_below
 once_more g c j once r h e = (λ t. h t && e t) ∙ ap (all_below (slot_once g c)) (sym (add-one j))
-
-module _ (g : Geometry) (c xs : List ℕ) (j n : ℕ) (a : j ≤ n) (b : n ≤ j) where
-  pub marks_end : Marked g c xs j → Marked g c xs n
-  marks_end = let s : j ≡ n = omega arith in subst (Marked g c xs) s
-
-  pub once_end : (once : Bool) → once ≡ all_below (slot_once g c) j → once ≡ all_below (slot_once g c) n
-  once_end once h = let s : j ≡ n = omega arith in h ∙ ap (all_below (slot_once g c)) s
-
-pub marks_all : (g : Geometry) (c xs : List ℕ) (w : Window) → WindowOf g c w → Marked g c xs w.count → Marked g c xs (window_of g c)
-marks_all g c xs w h = subst (Marked g c xs) h.count
 
 all_and : (p q : ℕ → Bool) (n : ℕ) → all_below (λ i. p i && q i) n ≡ all_below p n && all_below q n
 unfolding all_below

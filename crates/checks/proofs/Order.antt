@@ -1,5 +1,5 @@
 -- Checks 4 to 7 in their order. Assumes nothing.
-use Rattle.std.proofs.Common.{◌≡◌, ℕ, ◌+◌, ◌<◌, Bool, true, false, not, ◌&&◌, ◌||◌, eqb, ltb, List, sym, refl, ap, ◌∙◌, subst, arith, ltb-true, eq-eqb, ne_eqb, eqb-true}
+use Rattle.std.proofs.Common.{◌≡◌, ℕ, ◌+◌, ◌<◌, Bool, true, false, not, ◌&&◌, ◌||◌, eqb, ltb, List, sym, refl, ap, ◌∙◌, subst, arith, ltb-true, eq-eqb, ne_eqb}
 use borrow.Author.Tests.{not-true, not-false}
 use Rattle.protocol.specs.declared.Geometry.{Geometry}
 use Rattle.protocol.specs.declared.Map.{Map}
@@ -19,7 +19,7 @@ use Rattle.checks.specs.declared.Settling.{Settling}
 use Rattle.checks.specs.declared.Verdict.{Verdict}
 use Rattle.checks.specs.Keys.{NONE, number_key, current_key, settled_key, keyed, distinct}
 use Rattle.checks.specs.Marks.{slot_once}
-use Rattle.checks.specs.Passed.{Decoded, Comparable, Indexed, Settles, Unsettled, Weighed, Inspected, Examined}
+use Rattle.checks.specs.Passed.{Decoded, Indexed, Settles, Unsettled, Weighed, Inspected, Examined}
 use Rattle.checks.proofs.Keys.{distinct_same, apart_keys, settled_keys}
 use Rattle.checks.proofs.Settled.{settled_matched, settled_map}
 use Rattle.checks.proofs.Tally.{map_both}
@@ -100,14 +100,6 @@ module _ (f : Fit) (c xs : List ℕ) (r : Bool) (frame : Framed c f) (ring : r �
       settled_test : eqb f.head f.tail && s.quiet ≡ is_settled f.geometry c
       unfolding is_settled
       settled_test = λ i. eqb (frame.head_is i) (frame.tail_is i) && d.quiet on i
-
-      pub comparable : Comparable f.geometry c xs (not (eqb s.shared 0))
-      comparable = record {
-        fitted = frame.fitted;
-        fits = sym d.fits ∙ on;
-        chains = d.chains on;
-        alone = λ z. d.alone on (eqb-true s.shared 0 (not-false (eqb s.shared 0) z));
-      }
 
       module _ (p : Bool) (differ : p ≡ distinct (number_key f.geometry c) NONE f.geometry.blocks) where
         pub number_damaged : (v : Verdict) → not p ≡ true → v.refusal ≡ 6 → Inspected f.geometry c xs v

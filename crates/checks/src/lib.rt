@@ -35,19 +35,13 @@ fn field_of(g: Geometry, card: &[u8], i: usize, from: usize, width: usize) -> u6
     numbers::get(card, at as usize + from, width)
 }
 
-fn narrow(x: u64) -> usize
-    ensures { result ≡ x }
-{
-    x as usize
-}
-
 // Puts entry i with the number b at the end of its chain: the index has 512 ends of chains by remainder, and then for each entry the one before
 // it in its chain, as one more than their places, 0 for none. Hands back the one before.
 fn enter(index: &mut [u8; 640], i: usize, b: u64) -> u8
     requires { (length index.old ≡ 640) × (i < 128) }
     ensures { Entered index.old i b index.new result }
 {
-    let r = narrow(b % 512);
+    let r = (b % 512) as usize;
     let before = index[r];
     index[512 + i] = before;
     index[r] = i as u8 + 1;
@@ -63,18 +57,6 @@ pub struct Seen {
     pub shared: u8,
     pub count: u64,
     pub map: Map,
-}
-
-fn found(quiet: bool, shared: u8, count: u64, map: Map) -> Seen
-    ensures { result ≡ record { fits = true; quiet = quiet; shared = shared; count = count; map = map } }
-{
-    Seen {
-        fits: true,
-        quiet: quiet,
-        shared: shared,
-        count: count,
-        map: map,
-    }
 }
 
 fn misfit() -> Seen
@@ -144,13 +126,10 @@ fn decode(g: Geometry, version: u64, card: &[u8], index: &mut [u8; 640]) -> Seen
     let mut shared = 0;
     let mut count = 128 - g.blocks;
     let mut map = freemap::beyond(n);
-    let mut i: usize = 0;
-    while i < n {
-        let at = i;
-        let w = field_of(g, card, at, 0, 8);
-        let p = field_of(g, card, at, 8, 4);
-        let q = field_of(g, card, at, 12, 4);
-        i += 1;
+    for i in 0..n {
+        let w = field_of(g, card, i, 0, 8);
+        let p = field_of(g, card, i, 8, 4);
+        let q = field_of(g, card, i, 12, 4);
         if w == 0 {
             if (p | q) != 0 {
                 return misfit();
@@ -163,26 +142,19 @@ fn decode(g: Geometry, version: u64, card: &[u8], index: &mut [u8; 640]) -> Seen
             if b == NO_NUMBER {
                 return misfit();
             }
-            roles = roles | w;
-            map = freemap::with(map, narrow(q));
+            roles |= w;
+            map = freemap::with(map, q as usize);
             count += 1;
-            shared = shared | enter(index, at, b);
+            shared |= enter(index, i, b);
         }
     }
-    let quiet = roles / 0x0100_0000_0000_0000 % 2 != 1;
-    found(quiet, shared, count, map)
-}
-
-fn wide(k: u32) -> usize
-    ensures { result ≡ k }
-{
-    k as usize
-}
-
-fn place(x: u8) -> usize
-    ensures { result ≡ x }
-{
-    x as usize
+    Seen {
+        fits: true,
+        quiet: roles / 0x0100_0000_0000_0000 % 2 != 1,
+        shared,
+        count,
+        map,
+    }
 }
 
 // One more than the place of the last entry of a chain that has the number b, from the one before `from` down; 0 where none has.
@@ -190,12 +162,12 @@ fn chase(g: Geometry, card: &[u8], index: &[u8; 640], b: u64, from: u8) -> usize
     requires { Fitted g card.now × (entries_fit g card.now ≡ true) × Chained g card.now index.now b from }
     ensures { result ≡ last_below (keyed (number_key g card.now) b) from }
 {
-    let mut at = place(from);
+    let mut at = usize::from(from);
     while 0 < at {
         if field_of(g, card, at - 1, 4, 4) == b {
             return at;
         }
-        at = place(index[512 + at - 1]);
+        at = usize::from(index[512 + at - 1]);
     }
     0
 }
@@ -206,15 +178,10 @@ fn numbers_apart(g: Geometry, card: &[u8], index: &[u8; 640]) -> bool
     ensures { result ≡ distinct (number_key g card.now) NONE g.blocks }
 {
     let n = g.blocks as usize;
-    let mut i: usize = 0;
-    while i < n {
-        let at = i;
-        let from = index[512 + at];
-        i += 1;
-        if from != 0 {
-            if chase(g, card, index, field_of(g, card, at, 4, 4), from) != 0 {
-                return false;
-            }
+    for i in 0..n {
+        let from = index[512 + i];
+        if from != 0 && chase(g, card, index, field_of(g, card, i, 4, 4), from) != 0 {
+            return false;
         }
     }
     true
@@ -239,7 +206,7 @@ pub fn find(g: Geometry, card: &[u8], index: &[u8; 640], b: u64) -> usize
     requires { Indexed g card.now index.now × (b < NONE) }
     ensures { result ≡ find_entry g card.now b }
 {
-    let at = chase(g, card, index, b, index[narrow(b % 512)]);
+    let at = chase(g, card, index, b, index[(b % 512) as usize]);
     if at == 0 { g.blocks as usize } else { at - 1 }
 }
 
@@ -275,12 +242,9 @@ fn mark_window(
     requires { Windowed g card.now index.now w × (marks.old ≡ replicate 128 0) }
     ensures { Marked g card.now marks.new w.count × (result ≡ all_below (slot_once g card.now) w.count) }
 {
-    let count = w.count;
     let mut once = true;
-    let mut j: u64 = 0;
-    while j < count {
-        once = once & mark(g, card, index, w, j, marks);
-        j += 1;
+    for j in 0..w.count {
+        once &= mark(g, card, index, w, j, marks);
     }
     once
 }
@@ -316,13 +280,11 @@ fn settle(g: Geometry, card: &[u8], marks: &[u8; 128]) -> Settling
     let mut roles = true;
     let mut count: u64 = 0;
     let mut map = Map { low: 0, high: 0 };
-    let mut i: usize = 0;
-    while i < n {
+    for i in 0..n {
         let e = entry_of(g, card, i);
         let marked = marks[i] != 0;
-        let k = wide(settled_key(e, marked));
-        roles = roles & (!(codec::in_use(e) & codec::has_log_role(e)) | marked);
-        i += 1;
+        let k = settled_key(e, marked) as usize;
+        roles &= !(codec::in_use(e) & codec::has_log_role(e)) | marked;
         if k < 128 {
             map = freemap::with(map, k);
             count += 1;
@@ -330,8 +292,8 @@ fn settle(g: Geometry, card: &[u8], marks: &[u8; 128]) -> Settling
     }
     Settling {
         apart: freemap::free_count(map) + count == 128,
-        roles: roles,
-        map: map,
+        roles,
+        map,
     }
 }
 
@@ -362,7 +324,7 @@ fn refused(refusal: u8) -> Verdict
     ensures { result.refusal ≡ refusal }
 {
     Verdict {
-        refusal: refusal,
+        refusal,
         settled: false,
         matched: false,
         free: 0,
@@ -379,8 +341,8 @@ fn settled_verdict(free: u64, map: Map) -> Verdict
         refusal: 0,
         settled: true,
         matched: true,
-        free: free,
-        map: map,
+        free,
+        map,
         currents: map,
     }
 }
@@ -398,15 +360,14 @@ fn unsettled_verdict(g: Geometry, card: &[u8], index: &[u8; 640], currents: Map)
     if !s.apart {
         return refused(6);
     }
-    let more = s.map;
-    let map = freemap::moved(currents, Map { low: 0, high: 0 }, more);
+    let map = freemap::moved(currents, Map { low: 0, high: 0 }, s.map);
     Verdict {
         refusal: 0,
         settled: false,
         matched: once & s.roles,
         free: freemap::free_count(map),
-        map: map,
-        currents: currents,
+        map,
+        currents,
     }
 }
 
@@ -429,11 +390,10 @@ pub fn inspect(f: Fit, card: &[u8], index: &mut [u8; 640]) -> Verdict
     if !numbers_differ(f.geometry, card, index, seen.shared != 0) {
         return refused(6);
     }
-    let map = seen.map;
     if (f.head == f.tail) & seen.quiet {
-        return settled_verdict(free, map);
+        return settled_verdict(free, seen.map);
     }
-    unsettled_verdict(f.geometry, card, index, map)
+    unsettled_verdict(f.geometry, card, index, seen.map)
 }
 
 // 4 to 6: a damaged card.
@@ -442,8 +402,7 @@ pub fn damage_refusal(f: Fit, card: &[u8]) -> u8
     ensures { result ≡ damage_refusal f.geometry card.now }
 {
     let mut index = [0u8; 640];
-    let v = inspect(f, card, &mut index);
-    v.refusal
+    inspect(f, card, &mut index).refusal
 }
 
 // 4 to 7: a damaged card, or one that an earlier cut left unsettled. The index is of a card that passed them.
@@ -464,6 +423,5 @@ pub fn card_refusal(f: Fit, card: &[u8]) -> u8
     ensures { result ≡ card_refusal f.geometry card.now }
 {
     let mut index = [0u8; 640];
-    let v = examine(f, card, &mut index);
-    v.refusal
+    examine(f, card, &mut index).refusal
 }

@@ -5,7 +5,6 @@ use mathlib.Core.List.{List, ◌++◌}
 use mathlib.Core.Bool.{Bool, true, false, cond, not}
 use mathlib.Core.Path.{◌≡◌, refl, sym, ap, ◌∙◌, subst}
 use mathlib.Core.Logic.{⊎_elim}
-use native.Mathlib.Nat.{not-suc-le-zero}
 use native.Mathlib.Numerals.{add-one}
 use native.Mathlib.Omega.{arith}
 use lib.ListN.{length, get_or, set, take, length-set, get_or-append}
@@ -28,10 +27,10 @@ use Rattle.protocol.proofs.Searches.{count_cong}
 use Rattle.protocol.proofs.Allowed.{bounded}
 use Rattle.checks.specs.Keys.{NONE, key_at, Lists}
 use Rattle.checks.specs.Passed.{Indexed}
-use Rattle.checks.proofs.Laws.{lists_none, lists_more, lists_all}
+use Rattle.checks.proofs.Laws.{lists_none, lists_more}
 use Rattle.plan.specs.declared.Home.{Home}
 use Rattle.plan.specs.Walked.{passed_by, unused_before, Reached}
-use Rattle.plan.specs.Planned.{previous_of, over_of, NOWHERE, Housed, Replaced, home_at, Homes, is_nowhere, housed_at}
+use Rattle.plan.specs.Planned.{previous_of, over_of, NOWHERE, Housed, Replaced, home_at, is_nowhere, housed_at}
 use Rattle.plan.proofs.Rows.{walk_nth, reach_found, reach_next}
 
 -- ---- one entry of the walk
@@ -133,13 +132,6 @@ pub record Found (g : Geometry) (c ns : List ℕ) (i : ℕ) (es ps : List ℕ) :
   pub replaced : Replaced g c ns ps i
   pub long : (length es ≡ 128) × (length ps ≡ 128)
 
-pub found_start : (g : Geometry) (c ns es ps : List ℕ) → length es ≡ 128 → length ps ≡ 128 → Found g c ns 0 es ps
-found_start g c ns es ps a b = record {
-  entries = lists_none (home_at g c ns) es;
-  replaced = record { previous = λ j l. absurd (not-suc-le-zero l); over = λ j l. absurd (not-suc-le-zero l) };
-  long = (a, b);
-}
-
 module _ (g : Geometry) (c ns : List ℕ) (i : ℕ) (es ps : List ℕ) (f : Found g c ns i es ps) where
   pub found_turn : (r : Home) → i < length ns → length ns ≤ 128 → Housed g c (get_or ns i 0) r
       → Found g c ns (i + 1) (set es i r.entry) (set ps i r.previous)
@@ -162,13 +154,6 @@ module _ (g : Geometry) (c ns : List ℕ) (i : ℕ) (es ps : List ℕ) (f : Foun
           (ap of (get_or-set_same ps i r.previous 0 (omega (arith, f.long))) ∙ now))
           (λ (q : j < i). ap of (get_or-set_other ps i j r.previous 0 (omega arith)) ∙ before j q)
           (last_or_before j i (rw add-one at k))
-
-  pub found_end : length ns ≤ i → Homes g c ns es ps
-  found_end l = record {
-    entries = lists_all (home_at g c ns) es i (length ns) l f.entries;
-    replaced = record { previous = λ j b. f.replaced.previous j (omega arith); over = λ j b. f.replaced.over j (omega arith) };
-    long = f.long.0;
-  }
 
 -- ---- those not cached get the next unused entries
 

@@ -60,8 +60,3 @@ module _ (m₀ m : Map) (xs : List ℕ) (n i : ℕ) (inside : n ≤ length xs) (
       h p r ∙ map_cong _ _
       (λ y l. ap (λ (o : Bool). p y && not o) (sym (any_miss (λ k. eqb (previous_of (get_or xs k 0)) y) i
       (ap (λ (z : ℕ). eqb (previous_of z) y) (sym here) ∙ ap (λ (z : ℕ). eqb z y) (rw (le-ltb x 256 b)) ∙ ne_eqb FRESH y (omega arith)))))
-
-pub left_end : (m₀ m : Map) (xs : List ℕ) (n i : ℕ) → n ≤ length xs → Left m₀ xs i m → i ≤ length (take n xs) → length (take n xs) ≤ i → Left m₀ xs n m
-left_end m₀ m xs n i inside h a b p r =
-    let e : i ≡ n = omega (arith, length-take-le n xs inside) in
-    h p r ∙ ap (λ (z : ℕ). map_by (released p xs z)) e

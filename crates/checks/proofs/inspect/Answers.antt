@@ -1,7 +1,7 @@
 -- `inspect` answers checks 4 to 6 in their order, and the map and the index of a card that passes them.
 use Rattle.std.proofs.Common.{◌≤◌, rules}
 use borrow.Author.Tests.{not-false}
-use Rattle.checks.proofs.Order.{ring_damaged, entry_damaged, block_damaged, number_damaged, comparable, passed_settled, unsettled, passed_unsettled}
+use Rattle.checks.proofs.Order.{ring_damaged, entry_damaged, block_damaged, number_damaged, passed_settled, unsettled, passed_unsettled}
 use Rattle.checks.proofs.Tally.{free_few}
 use mathlib.Core.Bool.{not}
 use Rattle.std.proofs.Common.{ap}
@@ -20,9 +20,6 @@ overflow_add-free c =
 
 pub returns-then-free-seen-ne128 : goal.returns-then-free-seen-ne128
 returns-then-free-seen-ne128 c = search (block_damaged, rules)
-
-pub numbers_differ-requires : goal.numbers_differ-requires
-numbers_differ-requires c = search (comparable, rules)
 
 pub returns-then-not-numbers_differ : goal.returns-then-not-numbers_differ
 returns-then-not-numbers_differ c =

@@ -1,11 +1,7 @@
 -- `unsettled_verdict` answers the rest of check 6, and the map and the index of a card that passes it.
-use Rattle.checks.proofs.Marks.{marks_all}
 use Rattle.checks.proofs.Order.{settled_alike, settled_apart}
 use Rattle.std.proofs.Common.{rules}
 use Rattle.checks.proofs.unsettled_verdict.Goals as goal
-
-pub settle-s-requires : goal.settle-s-requires
-settle-s-requires c = search (marks_all, rules)
 
 pub returns-then-not-s : goal.returns-then-not-s
 returns-then-not-s c = search (settled_alike, rules)
