@@ -7,7 +7,4 @@ use Rattle.image.specs.Walked.{Walked}
 use Rattle.image.proofs.walk_list.Given as goal
 
 abbrev pub invariant-loop-i : goal.invariant-loop-i
-invariant-loop-i g l = (l.i ≤ l.n + 1) × Walked (each_below (runs_at l.g l.initial.card) l.i) l.allowance l.initial.card l.card l.so × (l.so.count ≤ l.i)
-
-abbrev pub decreases-loop-i : goal.decreases-loop-i
-decreases-loop-i g l = l.n + 1 - l.i
+invariant-loop-i g l = Walked (each_below (runs_at l.g l.initial.card) l.i) l.allowance l.initial.card l.card l.so × (l.so.count ≤ l.i)
