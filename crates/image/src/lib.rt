@@ -31,8 +31,10 @@ pub fn name(path: &[u8]) -> io::Result<&str>
     ensures ok { IfOk result (λ text. text.now ≡ path.now) }
     ensures succeeds { IsOk result ↔ IsUtf8 path.now }
 {
-    str::from_utf8(path)
-        .map_err(|_| io::Error::new(ErrorKind::InvalidInput, "the name is not UTF-8"))
+    str::from_utf8(path).map_err(|_| io::Error::new(
+        ErrorKind::InvalidInput,
+        "the name is not UTF-8",
+    ))
 }
 
 // Reads the file's first bytes, as many as the buffer holds, and returns how many it put at the front. Where a read fails, what was read

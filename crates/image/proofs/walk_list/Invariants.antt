@@ -1,6 +1,6 @@
 -- `walk_list` walks recovery's list. The loop's invariant: the places passed are walked, which leaves the window and the entries ahead as
 -- they stood.
-use Rattle.std.proofs.Common.{◌+◌, ◌-◌, ◌≤◌}
+use Rattle.std.proofs.Common.{◌≤◌}
 use Rattle.protocol.specs.Below.{each_below}
 use Rattle.recovery.specs.Step.{runs_at}
 use Rattle.image.specs.Walked.{Walked}
