@@ -2,6 +2,7 @@
 #![tactic(auto)]
 
 ghost use Rattle.std.specs.Prelude.{◌≡◌, ◌≤◌, length, take, IfSome};
+ghost use Rattle.std.specs.Result.{result_ok};
 
 use listing::{count, fail, say};
 use std::fs::{File, OpenOptions};
@@ -21,6 +22,19 @@ pub fn is_special(rt: &HostRuntime, path: &[u8]) -> bool {
     true
 }
 
+// The value; or none, and it is said why.
+fn or_say<T>(rt: &HostRuntime, path: &[u8], r: io::Result<T>) -> Option<T>
+    ensures { result ≡ result_ok r }
+{
+    match r {
+        Ok(x) => Some(x),
+        Err(e) => {
+            fail(&rt.stderr(), path, e);
+            None
+        }
+    }
+}
+
 fn open_as(rt: &HostRuntime, how: &OpenOptions, path: &[u8]) -> io::Result<File> {
     how.open(rt, image::name(path)?)
 }
@@ -30,13 +44,7 @@ fn open_or_say(rt: &HostRuntime, how: &OpenOptions, path: &[u8]) -> Option<File>
     if is_special(rt, path) {
         return None;
     }
-    match open_as(rt, how, path) {
-        Ok(file) => Some(file),
-        Err(e) => {
-            fail(&rt.stderr(), path, e);
-            None
-        }
-    }
+    or_say(rt, path, open_as(rt, how, path))
 }
 
 // The file, open for reading; or none, and it is said why.
@@ -54,13 +62,7 @@ pub fn load(rt: &HostRuntime, path: &[u8], file: &mut File, buf: &mut [u8]) -> O
     ensures within { IfSome result (λ count. (count ≤ length buf.new) × (count ≡ length (take count buf.new))) }
     ensures kept { length buf.new ≡ length buf.old }
 {
-    match image::read(file, buf) {
-        Ok(count) => Some(count),
-        Err(e) => {
-            fail(&rt.stderr(), path, e);
-            None
-        }
-    }
+    or_say(rt, path, image::read(file, buf))
 }
 
 // Opens the file, reads it and closes it, and says what went wrong.

@@ -7,6 +7,8 @@ use native.Mathlib.Omega.{arith}
 use lib.ListN.{length}
 use lib.Dec.{eqb, ltb, leb}
 use borrow.Author.Tests.{lt-ltb, le-ltb, ltb-true, eq-eqb, ne_eqb, not-true, not-false}
+use Rattle.std.specs.Prelude.{Option, Some, None}
+use Rattle.std.specs.Option.{MatchOption, unwrap_or}
 use Rattle.numbers.specs.Bytes.{number_at}
 use Rattle.numbers.specs.Post.{Number}
 use Rattle.protocol.specs.declared.Geometry.{Geometry}
@@ -17,7 +19,7 @@ use Rattle.protocol.specs.Entry.{entry_at, in_use, allowed_flags, is_unused, goo
 use Rattle.protocol.specs.Ring.{head_of, tail_of, window_of, window_number, used_at, undoable_at, settled_block}
 use Rattle.protocol.specs.Check.{refuse, ◌or_else◌, header_fits, card_fits, window_number_fits, ring_fits, good_entry_at, entries_fit}
 use Rattle.protocol.specs.Check.{alike, apart, apart_before, entries_apart, fit_refusal, damage_refusal}
-use Rattle.protocol.proofs.Below.{absurd_bool, and_left, and_right, any_more}
+use Rattle.protocol.proofs.Below.{absurd_bool, and_left, and_right, any_more, first_none, first_at}
 use Rattle.protocol.proofs.Checks.{refuse_none}
 use Rattle.ring.specs.declared.Fit.{Fit}
 use Rattle.ring.specs.declared.Window.{Window}
@@ -259,12 +261,12 @@ module _ (v n d i : ℕ) (e : Entry) (u : Bool) (eu : u ≡ is_unused e) where
           pub entry_previous : not p ≡ true → Previous i ≡ entry_fault_of v n d i e
           entry_previous h = flags_past (Previous i) (on_lt _ _ _ e.number d l (off_not _ _ _ _ p ep h refl))
 
-          module _ (hp : not p ≡ false) (q : Bool) (eq : q ≡ ltb e.current n) where
-            pub entry_current : not q ≡ true → Current i ≡ entry_fault_of v n d i e
-            entry_current h = flags_past (Current i) (on_lt _ _ _ e.number d l (on_not _ _ _ _ p ep hp (off_not _ _ _ _ q eq h refl)))
+          module _ (hp : not p ≡ false) where
+            pub entry_current : n ≤ e.current → Current i ≡ entry_fault_of v n d i e
+            entry_current h = flags_past (Current i) (on_lt _ _ _ e.number d l (on_not _ _ _ _ p ep hp (off_lt _ _ _ e.current n h refl)))
 
-            pub entry_fine : not q ≡ false → Sound ≡ entry_fault_of v n d i e
-            entry_fine h = flags_past Sound (on_lt _ _ _ e.number d l (on_not _ _ _ _ p ep hp (on_not _ _ _ _ q eq h refl)))
+            pub entry_fine : e.current < n → Sound ≡ entry_fault_of v n d i e
+            entry_fine h = flags_past Sound (on_lt _ _ _ e.number d l (on_not _ _ _ _ p ep hp (on_lt _ _ _ e.current n h refl)))
 
 module _ (g : Geometry) (c : List ℕ) (i : ℕ) (none : any_below (fails (good_entry_at g c)) i ≡ false) where
   module _ (v : ℕ) (version : v ≡ version_of c) (e : Entry) (ok : Bool) (is : e ≡ entry_at g c i) (good : ok ≡ good_entry v g.blocks g.disk e) where
@@ -329,17 +331,14 @@ module _ (g : Geometry) (c : List ℕ) (i j : ℕ) (a b : Entry) (p : a ≡ entr
       pub pair_none : s ≡ false → Sound ≡ pair_fault_of g c i j
       pair_none h = pair_told _ (off_eq _ _ _ _ _ m (off_eq _ _ _ _ _ k (off_no _ _ _ _ s es h refl)))
 
-module _ (g : Geometry) (c : List ℕ) (i j : ℕ) (r : Bool) (is : r ≡ apart g c i j) where
-  pub alike_here : any_below (fails (apart g c i)) j ≡ false → j < i → not r ≡ true → j ≡ first_alike g c i
-  unfolding first_alike fails
-  alike_here h l k = first_here (fails (apart g c i)) i j h l (ap not (sym is) ∙ k)
-
-  pub alike_next : any_below (fails (apart g c i)) j ≡ false → not r ≡ false → any_below (fails (apart g c i)) (j + 1) ≡ false
-  alike_next h k = passed_one (apart g c i) 0 j h (sym is ∙ not-false r k)
-
-pub alike_none : (g : Geometry) (c : List ℕ) (i j : ℕ) → any_below (fails (apart g c i)) j ≡ false → i ≤ j → i ≡ first_alike g c i
-unfolding first_alike
-alike_none g c i j h l = first_nowhere (fails (apart g c i)) i j h l
+-- what a search over the entries before entry i finds
+pub alike_found : (g : Geometry) (c : List ℕ) (i : ℕ) (r : Option ℕ)
+    → MatchOption r ((k : ℕ) → 0 ≤ k → k < i → not (apart g c i k) ≡ false)
+    (λ j. (0 ≤ j) × (j < i) × (not (apart g c i j) ≡ true) × ((k : ℕ) → 0 ≤ k → k < j → not (apart g c i k) ≡ false))
+    → unwrap_or r i ≡ first_alike g c i
+unfolding first_alike fails
+alike_found g c i None h = sym (first_none (fails (apart g c i)) i (λ k l. h k (omega arith) l))
+alike_found g c i (Some j) h = sym (first_at (fails (apart g c i)) i j h.1 h.2 (λ k l. h.3 k (omega arith) l))
 
 module _ (g : Geometry) (c : List ℕ) (i j : ℕ) (none : any_below (fails (apart_before g c)) i ≡ false) (first : j ≡ first_alike g c i) where
   alike-told : (b : Bool) → ltb j i ≡ not b → apart_before g c i ≡ b

@@ -93,13 +93,10 @@ fn window_fault(g: Geometry, card: &[u8], w: Window) -> Fault
     requires { Fitted g card.now × WindowOf g card.now w }
     ensures { result ≡ window_fault g card.now }
 {
-    let count = w.count;
-    let mut j: u64 = 0;
-    while j < count {
+    for j in 0..w.count {
         if ring::window_number(g, card, w, j) >= g.disk {
             return Fault::WindowNumber(ring::forward(g.slots, w.tail, j));
         }
-        j += 1;
     }
     Fault::Sound
 }
@@ -118,17 +115,11 @@ fn ring_fault(g: Geometry, card: &[u8]) -> Fault
     window_fault(g, card, ring::window_of(g, card))
 }
 
-fn below(x: u32, n: u64) -> bool
-    ensures { result ≡ ltb x n }
-{
-    (x as u64) < n
-}
-
 // 5: whether a previous block is below N or FRESH.
 fn good_previous(n: u64, p: u32) -> bool
     ensures { result ≡ good_previous n p }
 {
-    below(p, n) | (p == FRESH)
+    (u64::from(p) < n) | (p == FRESH)
 }
 
 // 5: the first wrong field of the entry e at place i, with the version v.
@@ -151,7 +142,7 @@ fn entry_fault_of(v: u64, n: u64, d: u64, i: u64, e: Entry) -> Fault
     if !good_previous(n, e.previous) {
         return Fault::Previous(i);
     }
-    if !below(e.current, n) {
+    if u64::from(e.current) >= n {
         return Fault::Current(i);
     }
     Fault::Sound
@@ -162,14 +153,11 @@ fn entry_fault(g: Geometry, version: u64, card: &[u8]) -> Fault
     requires { Fitted g card.now × (version ≡ version_of card.now) }
     ensures { result ≡ entry_fault g card.now }
 {
-    let n = g.blocks as usize;
-    let mut i: usize = 0;
-    while i < n {
+    for i in 0..g.blocks as usize {
         let e = checks::entry_of(g, card, i);
         if !codec::good_entry(version, g.blocks, g.disk, e) {
             return entry_fault_of(version, g.blocks, g.disk, i as u64, e);
         }
-        i += 1;
     }
     Fault::Sound
 }
@@ -210,14 +198,7 @@ fn first_alike(g: Geometry, card: &[u8], w: Window, i: usize) -> usize
     requires { Fitted g card.now × WindowOf g card.now w × (i < g.blocks) }
     ensures { result ≡ first_alike g card.now i }
 {
-    let mut j: usize = 0;
-    while j < i {
-        if !is_apart(g, card, w, i, j) {
-            return j;
-        }
-        j += 1;
-    }
-    i
+    (0..i).find(|j| !is_apart(g, card, w, i, *j)).unwrap_or(i)
 }
 
 // 6: in which way entries i and j are alike.
@@ -245,14 +226,10 @@ fn pair_fault(g: Geometry, card: &[u8]) -> Fault
     ensures { result ≡ pair_fault g card.now }
 {
     let w = ring::window_of(g, card);
-    let n = g.blocks as usize;
-    let mut i: usize = 0;
-    while i < n {
-        let at = i;
-        let j = first_alike(g, card, w, at);
-        i += 1;
-        if j < at {
-            return pair_fault_of(g, card, w, at, j);
+    for i in 0..g.blocks as usize {
+        let j = first_alike(g, card, w, i);
+        if j < i {
+            return pair_fault_of(g, card, w, i, j);
         }
     }
     Fault::Sound

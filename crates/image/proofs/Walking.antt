@@ -1,6 +1,6 @@
 -- Stores made one after the other, until the allowance is used up or one fails: one law for each way through a step, and what the steps of
 -- recovery's list come to. Assumes nothing.
-use Prim.Native.Nat.{ℕ, ◌+◌, ◌-◌, ◌≤◌, ◌<◌, min}
+use Prim.Native.Nat.{ℕ, ◌+◌, ◌-◌, ◌≤◌, min}
 use mathlib.Core.List.{List, [], ◌++◌}
 use mathlib.Core.Bool.{true, false, ◌||◌}
 use mathlib.Core.Path.{◌≡◌, refl, sym, ap, subst, ◌∙◌}
@@ -137,6 +137,6 @@ module _ (g : Geometry) (c₀ : List ℕ) (i a : ℕ) (c : List ℕ) (so : Walk)
         subst (λ (n : ℕ). Walked (each_below (runs_at g c₀) n) a c₀ d r) (sym (add-one i))
         (subst (λ (ts : List Run). Walked (each_below (runs_at g c₀) i ++ ts) a c₀ d r) same (f (each_below (runs_at g c₀) i) c₀ x))
 
-pub walked_last : (g : Geometry) (c : List ℕ) (a : ℕ) (d : List ℕ) (so : Walk) (i n : ℕ) → n < i → i ≤ n + 1 → n ≡ g.blocks
+pub walked_last : (g : Geometry) (c : List ℕ) (a : ℕ) (d : List ℕ) (so : Walk) (i : ℕ) → g.blocks + 1 ≤ i → i ≤ g.blocks + 1
     → Walked (each_below (runs_at g c) i) a c d so → Walked (recover_runs g c) a c d so
-walked_last g c a d so i n h k e x = list_ends g c i n h k e (λ (rs : List Run). Walked rs a c d so) x
+walked_last g c a d so i h k x = list_ends g c i h k (λ (rs : List Run). Walked rs a c d so) x

@@ -31,10 +31,10 @@ pub fn name(path: &[u8]) -> io::Result<&str>
     ensures ok { IfOk result (λ text. text.now ≡ path.now) }
     ensures succeeds { IsOk result ↔ IsUtf8 path.now }
 {
-    match str::from_utf8(path) {
-        Ok(text) => Ok(text),
-        Err(_) => Err(io::Error::new(ErrorKind::InvalidInput, "the name is not UTF-8")),
-    }
+    str::from_utf8(path).map_err(|_| io::Error::new(
+        ErrorKind::InvalidInput,
+        "the name is not UTF-8",
+    ))
 }
 
 // Reads the file's first bytes, as many as the buffer holds, and returns how many it put at the front. Where a read fails, what was read
@@ -84,22 +84,15 @@ pub struct Walk {
 
 // Puts the first `size` bytes into the file, and waits until they are durable. A unit that went in part is put again, whole: half of an entry
 // may read as another.
-fn put(file: &(impl FileExt + OpenFile), place: u32, bytes: &[u8], size: usize) -> bool
+fn put(file: &(impl FileExt + OpenFile), place: u32, bytes: &[u8], size: usize) -> io::Result<()>
     requires { size ≤ length bytes.now }
 {
     let unit = &bytes[..size];
-    let Ok(first) = file.write_at(unit, place as u64) else {
-        return false;
-    };
-    if first != size {
-        let Ok(again) = file.write_at(unit, place as u64) else {
-            return false;
-        };
-        if again != size {
-            return false;
-        }
+    let at = u64::from(place);
+    if file.write_at(unit, at)? != size && file.write_at(unit, at)? != size {
+        return Err(io::Error::from(ErrorKind::WriteZero));
     }
-    file.sync_data().is_ok()
+    file.sync_data()
 }
 
 // One step of the list, place `at`: in the file, and where that has it, in memory. Once the allowance is used up or a write has failed, no
@@ -117,29 +110,23 @@ fn walk_step(
     ensures { ((rs : List Run) (c : List ℕ) → Walked rs allowance c card.old so → Walked (rs ++ step_runs g at u) allowance c card.new result) × (result.count ≤ so.count + 1) }
 {
     let s = recovery::spell(g, at, u);
-    let size = s.size;
-    if size == 0 {
+    if s.size == 0 {
         return so;
     }
     let count = so.count + 1;
     if so.failed | (allowance <= so.made) {
-        return Walk {
-            count: count,
-            made: so.made,
-            failed: so.failed,
-        };
+        return Walk { count, ..so };
     }
-    let bytes = s.bytes;
-    if !put(file, s.place, &bytes, size) {
+    if put(file, s.place, &s.bytes, s.size).is_err() {
         return Walk {
-            count: count,
+            count,
             made: so.made,
             failed: true,
         };
     }
     recovery::make_step(g, card, at, u, 2);
     Walk {
-        count: count,
+        count,
         made: so.made + 1,
         failed: false,
     }
@@ -156,18 +143,14 @@ fn walk_list(
     requires { Fitted g card.old × WindowOf g card.old w }
     ensures { Walked (recover_runs g card.old) allowance card.old card.new result }
 {
-    let n = g.blocks as usize;
     let mut so = Walk {
         count: 0,
         made: 0,
         failed: false,
     };
-    let mut i: usize = 0;
-    while i <= n {
-        let at = i;
-        i += 1;
-        let u = recovery::step_at(g, card, w, at);
-        so = walk_step(file, g, card, at, u, so, allowance);
+    for i in 0..g.blocks as usize + 1 {
+        let u = recovery::step_at(g, card, w, i);
+        so = walk_step(file, g, card, i, u, so, allowance);
     }
     so
 }
@@ -211,7 +194,7 @@ fn stopped(failed: bool) -> Repair
         refusal: 0,
         count: 1,
         made: 0,
-        failed: failed,
+        failed,
     }
 }
 
@@ -232,7 +215,7 @@ pub fn upgrade(file: &(impl FileExt + OpenFile), card: &mut [u8], allowance: u64
         return stopped(false);
     }
     let bytes = upgrade::word_bytes(u.geometry);
-    if !put(file, 0, &bytes, 8) {
+    if put(file, 0, &bytes, 8).is_err() {
         return stopped(true);
     }
     upgrade::upgrade(card, 1);

@@ -11,24 +11,10 @@ use protocol::{Entry, Geometry};
 use recovery::{Spelled, Step};
 use ring::Window;
 
-// The sixteen bytes from `at` on.
-fn sixteen(bytes: &[u8], at: usize) -> [u8; 16]
-    requires { at + 16 ≤ length bytes.now }
-    ensures { result ≡ part bytes.now at 16 }
-{
-    let mut out = [0u8; 16];
-    numbers::copy(&mut out, 0, bytes, at, 16);
-    out
-}
-
 // A listing of bytes, sixteen a line. A block has a multiple of sixteen.
 pub fn block(out: &impl Print, bytes: &[u8]) {
-    let mut at: usize = 0;
-    while 16 <= bytes.len() - at {
-        let line = sixteen(bytes, at);
-        let marks = text::list_line(&line, at as u64);
-        say(out, &marks);
-        at += 16;
+    for (i, line) in bytes.as_chunks::<16>().0.iter().enumerate() {
+        say(out, &text::list_line(line, 16 * i as u64));
     }
 }
 
@@ -39,7 +25,7 @@ fn undone(out: &impl Print, i: u64, e: Entry) {
         say(out, b" zeroed\n");
     } else {
         say(out, b" back to data block ");
-        plain(out, e.current as u64, 0);
+        plain(out, u64::from(e.current), 0);
         say(out, b"\n");
     }
 }
@@ -58,14 +44,13 @@ fn meaning(out: &impl Print, i: u64, u: Step) {
 
 // One line of the list: its number, where the store goes, its bytes and what it does.
 fn line(out: &impl Print, number: u64, i: u64, u: Step, s: Spelled) {
-    let bytes = s.bytes;
     plain(out, number, 7);
-    plain(out, s.place as u64, 7);
+    plain(out, u64::from(s.place), 7);
     say(out, b"  ");
     if s.size == 8 {
-        word(out, bytes);
+        word(out, s.bytes);
     } else {
-        entry(out, bytes);
+        entry(out, s.bytes);
     }
     meaning(out, i, u);
 }
@@ -75,17 +60,13 @@ fn lines(out: &impl Print, g: Geometry, card: &[u8], w: Window) -> u64
     requires { Fitted g card.now × WindowOf g card.now w }
     ensures { result ≡ length (flat (recover_runs g card.now)) }
 {
-    let n = g.blocks as usize;
     let mut count: u64 = 0;
-    let mut i: usize = 0;
-    while i <= n {
-        let at = i;
-        i += 1;
-        let u = recovery::step_at(g, card, w, at);
-        let s = recovery::spell(g, at, u);
+    for i in 0..g.blocks as usize + 1 {
+        let u = recovery::step_at(g, card, w, i);
+        let s = recovery::spell(g, i, u);
         if s.size != 0 {
             count += 1;
-            line(out, count, at as u64, u, s);
+            line(out, count, i as u64, u, s);
         }
     }
     count

@@ -10,14 +10,7 @@ pub fn say(out: &impl Print, s: &[u8]) {
 fn start(blank: usize, width: usize) -> usize
     ensures { (result ≡ min blank (26 - width)) × (result ≤ 26) }
 {
-    if 26 <= width {
-        return 0;
-    }
-    if blank < 26 - width {
-        blank
-    } else {
-        26 - width
-    }
+    blank.min(26usize.saturating_sub(width))
 }
 
 fn column(out: &impl Print, field: [u8; 26], width: usize) {

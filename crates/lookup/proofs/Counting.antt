@@ -1,73 +1,65 @@
 -- What state counts, entry by entry, and the condition that it comes to. Assumes nothing.
-use Prim.Native.Nat.{ℕ, zero, suc, ◌+◌, ◌≤◌}
-use mathlib.Core.List.{List}
-use mathlib.Core.Bool.{Bool, true, false, cond, ◌&&◌}
+use Prim.Native.Nat.{ℕ, zero, suc, ◌+◌}
+use mathlib.Core.List.{List, [], ◌∷◌, ◌++◌}
+use lib.ListN.{length}
+use Rattle.std.specs.List.{range_with_len, filter}
+use Rattle.std.proofs.Common.{length-append}
+use Rattle.std.proofs.lemmas.List.Elements.{filter-append}
+use mathlib.Core.Bool.{Bool, true, false, cond}
 use mathlib.Core.Path.{◌≡◌, refl, sym, ap, ◌∙◌}
 use native.Mathlib.Omega.{arith}
 use lib.Dec.{ltb}
 use borrow.Author.Tests.{eq-eqb, ne_eqb, ltb-true}
 use Rattle.protocol.specs.declared.Condition.{Condition}
 use Rattle.protocol.specs.declared.Condition.TheVariants.{Settled, Unsettled}
-use Rattle.protocol.specs.declared.Entry.{Entry}
 use Rattle.protocol.specs.declared.Geometry.{Geometry}
 use Rattle.protocol.specs.declared.Reported.TheVariants.{Is, Refused}
 use Rattle.protocol.specs.Below.{count_below}
 use Rattle.protocol.specs.Layout.{geometry_of}
-use Rattle.protocol.specs.Entry.{entry_at, in_use, is_modified}
 use Rattle.protocol.specs.Ring.{head_of, tail_of, used_at, undoable_at, window_of, is_settled}
 use Rattle.protocol.specs.Check.{refuse, ring_fits, fit_refusal, damage_refusal}
 use Rattle.protocol.specs.Read.{modified_at, condition_of, state_refusal, state_of}
-use Rattle.protocol.proofs.Below.{and_left, and_right, count_hit, count_miss}
+use Rattle.protocol.proofs.Below.{and_left, and_right}
 use Rattle.protocol.proofs.Checks.{or_else_first, or_else_next}
 use Rattle.protocol.proofs.Passed.{first_zero, passed}
 use Rattle.ring.specs.declared.Fit.{Fit}
 use Rattle.ring.specs.Fitted.{Placed, Opened}
-use Rattle.checks.specs.Keys.{undoable_entry}
 use Rattle.checks.specs.Passed.{Inspected}
 use Rattle.checks.specs.declared.Verdict.{Verdict}
-use Rattle.lookup.specs.Counted.{counted}
 
--- ---- one entry
+-- ---- the count over a range
 
-module _ (g : Geometry) (c : List ℕ) (i : ℕ) (e : Entry) (is : e ≡ entry_at g c i) where
-  pub counts_used : (what : ℕ) (u : Bool) → what ≡ 0 → u ≡ in_use e → u ≡ counted what g c i
-  unfolding counted used_at
-  counts_used what u z p = p ∙ ap in_use is ∙ ap (λ (w : ℕ). counted w g c i) (sym z)
+range_more : (a n : ℕ) → range_with_len a (suc n) ≡ range_with_len a n ++ (a + n) ∷ []
+range_more a zero = let e : a ≡ a + 0 = omega arith in ap (λ (x : ℕ). x ∷ []) e
+range_more a (suc n) =
+    let e : (a + 1) + n ≡ a + suc n = omega arith in
+    ap (◌∷◌ a) (range_more (a + 1) n ∙ ap (λ (x : ℕ). range_with_len (a + 1) n ++ x ∷ []) e)
 
-  pub counts_modified : (what : ℕ) (u m : Bool) → what ≡ 1 → u ≡ in_use e → m ≡ is_modified e → u && m ≡ counted what g c i
-  unfolding counted modified_at used_at
-  counts_modified what u m z p q = (λ t. p t && q t) ∙ ap (λ (x : Entry). in_use x && is_modified x) is ∙ ap (λ (w : ℕ). counted w g c i) (sym z)
-
-  pub counts_undoable : (what : ℕ) (u : Bool) → (what ≡ 0 → ⊥) → (what ≡ 1 → ⊥) → u ≡ undoable_entry g c e → u ≡ counted what g c i
-  unfolding counted undoable_at undoable_entry used_at
-  counts_undoable what u a b p = p ∙ ap (undoable_entry g c) is ∙ go what a b
-    where
-      go : (w : ℕ) → (w ≡ 0 → ⊥) → (w ≡ 1 → ⊥) → undoable_entry g c (entry_at g c i) ≡ counted w g c i
-      go zero x y = absurd (x refl)
-      go (suc zero) x y = absurd (y refl)
-      go (suc (suc w)) x y = refl
-
--- ---- the loop
-
-pub count_yes : (p : ℕ → Bool) (i total : ℕ) (hit : Bool) → hit ≡ p i → hit ≡ true → total ≡ count_below p i → total + 1 ≡ count_below p (i + 1)
-count_yes p i total hit e t h = ap (λ (n : ℕ). n + 1) h ∙ sym (count_hit p i (sym e ∙ t))
-
-pub count_no : (p : ℕ → Bool) (i total : ℕ) (hit : Bool) → hit ≡ p i → hit ≡ false → total ≡ count_below p i → total ≡ count_below p (i + 1)
-count_no p i total hit e t h = h ∙ sym (count_miss p i (sym e ∙ t))
-
-pub count_end : (p : ℕ → Bool) (i n total : ℕ) → total ≡ count_below p i → n ≤ i → i ≤ n → total ≡ count_below p n
-count_end p i n total h a b = let e : i ≡ n = omega arith in h ∙ ap (count_below p) e
+pub count_range : (p : ℕ → Bool) (n : ℕ) → length (filter p (range_with_len 0 n)) ≡ count_below p n
+unfolding count_below
+count_range p zero = refl
+count_range p (suc n) =
+    let e : 0 + n ≡ n = omega arith in
+    ap (λ (xs : List ℕ). length (filter p xs)) (range_more 0 n ∙ ap (λ (x : ℕ). range_with_len 0 n ++ x ∷ []) e)
+    ∙ ap length (filter-append p (range_with_len 0 n) (n ∷ []))
+    ∙ length-append (filter p (range_with_len 0 n)) (filter p (n ∷ []))
+    ∙ ap (λ (k : ℕ). k + length (filter p (n ∷ []))) (count_range p n)
+    ∙ last (p n) (count_below p n)
+  where
+    last : (b : Bool) (k : ℕ) → k + length (cond b (n ∷ []) []) ≡ cond b (suc k) k
+    last true k = omega arith
+    last false k = omega arith
 
 -- ---- the condition
 
-pub is_settled_lem : (g : Geometry) (c : List ℕ) (s : Bool) (u m : ℕ) → s ≡ is_settled g c → s ≡ true → u ≡ count_below (counted 0 g c) g.blocks
-    → m ≡ count_below (counted 1 g c) g.blocks → Settled u m ≡ condition_of g c
-unfolding condition_of counted
+pub is_settled_lem : (g : Geometry) (c : List ℕ) (s : Bool) (u m : ℕ) → s ≡ is_settled g c → s ≡ true → u ≡ count_below (used_at g c) g.blocks
+    → m ≡ count_below (modified_at g c) g.blocks → Settled u m ≡ condition_of g c
+unfolding condition_of
 is_settled_lem g c s u m e t p q = (λ k. Settled (p k) (q k)) ∙ rw (sym e ∙ t)
 
-pub is_unsettled : (g : Geometry) (c : List ℕ) (s : Bool) (u w : ℕ) → s ≡ is_settled g c → s ≡ false → u ≡ count_below (counted 2 g c) g.blocks
+pub is_unsettled : (g : Geometry) (c : List ℕ) (s : Bool) (u w : ℕ) → s ≡ is_settled g c → s ≡ false → u ≡ count_below (undoable_at g c) g.blocks
     → w ≡ window_of g c → Unsettled u w ≡ condition_of g c
-unfolding condition_of counted
+unfolding condition_of
 is_unsettled g c s u w e t p q = (λ k. Unsettled (p k) (q k)) ∙ rw (sym e ∙ t)
 
 -- ---- the call

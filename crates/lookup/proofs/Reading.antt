@@ -186,6 +186,12 @@ module _ (c d : List ℕ) (b : ℕ) where
       go (in_cache p z l k) = let w : ◌≡◌ {A = ℕ} 0 1 = cc in absurd (omega arith)
       go (in_home p z l k) = let w : ◌≡◌ {A = ℕ} 0 1 = cc in absurd (omega arith)
 
+  pub look_else : (f : Found) → f ≡ found_at c d b → ((x y z : ℕ) → f ≡ Card x y z → ⊥) → ((x y : ℕ) → f ≡ Disk x y → ⊥) → [] ≡ looked_at c d b
+  look_else (Refused r) e p q = look_refused r e
+  look_else (Outside n) e p q = look_outside n e
+  look_else (Card x y z) e p q = absurd (p x y z refl)
+  look_else (Disk x y) e p q = absurd (q x y refl)
+
 -- ---- read
 
 pub copied_none : (src : List ℕ) (at n : ℕ) (out : List ℕ) → (length out ≡ n → ⊥) → Copied src at n out out false

@@ -2,16 +2,13 @@
 #![tactic(auto)]
 
 ghost use Rattle.std.specs.Prelude.{◌≡◌, true, List, ℕ, ◌+◌, ◌≤◌, ◌<◌, length};
-ghost use Rattle.protocol.specs.Layout.{good_geometry, block_size};
 ghost use Rattle.protocol.specs.Recency.{is_arranged};
-ghost use Rattle.protocol.specs.Read.{held_after, held_by, recent_held, output_after, recent_output, recent_table, looked_at, condition_of, state_of};
+ghost use Rattle.protocol.specs.Read.{held_after, held_by, recent_held, output_after, recent_output, recent_table, looked_at, modified_at, condition_of, state_of};
 ghost use Rattle.lookup.specs.Place.{Copied, place_in, sought_at, found_in, found_at, fetched_by, fetched_at, recent_at, touched_by, untabled};
 ghost use Rattle.ring.specs.Fitted.{Fitted, Placed, WindowOf, Framed};
 ghost use Rattle.checks.specs.Passed.{Indexed};
-ghost use Rattle.lookup.specs.Counted.{counted};
 ghost use Rattle.lookup.specs.Cached.{cached_in, cached_at};
-ghost use Rattle.protocol.specs.Below.{count_below};
-ghost use Rattle.protocol.specs.Ring.{is_settled};
+ghost use Rattle.protocol.specs.Ring.{used_at, undoable_at, is_settled};
 
 use protocol::{Condition, Geometry, Held, Reported, State};
 use ring::{Fit, Window};
@@ -34,29 +31,16 @@ pub enum Cached {
     Refused(u8),
 }
 
-fn wide(k: u32) -> u64
-    ensures { result ≡ k }
-{
-    k as u64
-}
-
-fn size_of(g: Geometry) -> usize
-    requires { good_geometry g ≡ true }
-    ensures { result ≡ block_size g }
-{
-    codec::block_size(g) as usize
-}
-
 // Where disk block b lies on a card whose numbers are indexed.
 pub fn locate(g: Geometry, card: &[u8], index: &[u8; 640], b: u64) -> Found
     requires { Indexed g card.now index.now × (b < g.disk) }
     ensures { result ≡ place_in g card.now b }
 {
-    let size = size_of(g);
+    let size = codec::block_size(g) as usize;
     let i = checks::find(g, card, index, b);
     if i < g.blocks as usize {
         let e = checks::entry_of(g, card, i);
-        Found::Card(stores::block_place(g, wide(e.current)), size, i)
+        Found::Card(stores::block_place(g, u64::from(e.current)), size, i)
     } else {
         Found::Disk(stores::disk_place(g, b), size)
     }
@@ -74,7 +58,7 @@ fn seek(f: Fit, card: &[u8], b: u64) -> Found
     }
     let g = f.geometry;
     if g.disk <= b {
-        return Found::Outside(size_of(g));
+        return Found::Outside(codec::block_size(g) as usize);
     }
     locate(g, card, &index, b)
 }
@@ -108,8 +92,7 @@ pub fn look<'a>(card: &'a [u8], disk: &'a [u8], b: u64) -> &'a [u8]
     match find(card, disk, b) {
         Found::Card(at, size, _) => &card[at..at + size],
         Found::Disk(at, size) => &disk[at..at + size],
-        Found::Refused(_) => &card[..0],
-        Found::Outside(_) => &card[..0],
+        _ => &card[..0],
     }
 }
 
@@ -181,11 +164,8 @@ fn touch_found(f: Found, table: &mut [u8])
     requires { (is_arranged table.old ≡ true) × ((at n i : ℕ) → f ≡ Found.Card at n i → i < 128) }
     ensures { table.new ≡ touched_by f table.old }
 {
-    match f {
-        Found::Card(_, _, i) => recency::to_front(table, i as u8),
-        Found::Disk(_, _) => {}
-        Found::Refused(_) => {}
-        Found::Outside(_) => {}
+    if let Found::Card(_, _, i) = f {
+        recency::to_front(table, i as u8);
     }
 }
 
@@ -195,9 +175,7 @@ fn refuse_table(f: Found) -> Found
 {
     match f {
         Found::Refused(r) => Found::Refused(r),
-        Found::Outside(_) => Found::Refused(16),
-        Found::Card(_, _, _) => Found::Refused(16),
-        Found::Disk(_, _) => Found::Refused(16),
+        _ => Found::Refused(16),
     }
 }
 
@@ -224,37 +202,29 @@ pub fn read_recent(card: &[u8], disk: &[u8], table: &mut [u8], b: u64, out: &mut
     held(fetch_recent(card, disk, table, b, out))
 }
 
-// Whether entry i is one that is counted: what 0 in use, 1 in use and modified, else undoable.
-fn is_counted(g: Geometry, card: &[u8], w: Window, what: u8, i: usize) -> bool
-    requires { Fitted g card.now × WindowOf g card.now w × (i < g.blocks) }
-    ensures { result ≡ counted what g card.now i }
+// Whether entry i is in use.
+fn is_used(g: Geometry, card: &[u8], i: usize) -> bool
+    requires { Fitted g card.now × (i < g.blocks) }
+    ensures { result ≡ used_at g card.now i }
 {
-    let e = checks::entry_of(g, card, i);
-    if what == 0 {
-        return codec::in_use(e);
-    }
-    if what == 1 {
-        return codec::in_use(e) & codec::is_modified(e);
-    }
-    checks::undoable(g, card, w, e)
+    codec::in_use(checks::entry_of(g, card, i))
 }
 
-// How many entries are counted.
-fn count(g: Geometry, card: &[u8], w: Window, what: u8) -> u64
-    requires { Fitted g card.now × WindowOf g card.now w }
-    ensures { result ≡ count_below (counted what g card.now) g.blocks }
+// Whether entry i is in use and modified.
+fn is_modified(g: Geometry, card: &[u8], i: usize) -> bool
+    requires { Fitted g card.now × (i < g.blocks) }
+    ensures { result ≡ modified_at g card.now i }
 {
-    let n = g.blocks as usize;
-    let mut total: u64 = 0;
-    let mut i: usize = 0;
-    while i < n {
-        let hit = is_counted(g, card, w, what, i);
-        i += 1;
-        if hit {
-            total += 1;
-        }
-    }
-    total
+    let e = checks::entry_of(g, card, i);
+    codec::in_use(e) & codec::is_modified(e)
+}
+
+// Whether entry i is undoable.
+fn is_undoable(g: Geometry, card: &[u8], w: Window, i: usize) -> bool
+    requires { Fitted g card.now × WindowOf g card.now w × (i < g.blocks) }
+    ensures { result ≡ undoable_at g card.now i }
+{
+    checks::undoable(g, card, w, checks::entry_of(g, card, i))
 }
 
 // The condition of a card that passed checks 1 to 6.
@@ -263,14 +233,15 @@ fn condition(g: Geometry, card: &[u8], settled: bool) -> Condition
     ensures { result ≡ condition_of g card.now }
 {
     let w = ring::window_of(g, card);
+    let n = g.blocks as usize;
     if settled {
         Condition::Settled {
-            used: count(g, card, w, 0),
-            modified: count(g, card, w, 1),
+            used: (0..n).filter(|i| is_used(g, card, *i)).count() as u64,
+            modified: (0..n).filter(|i| is_modified(g, card, *i)).count() as u64,
         }
     } else {
         Condition::Unsettled {
-            undoable: count(g, card, w, 2),
+            undoable: (0..n).filter(|i| is_undoable(g, card, w, *i)).count() as u64,
             window: w.count,
         }
     }
@@ -289,11 +260,11 @@ pub fn state(card: &[u8]) -> Reported
     if v.refusal != 0 {
         return Reported::Refused(v.refusal);
     }
-    let g = fit.geometry;
-    let c = condition(g, card, v.settled);
+    let geometry = fit.geometry;
+    let condition = condition(geometry, card, v.settled);
     Reported::Is(State {
-        geometry: g,
-        condition: c,
+        geometry,
+        condition,
     })
 }
 
@@ -309,8 +280,7 @@ fn cached_in(g: Geometry, card: &[u8], i: u64) -> Cached
     if !codec::in_use(e) {
         return Cached::Nothing;
     }
-    let modified = codec::is_modified(e);
-    Cached::Block(e.number, modified)
+    Cached::Block(e.number, codec::is_modified(e))
 }
 
 // What the entry at place i of a settled card caches.

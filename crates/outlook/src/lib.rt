@@ -43,10 +43,10 @@ fn heading(out: &impl Print, n: usize) {
 // The previous data block has 128 added where it is modified, and is 256 for FRESH.
 fn row(out: &impl Print, number: u64, block: u8, entry: u8, previous: u16) {
     plain(out, number, 8);
-    plain(out, block as u64, 12);
-    plain(out, entry as u64, 7);
+    plain(out, u64::from(block), 12);
+    plain(out, u64::from(entry), 7);
     if previous < 256 {
-        plain(out, (previous % 128) as u64, 10);
+        plain(out, u64::from(previous % 128), 10);
     } else {
         say(out, b"      none");
     }
@@ -57,10 +57,8 @@ fn row(out: &impl Print, number: u64, block: u8, entry: u8, previous: u16) {
 fn rows(out: &impl Print, numbers: &[u64], p: Plan)
     requires { length numbers.now ≤ 128 }
 {
-    let mut i: usize = 0;
-    while i < numbers.len() {
-        row(out, numbers[i], p.blocks[i], p.entries[i], p.previous[i]);
-        i += 1;
+    for (i, number) in numbers.iter().enumerate() {
+        row(out, *number, p.blocks[i], p.entries[i], p.previous[i]);
     }
 }
 
@@ -80,9 +78,8 @@ fn tell(rt: &HostRuntime, path: &[u8], card: &[u8], numbers: &[u64])
         refuse(rt, path, card, 2, 2, s.refusal);
         return;
     }
-    let p = s.plan;
     heading(rt, numbers.len());
-    rows(rt, numbers, p);
+    rows(rt, numbers, s.plan);
     total(rt, plan::count_of(ring::geometry_of(card), numbers.len()));
 }
 

@@ -120,17 +120,15 @@ module _ (e : Entry) (so : Moved) (gone : Map) (g : gone ≡ with_bit so.gone e.
   note_saved h come k = rw (g, k, ne_eqb e.previous FRESH h)
 
 module _ (u : Step) (e : Entry) (so : Moved) where
-  pub note_nothing : u ≡ Nothing → so ≡ noted (undoes u) e so
-  unfolding noted undoes
-  note_nothing q = rw q refl
-
-  pub note_tail : (v : ℕ) → u ≡ Tail v → so ≡ noted (undoes u) e so
-  unfolding noted undoes
-  note_tail v q = rw q refl
-
   pub note_undo : (x : Entry) → u ≡ Undo x → (o : Entry) → o ≡ e → (r : Moved) → r ≡ noted true o so → r ≡ noted (undoes u) e so
   unfolding noted undoes
   note_undo x q o k r h = rw q (h ∙ ap (λ (y : Entry). noted true y so) k)
+
+pub note_else : (u : Step) (e : Entry) (so : Moved) → ((x : Entry) → u ≡ Undo x → ⊥) → so ≡ noted (undoes u) e so
+unfolding noted undoes
+note_else Nothing e so n = refl
+note_else (Undo x) e so n = absurd (n x refl)
+note_else (Tail v) e so n = refl
 
 -- ---- place by place
 
@@ -179,8 +177,8 @@ module _ (g : Geometry) (c₀ : List ℕ) (i a : ℕ) (c : List ℕ) (n r : ℕ)
           let is : m' ≡ m = e ∙ ap (λ (b : Bool). noted b (entry_at g c i) m) not-undone in
           subst (λ (p : Moved). BlocksNoted g c₀ (min (i + 1) g.blocks) p) (sym is) (subst (λ (p : ℕ). BlocksNoted g c₀ p m) next y)
 
-pub noted_last : (g : Geometry) (c : List ℕ) (m : Moved) (i n : ℕ) → n < i → n ≡ g.blocks → BlocksNoted g c (min i g.blocks) m → BlocksNoted g c g.blocks m
-noted_last g c m i n h e x = let q : min i g.blocks ≡ g.blocks = omega arith in subst (λ (k : ℕ). BlocksNoted g c k m) q x
+pub noted_last : (g : Geometry) (c : List ℕ) (m : Moved) (i : ℕ) → g.blocks + 1 ≤ i → BlocksNoted g c (min i g.blocks) m → BlocksNoted g c g.blocks m
+noted_last g c m i h x = let q : min i g.blocks ≡ g.blocks = omega arith in subst (λ (k : ℕ). BlocksNoted g c k m) q x
 
 -- ---- what the whole list leaves of the map
 

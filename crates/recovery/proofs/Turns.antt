@@ -390,25 +390,25 @@ pub list_short : (g : Geometry) (c : List ℕ) → Fitted g c → length (flat (
 list_short g c f = omega (arith, ap (λ (rs : List Run). length (flat rs)) (list_whole g c), few_below g c (g.blocks + 1), fitted_blocks g c f)
 
 -- what holds of the stores of all places holds of recovery's list
-pub list_ends : (g : Geometry) (c : List ℕ) (i n : ℕ) → n < i → i ≤ n + 1 → n ≡ g.blocks → (P : List Run → Type 0)
+pub list_ends : (g : Geometry) (c : List ℕ) (i : ℕ) → g.blocks + 1 ≤ i → i ≤ g.blocks + 1 → (P : List Run → Type 0)
     → P (each_below (runs_at g c) i) → P (recover_runs g c)
-list_ends g c i n h k e P x =
+list_ends g c i h k P x =
     let q : i ≡ g.blocks + 1 = omega arith in
     subst P (ap (each_below (runs_at g c)) q ∙ list_whole g c) x
 
-pub turn_last : (g : Geometry) (c : List ℕ) (a : ℕ) (d : List ℕ) (p : Progress) (i n : ℕ) → n < i → i ≤ n + 1 → n ≡ g.blocks
+pub turn_last : (g : Geometry) (c : List ℕ) (a : ℕ) (d : List ℕ) (p : Progress) (i : ℕ) → g.blocks + 1 ≤ i → i ≤ g.blocks + 1
     → Went (each_below (runs_at g c) i) a c d p → Went (recover_runs g c) a c d p
-turn_last g c a d p i n h k e x = list_ends g c i n h k e (λ (rs : List Run). Went rs a c d p) x
+turn_last g c a d p i h k x = list_ends g c i h k (λ (rs : List Run). Went rs a c d p) x
 
 -- the place and the count stay small
-pub place_fits : (g : Geometry) (c : List ℕ) (i n : ℕ) → Fitted g c → n ≡ g.blocks → i ≤ n → Fits w64 (i + 1)
-place_fits g c i n f e l = omega (arith, fitted_blocks g c f)
+pub place_fits : (g : Geometry) (c : List ℕ) → Fitted g c → Fits w64 (g.blocks + 1)
+place_fits g c f = omega (arith, fitted_blocks g c f)
 
 pub step_fits : (g : Geometry) (c : List ℕ) (at n : ℕ) → Fitted g c → n ≤ at → at ≤ g.blocks → Fits w64 (n + 1)
 step_fits g c at n f h k = omega (arith, fitted_blocks g c f)
 
-pub count_fits_lem : (g : Geometry) (c : List ℕ) (i n m k : ℕ) → Fitted g c → n ≡ g.blocks → i ≤ n → m ≤ i → k ≤ 1 → Fits w64 (m + k)
-count_fits_lem g c i n m k f e l h z = omega (arith, fitted_blocks g c f)
+pub count_fits_lem : (g : Geometry) (c : List ℕ) (i m k : ℕ) → Fitted g c → i < g.blocks + 1 → m ≤ i → k ≤ 1 → Fits w64 (m + k)
+count_fits_lem g c i m k f l h z = omega (arith, fitted_blocks g c f)
 
 -- ---- a step as a run: one law for each of its three forms
 

@@ -130,10 +130,7 @@ pub fn make_step(g: Geometry, card: &mut [u8], i: usize, u: Step, left: u64) -> 
     ensures { Went (step_runs g i u) left card.old card.new result × (result.count ≤ 1) }
 {
     match u {
-        Step::Nothing => Progress {
-            count: 0,
-            left: left,
-        },
+        Step::Nothing => Progress { count: 0, left },
         Step::Undo(e) => Progress {
             count: 1,
             left: stores::make_entry(card, stores::entry_place(g, i), e, left),
@@ -206,16 +203,15 @@ fn note_entry(e: Entry, so: Moved) -> Moved
     ensures { result ≡ noted true e so }
 {
     let gone = freemap::with(so.gone, e.current as usize);
-    let come = so.come;
     if e.previous == FRESH {
         return Moved {
-            gone: gone,
-            come: come,
+            gone,
+            come: so.come,
         };
     }
     Moved {
-        gone: gone,
-        come: freemap::with(come, e.previous as usize),
+        gone,
+        come: freemap::with(so.come, e.previous as usize),
     }
 }
 
@@ -225,9 +221,8 @@ fn note_step(g: Geometry, card: &[u8], i: usize, u: Step, so: Moved) -> Moved
     ensures { result ≡ noted (undoes u) (entry_at g card.now i) so }
 {
     match u {
-        Step::Nothing => so,
         Step::Undo(_) => note_entry(checks::entry_of(g, card, i), so),
-        Step::Tail(_) => so,
+        _ => so,
     }
 }
 
@@ -244,29 +239,22 @@ fn make_list(g: Geometry, card: &mut [u8], w: Window, credit: u64) -> Made
     requires { Fitted g card.old × WindowOf g card.old w × (entries_fit g card.old ≡ true) }
     ensures { Went (recover_runs g card.old) credit card.old card.new result.progress × BlocksNoted g card.old g.blocks result.moved }
 {
-    let n = g.blocks as usize;
     let mut count: u64 = 0;
     let mut left = credit;
     let mut moved = Moved {
         gone: Map { low: 0, high: 0 },
         come: Map { low: 0, high: 0 },
     };
-    let mut i: usize = 0;
-    while i <= n {
-        let at = i;
-        i += 1;
-        let u = step_at(g, card, w, at);
-        moved = note_step(g, card, at, u, moved);
-        let p = make_step(g, card, at, u, left);
+    for i in 0..g.blocks as usize + 1 {
+        let u = step_at(g, card, w, i);
+        moved = note_step(g, card, i, u, moved);
+        let p = make_step(g, card, i, u, left);
         count += p.count;
         left = p.left;
     }
     Made {
-        progress: Progress {
-            count: count,
-            left: left,
-        },
-        moved: moved,
+        progress: Progress { count, left },
+        moved,
     }
 }
 
@@ -283,7 +271,7 @@ fn refused(refusal: u8) -> Checked
     ensures { result.refusal ≡ refusal }
 {
     Checked {
-        refusal: refusal,
+        refusal,
         geometry: Geometry {
             k: 0,
             slots: 0,
@@ -312,13 +300,12 @@ pub fn examine(card: &[u8]) -> Checked
     if v.refusal != 0 {
         return refused(v.refusal);
     }
-    let g = f.geometry;
-    let map = v.map;
+    let geometry = f.geometry;
     Checked {
         refusal: 0,
-        geometry: g,
-        window: ring::window_of(g, card),
-        map: map,
+        geometry,
+        window: ring::window_of(geometry, card),
+        map: v.map,
     }
 }
 
@@ -330,8 +317,7 @@ pub fn make_map(card: &[u8]) -> Mapped
     if e.refusal != 0 {
         return Mapped::Refused(e.refusal);
     }
-    let map = e.map;
-    Mapped::Is(map)
+    Mapped::Is(e.map)
 }
 
 // Undoes what a cut left half made, by the rule of the card's version: each undoable entry becomes what it was, and Tail is set to Head. The
@@ -343,28 +329,26 @@ pub fn recover(card: &mut [u8], map: Map, allowance: u64) -> Stored
     if s.refusal != 0 {
         return Stored {
             answer: Answer::Refused(s.refusal),
-            map: map,
+            map,
         };
     }
     if map != s.map {
         return Stored {
             answer: Answer::Refused(15),
-            map: map,
+            map,
         };
     }
     let credit = stores::credit(129, allowance);
     let r = make_list(s.geometry, card, s.window, credit);
-    let p = r.progress;
-    let count = p.count;
+    let count = r.progress.count;
     if allowance < count {
         return Stored {
             answer: Answer::Cut,
-            map: map,
+            map,
         };
     }
-    let blocks = r.moved;
     Stored {
         answer: Answer::Done(count),
-        map: freemap::moved(map, blocks.gone, blocks.come),
+        map: freemap::moved(map, r.moved.gone, r.moved.come),
     }
 }

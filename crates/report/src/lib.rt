@@ -6,28 +6,22 @@ use faults::Fault;
 use listing::{count, entry, plain, say};
 use protocol::{Condition, Entry, FRESH, Reported};
 use sentence::fault;
-use survey::{Block, Field, Line, Slot};
+use survey::Line;
 
-fn field(out: &impl Print, name: &[u8], f: Field) {
+fn field(out: &impl Print, name: &[u8], f: Option<u64>) {
     say(out, name);
     match f {
-        Field::Is(n) => count(out, n, 8),
-        Field::Missing => say(out, b"       -"),
+        Some(n) => count(out, n, 8),
+        None => say(out, b"       -"),
     }
     say(out, b"\n");
 }
 
 // B, where k is one that it can be told from.
-fn block_size(k: Field) -> Field {
-    match k {
-        Field::Is(n) => match n {
-            9 => Field::Is(512),
-            10 => Field::Is(1024),
-            11 => Field::Is(2048),
-            12 => Field::Is(4096),
-            _ => Field::Missing,
-        },
-        Field::Missing => Field::Missing,
+fn block_size(k: Option<u64>) -> Option<u64> {
+    match k? {
+        k @ 9..=12 => Some(1 << k),
+        _ => None,
     }
 }
 
@@ -47,26 +41,22 @@ fn header(out: &impl Print, card: &[u8]) {
 
 // One slot of the window, and whether there was one.
 fn slot(out: &impl Print, card: &[u8], j: u64) -> bool {
-    match survey::slot_of(card, j) {
-        Slot::At(p, n) => {
-            plain(out, p, 6);
-            say(out, b" ");
-            plain(out, n, 7);
-            say(out, b"\n");
-            true
-        }
-        Slot::Missing => false,
-    }
+    let Some((p, n)) = survey::slot_of(card, j) else {
+        return false;
+    };
+    plain(out, p, 6);
+    say(out, b" ");
+    plain(out, n, 7);
+    say(out, b"\n");
+    true
 }
 
 // The window's slots, from Tail on, and whether there are any.
 fn window(out: &impl Print, card: &[u8]) -> bool {
-    let mut j: u64 = 0;
-    while j < 256 {
+    for j in 0..256 {
         if !slot(out, card, j) {
             return j != 0;
         }
-        j += 1;
     }
     true
 }
@@ -86,16 +76,12 @@ fn flag(out: &impl Print, set: bool, letter: &[u8]) {
     }
 }
 
-fn wide(x: u32) -> u64 {
-    x as u64
-}
-
 fn data_block(out: &impl Print, p: u32, none: &[u8]) {
     say(out, b" ");
     if p == FRESH {
         say(out, none);
     } else {
-        plain(out, wide(p), 9);
+        plain(out, u64::from(p), 9);
     }
 }
 
@@ -111,7 +97,7 @@ fn fields(out: &impl Print, i: u64, e: Entry) {
     plain(out, e.number, 7);
     data_block(out, e.previous, b"    FRESH");
     say(out, b" ");
-    plain(out, wide(e.current), 8);
+    plain(out, u64::from(e.current), 8);
 }
 
 fn known(out: &impl Print, undoable: bool, settled: u32) {
@@ -123,79 +109,43 @@ fn known(out: &impl Print, undoable: bool, settled: u32) {
     data_block(out, settled, b"     none");
 }
 
-// What was printed of an entry or a data block: nothing, since the card has no such one; nothing; a line or a number.
-#[derive(Clone, Copy)]
-enum Shown {
-    Past,
-    Nothing,
-    Something,
-}
-
-fn line(out: &impl Print, card: &[u8], i: u64) -> Shown {
+// Entry i, where it is not all zero: whether it was printed, where the card has such an entry.
+fn line(out: &impl Print, card: &[u8], i: u64) -> Option<bool> {
     match survey::line_of(card, i) {
-        Line::Missing => Shown::Past,
-        Line::Unused => Shown::Nothing,
+        Line::Missing => return None,
+        Line::Unused => return Some(false),
         Line::Raw(e) => {
             fields(out, i, e);
             say(out, b"         -         -\n");
-            Shown::Something
         }
         Line::Full(e, undoable, settled) => {
             fields(out, i, e);
             known(out, undoable, settled);
             say(out, b"\n");
-            Shown::Something
         }
     }
+    Some(true)
 }
 
-fn free_block(out: &impl Print, card: &[u8], p: u64) -> Shown {
-    match survey::block_of(card, p) {
-        Block::Missing => Shown::Past,
-        Block::Taken => Shown::Nothing,
-        Block::Free => {
-            plain(out, p, 4);
-            Shown::Something
-        }
+// Data block p, where it is free: whether it was printed, where the card has such a block.
+fn free_block(out: &impl Print, card: &[u8], p: u64) -> Option<bool> {
+    let free = survey::block_of(card, p)?;
+    if free {
+        plain(out, p, 4);
     }
+    Some(free)
 }
 
-// One of the two, by what is asked for.
-fn one(out: &impl Print, card: &[u8], blocks: bool, i: u64) -> Shown {
-    if blocks {
-        free_block(out, card, i)
-    } else {
-        line(out, card, i)
-    }
-}
-
-fn is_past(s: Shown) -> bool {
-    match s {
-        Shown::Past => true,
-        Shown::Nothing => false,
-        Shown::Something => false,
-    }
-}
-
-fn is_something(s: Shown) -> bool {
-    match s {
-        Shown::Past => false,
-        Shown::Nothing => false,
-        Shown::Something => true,
-    }
-}
-
-// Every entry that is not all zero, or every free data block, and whether there are any.
-fn all(out: &impl Print, card: &[u8], blocks: bool) -> bool {
+// Every place that the card has is shown, in order; whether any was printed.
+fn all<F: Fn(u64) -> Option<bool>>(show: F) -> bool
+    requires { F.IsAlwaysCallable show }
+{
     let mut any = false;
-    let mut i: u64 = 0;
-    while i < 128 {
-        let s = one(out, card, blocks, i);
-        i += 1;
-        if is_past(s) {
+    for i in 0..128 {
+        let Some(printed) = show(i) else {
             return any;
-        }
-        any = any | is_something(s);
+        };
+        any |= printed;
     }
     any
 }
@@ -238,9 +188,8 @@ fn unstated(out: &impl Print, card: &[u8]) {
 pub fn condition(out: &impl Print, card: &[u8]) {
     match lookup::state(card) {
         Reported::Is(s) => {
-            let c = s.condition;
             say(out, b"condition  ");
-            told(out, c);
+            told(out, s.condition);
         }
         Reported::Refused(_) => unstated(out, card),
     }
@@ -258,14 +207,14 @@ fn entries(out: &impl Print, card: &[u8]) {
         out,
         b"\nentries: V in use, P previous modified, M modified, R log role\n  place  bytes                               flags    number  previous  current  undoable   settled\n",
     );
-    if !all(out, card, false) {
+    if !all(|i| line(out, card, i)) {
         say(out, b"  none in use\n");
     }
 }
 
 fn blocks(out: &impl Print, card: &[u8]) {
     say(out, b"\nfree data blocks\n ");
-    if !all(out, card, true) {
+    if !all(|p| free_block(out, card, p)) {
         say(out, b" none");
     }
     say(out, b"\n");
@@ -273,17 +222,11 @@ fn blocks(out: &impl Print, card: &[u8]) {
 
 // Whether the header can be trusted and the first entry is there.
 fn has_entries(card: &[u8]) -> bool {
-    match survey::line_of(card, 0) {
-        Line::Missing => false,
-        _ => true,
-    }
+    !matches!(survey::line_of(card, 0), Line::Missing)
 }
 
 fn is_sound(card: &[u8]) -> bool {
-    match faults::fault_of(card, 1, 2) {
-        Fault::Sound => true,
-        _ => false,
-    }
+    matches!(faults::fault_of(card, 1, 2), Fault::Sound)
 }
 
 // The length behind the name. Of a file longer than any card no more is read.

@@ -2,8 +2,8 @@
 use Prim.Native.Nat.{ℕ, ◌+◌, ◌-◌, ◌≤◌, ◌<◌}
 use mathlib.Core.List.{List}
 use mathlib.Core.Bool.{Bool, true, false, cond, not, ◌&&◌, ◌||◌}
+use Rattle.std.specs.Prelude.{Some, None}
 use mathlib.Core.Path.{◌≡◌, refl, sym, ap, ◌∙◌}
-use native.Mathlib.Numerals.{add-one}
 use native.Mathlib.Omega.{arith}
 use lib.ListN.{length}
 use lib.Dec.{eqb, ltb, leb}
@@ -23,12 +23,8 @@ use Rattle.ring.specs.declared.Window.{Window}
 use Rattle.ring.specs.Fitted.{Fitted, Placed, WindowOf}
 use Rattle.ring.proofs.Laws.{fit_long, fit_fitted, header_geometry}
 use Rattle.checks.specs.Keys.{undoable_entry}
-use Rattle.survey.specs.declared.Field.TheVariants.{Missing as NoField, Is}
-use Rattle.survey.specs.declared.Slot.TheVariants.{Missing as NoSlot, At}
 use Rattle.survey.specs.declared.Line.{Line}
 use Rattle.survey.specs.declared.Line.TheVariants.{Missing as NoLine, Unused, Raw, Full}
-use Rattle.survey.specs.declared.Block.{Block}
-use Rattle.survey.specs.declared.Block.TheVariants.{Missing as NoBlock, Free, Taken}
 use Rattle.survey.specs.Raw.{field_in, ring_known, slot_in, slot_of, reaches, line_in, line_of, needed_by, Known, block_in, block_of}
 
 -- ---- a choice by a test
@@ -42,24 +38,24 @@ pick_false b x y e = rw e
 -- ---- a field
 
 module _ (c : List ℕ) (at w : ℕ) where
-  pub field_wide : 8 < w → NoField ≡ field_in c at w
+  pub field_wide : 8 < w → None ≡ field_in c at w
   unfolding field_in
   field_wide h = rw (lt-leb w 8 h)
 
-  field_off : length c < at + w → NoField ≡ field_in c at w
+  field_off : length c < at + w → None ≡ field_in c at w
   unfolding field_in
   field_off h = pick_false (leb w 8 && leb (at + w) (length c)) _ _ (and_fails (leb w 8) _ (lt-leb (at + w) (length c) h))
 
-  pub field_long : length c < w → NoField ≡ field_in c at w
+  pub field_long : length c < w → None ≡ field_in c at w
   field_long h = field_off (omega arith)
 
-  pub field_beyond : length c - w < at → NoField ≡ field_in c at w
+  pub field_beyond : length c - w < at → None ≡ field_in c at w
   field_beyond h = field_off (omega arith)
 
-  pub field_is : (r : ℕ) → w ≤ 8 → w ≤ length c → at ≤ length c - w → Number c at w r → Is r ≡ field_in c at w
+  pub field_is : (r : ℕ) → w ≤ 8 → w ≤ length c → at ≤ length c - w → Number c at w r → Some r ≡ field_in c at w
   unfolding field_in
   field_is r a l b n =
-      ap Is n.value
+      ap Some n.value
       ∙ pick_true (leb w 8 && leb (at + w) (length c)) _ _ (and_both (le-leb w 8 a) (le-leb (at + w) (length c) (omega arith)))
 
 -- ---- the window
@@ -98,7 +94,7 @@ module _ (c : List ℕ) (r : Bool) (e : r ≡ ring_known c) (h : not r ≡ false
         tail = rw q (ltb-true _ _ (and_right (ltb (head_of c) s) (ltb (tail_of c) s) both));
       }
 
-pub slot_unknown : (c : List ℕ) (j : ℕ) (r : Bool) → r ≡ ring_known c → not r ≡ true → NoSlot ≡ slot_of c j
+pub slot_unknown : (c : List ℕ) (j : ℕ) (r : Bool) → r ≡ ring_known c → not r ≡ true → None ≡ slot_of c j
 unfolding slot_of
 slot_unknown c j r e h = let off : ring_known c ≡ false = sym e ∙ not-true r h in rw off
 
@@ -106,18 +102,18 @@ module _ (c : List ℕ) (g : Geometry) (w : Window) (j : ℕ) (q : g ≡ geometr
   window_count : w.count ≡ window_of (geometry_of c) c
   window_count = win.count ∙ ap (λ (y : Geometry). window_of y c) q
 
-  pub slot_past : w.count ≤ j → NoSlot ≡ slot_of c j
+  pub slot_past : w.count ≤ j → None ≡ slot_of c j
   unfolding slot_of
   slot_past l =
       pick_false (ring_known c && ltb j (window_of (geometry_of c) c)) _ _ (and_fails (ring_known c) _ (le-ltb j _ (rw window_count at l)))
 
   pub slot_at : (r : Bool) (p n : ℕ) → r ≡ ring_known c → not r ≡ false → j < w.count → p ≡ around g.slots w.tail j
-      → n ≡ window_number g c j → At p n ≡ slot_of c j
+      → n ≡ window_number g c j → Some (p, n) ≡ slot_of c j
   unfolding slot_of slot_in
   slot_at r p n e h l ep en =
-      (λ t. At (ep t) (en t))
-      ∙ ap (λ (x : ℕ). At (around g.slots x j) (window_number g c j)) win.tail
-      ∙ ap (λ (y : Geometry). slot_in y c j) q
+      (λ t. Some (ep t, en t))
+      ∙ ap (λ (x : ℕ). Some (around g.slots x j, window_number g c j)) win.tail
+      ∙ ap (λ (y : Geometry). Some (slot_in y c j)) q
       ∙ pick_true (ring_known c && ltb j (window_of (geometry_of c) c)) _ _ (and_both (known_yes c r e h) (lt-ltb j _ (rw window_count at l)))
 
 -- ---- an entry
@@ -202,14 +198,6 @@ module _ (c : List ℕ) (r : Bool) (g : Geometry) (e : r ≡ header_fits 1 2 c) 
 
 -- ---- a data block
 
-pub none_more : (p : ℕ → Bool) (i : ℕ) (r hit : Bool) → r ≡ not (any_below p i) → hit ≡ p i → r && not hit ≡ not (any_below p (i + 1))
-unfolding any_below
-none_more p i r hit e h = (λ t. e t && not (h t)) ∙ both (any_below p i) (p i) ∙ ap (λ (n : ℕ). not (any_below p n)) (sym (add-one i))
-  where
-    both : (a b : Bool) → not a && not b ≡ not (a || b)
-    both true b = refl
-    both false b = refl
-
 module _ (g : Geometry) (c : List ℕ) (p i q : ℕ) (e : Entry) (u : Bool) (is : e ≡ entry_at g c i) (used : u ≡ in_use e) (now_is : q ≡ e.current) where
   needed_is : (u && eqb q p) || (ring_known c && (undoable_entry g c e && eqb e.previous p)) ≡ needed_by g c p i
   unfolding needed_by current_is previous_is used_at undoable_at undoable_entry
@@ -244,41 +232,27 @@ module _ (g : Geometry) (c : List ℕ) (p i q : ℕ) (e : Entry) (u : Bool) (is 
         ∙ needed_rest
 
 -- where the window is defined these are the blocks that no search finds
-pub known_free : (g : Geometry) (c : List ℕ) (p : ℕ) → ring_known c ≡ true → block_in g c p ≡ cond (is_free g c p) Free Taken
+pub known_free : (g : Geometry) (c : List ℕ) (p : ℕ) → ring_known c ≡ true → block_in g c p ≡ is_free g c p
 unfolding block_in is_free taken_by needed_by
-known_free g c p k = ap (λ (b : Bool). cond (not (any_below (λ i. current_is g c p i || (b && previous_is g c p i)) g.blocks)) Free Taken) k
-
-module _ (g : Geometry) (c : List ℕ) (p i : ℕ) (r : Bool) (told : r ≡ not (any_below (needed_by g c p) i)) (a : g.blocks ≤ i)
-    (b : i ≤ g.blocks) where
-  free_told : r ≡ not (any_below (needed_by g c p) g.blocks)
-  free_told = let e : i ≡ g.blocks = omega arith in told ∙ ap (λ (n : ℕ). not (any_below (needed_by g c p) n)) e
-
-  pub block_free : r ≡ true → Free ≡ block_in g c p
-  unfolding block_in
-  block_free t = pick_true (not (any_below (needed_by g c p) g.blocks)) _ _ (sym free_told ∙ t)
-
-  pub block_taken : r ≡ false → Taken ≡ block_in g c p
-  unfolding block_in
-  block_taken t = pick_false (not (any_below (needed_by g c p) g.blocks)) _ _ (sym free_told ∙ t)
+known_free g c p k = ap (λ (b : Bool). not (any_below (λ i. current_is g c p i || (b && previous_is g c p i)) g.blocks)) k
 
 -- the window of a card on which it is defined
 pub needed_window : (g : Geometry) (c : List ℕ) (known o : Bool) → Known g c known → not (known && o) ≡ false → Placed g c
 needed_window g c known o h n = known_placed c known h.known_is (ap not (and_left known o (not-false _ n))) g h.own
 
-pub block_unfit : (c : List ℕ) (p f : ℕ) → f ≡ fit_refusal 1 2 c → (f ≡ 0 → ⊥) → NoBlock ≡ block_of c p
+pub block_unfit : (c : List ℕ) (p f : ℕ) → f ≡ fit_refusal 1 2 c → (f ≡ 0 → ⊥) → None ≡ block_of c p
 unfolding block_of
 block_unfit c p f e h = rw (ne_eqb (fit_refusal 1 2 c) 0 (λ z. h (e ∙ z)))
 
 module _ (c : List ℕ) (p : ℕ) (g : Geometry) (q : g ≡ geometry_of c) where
-  pub block_past : g.blocks ≤ p → NoBlock ≡ block_of c p
+  pub block_past : g.blocks ≤ p → None ≡ block_of c p
   unfolding block_of
   block_past l =
       pick_false (eqb (fit_refusal 1 2 c) 0 && ltb p (geometry_of c).blocks) _ _ (and_fails (eqb (fit_refusal 1 2 c) 0) _ (le-ltb p _ (rw q at l)))
 
-  pub block_there : (f : ℕ) (r : Block) → f ≡ fit_refusal 1 2 c → f ≡ 0 → p < g.blocks → r ≡ block_in g c p → r ≡ block_of c p
+  pub block_there : (f : ℕ) (r : Bool) → f ≡ fit_refusal 1 2 c → f ≡ 0 → p < g.blocks → r ≡ block_in g c p → Some r ≡ block_of c p
   unfolding block_of
   block_there f r e z l h =
-      h
-      ∙ ap (λ (y : Geometry). block_in y c p) q
+      ap Some (h ∙ ap (λ (y : Geometry). block_in y c p) q)
       ∙ pick_true (eqb (fit_refusal 1 2 c) 0 && ltb p (geometry_of c).blocks) _ _
       (and_both (eq-eqb (fit_refusal 1 2 c) 0 (sym e ∙ z)) (lt-ltb p _ (rw q at l)))

@@ -9,20 +9,6 @@ ghost use Rattle.survey.specs.Raw.{field_in, ring_known, slot_of, line_in, line_
 
 use protocol::{Entry, Geometry};
 
-// A number on the card, where it can be read.
-#[derive(Clone, Copy)]
-pub enum Field {
-    Missing,
-    Is(u64),
-}
-
-// A slot of the window: its position and the number in it.
-#[derive(Clone, Copy)]
-pub enum Slot {
-    Missing,
-    At(u64, u64),
-}
-
 // An entry: out of reach, unused, as it stands, or with whether it is undoable and its settled block.
 #[derive(Clone, Copy)]
 pub enum Line {
@@ -32,34 +18,20 @@ pub enum Line {
     Full(Entry, bool, u32),
 }
 
-// A data block.
-#[derive(Clone, Copy)]
-pub enum Block {
-    Missing,
-    Free,
-    Taken,
-}
-
-fn wide(x: u32) -> u64
-    ensures { result ≡ x }
-{
-    x as u64
-}
-
 // A number of `width` bytes at byte `at`, where the card reaches that far.
-pub fn field_in(card: &[u8], at: usize, width: usize) -> Field
+pub fn field_in(card: &[u8], at: usize, width: usize) -> Option<u64>
     ensures { result ≡ field_in card.now at width }
 {
     if 8 < width {
-        return Field::Missing;
+        return None;
     }
     if card.len() < width {
-        return Field::Missing;
+        return None;
     }
     if card.len() - width < at {
-        return Field::Missing;
+        return None;
     }
-    Field::Is(numbers::get(card, at, width))
+    Some(numbers::get(card, at, width))
 }
 
 // Whether the window is defined: checks 1 and 2 pass, Head and Tail are below S.
@@ -73,20 +45,20 @@ pub fn ring_known(card: &[u8]) -> bool
     (ring::head_of(card) < g.slots) & (ring::tail_of(card) < g.slots)
 }
 
-// Slot j of the window, counted from Tail: its position and the number in it.
-pub fn slot_of(card: &[u8], j: u64) -> Slot
+// Slot j of the window, counted from Tail: its position and the number in it, where the window is defined and has a slot j.
+pub fn slot_of(card: &[u8], j: u64) -> Option<(u64, u64)>
     ensures { result ≡ slot_of card.now j }
 {
     if !ring_known(card) {
-        return Slot::Missing;
+        return None;
     }
     let g = ring::geometry_of(card);
     let w = ring::window_of(g, card);
     if w.count <= j {
-        return Slot::Missing;
+        return None;
     }
     let place = ring::forward(g.slots, w.tail, j);
-    Slot::At(place, ring::window_number(g, card, w, j))
+    Some((place, ring::window_number(g, card, w, j)))
 }
 
 // Whether all four fields are zero.
@@ -153,40 +125,33 @@ fn taken_by(g: Geometry, card: &[u8], known: bool, p: u64, i: usize) -> bool
     ensures { result ≡ needed_by g card.now p i }
 {
     let e = checks::entry_of(g, card, i);
-    if codec::in_use(e) & (wide(e.current) == p) {
+    if codec::in_use(e) & (u64::from(e.current) == p) {
         return true;
     }
-    if !(known & (wide(e.previous) == p)) {
+    if !(known & (u64::from(e.previous) == p)) {
         return false;
     }
     checks::undoable(g, card, ring::window_of(g, card), e)
 }
 
 // Whether data block p, below N, is free.
-fn block_in(g: Geometry, card: &[u8], known: bool, p: u64) -> Block
+fn block_in(g: Geometry, card: &[u8], known: bool, p: u64) -> bool
     requires { Known g card.now known }
     ensures { result ≡ block_in g card.now p }
 {
-    let n = g.blocks as usize;
-    let mut free = true;
-    let mut i: usize = 0;
-    while i < n {
-        free = free & !taken_by(g, card, known, p, i);
-        i += 1;
-    }
-    if free { Block::Free } else { Block::Taken }
+    !(0..g.blocks as usize).any(|i| taken_by(g, card, known, p, i))
 }
 
-// Whether data block p is free.
-pub fn block_of(card: &[u8], p: u64) -> Block
+// Whether data block p is free, where the card passes checks 1 and 2 and has such a block.
+pub fn block_of(card: &[u8], p: u64) -> Option<bool>
     ensures { result ≡ block_of card.now p }
 {
     if ring::fit_refusal(card, 1, 2) != 0 {
-        return Block::Missing;
+        return None;
     }
     let g = ring::geometry_of(card);
     if g.blocks <= p {
-        return Block::Missing;
+        return None;
     }
-    block_in(g, card, ring_known(card), p)
+    Some(block_in(g, card, ring_known(card), p))
 }

@@ -22,9 +22,9 @@ pub returns-then-not-good_previous : goal.returns-then-not-good_previous
 unfolding allowed_flags
 returns-then-not-good_previous c = search (entry_previous, rules)
 
-pub returns-then-not-below : goal.returns-then-not-below
+pub returns-then-from-n : goal.returns-then-from-n
 unfolding allowed_flags
-returns-then-not-below c = search (entry_current, rules)
+returns-then-from-n c = search (entry_current, rules)
 
 pub returns : goal.returns
 unfolding allowed_flags

@@ -8,8 +8,8 @@ pub loop-i-init : goal.loop-i-init
 unfolding any_below
 loop-i-init c = search rules
 
-pub returns-then-j-at : goal.returns-then-j-at
-returns-then-j-at c = search (pair_named, rules)
+pub returns-then-j-i : goal.returns-then-j-i
+returns-then-j-i c = search (pair_named, rules)
 
 pub loop-i-preserved : goal.loop-i-preserved
 loop-i-preserved c = search (pair_next, rules)

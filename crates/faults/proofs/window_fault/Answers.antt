@@ -17,8 +17,7 @@ pub returns-then-window_number-g : goal.returns-then-window_number-g
 returns-then-window_number-g c = search (window_fault_lem, rules)
 
 pub loop-j-preserved : goal.loop-j-preserved
-loop-j-preserved c =
-    (search rules, window_next _ _ _ c.loop-j.invariant.1 _ c.window_number.ensures c.if-window_number-g.false)
+loop-j-preserved c = window_next _ _ _ c.loop-j.invariant _ c.window_number.ensures c.if-window_number-g.false
 
 pub returns : goal.returns
 returns c = search (window_sound, rules)

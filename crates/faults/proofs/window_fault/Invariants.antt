@@ -1,5 +1,4 @@
 -- `window_fault` names the first slot whose number is not below D. The invariant: none of the slots passed is one.
-use Prim.Native.Nat.{◌≤◌, ◌-◌}
 use mathlib.Core.Bool.{false}
 use mathlib.Core.Path.{◌≡◌}
 use Rattle.protocol.specs.Below.{any_below}
@@ -8,7 +7,4 @@ use Rattle.faults.specs.Fault.{fails}
 use Rattle.faults.proofs.window_fault.Given as goal
 
 abbrev pub invariant-loop-j : goal.invariant-loop-j
-invariant-loop-j l = (l.j ≤ l.count) × (any_below (fails (window_number_fits l.g l.card)) l.j ≡ false)
-
-abbrev pub decreases-loop-j : goal.decreases-loop-j
-decreases-loop-j l = l.count - l.j
+invariant-loop-j l = any_below (fails (window_number_fits l.g l.card)) l.j ≡ false

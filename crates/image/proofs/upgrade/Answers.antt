@@ -13,9 +13,9 @@ pub returns-then-allowance-eq0 : goal.returns-then-allowance-eq0
 returns-then-allowance-eq0 g c =
     upgrade_stopped _ _ _ c.examine-u.ensures c.if-u-ne0.false false (λ q. c.if-allowance-eq0.true) (λ q. absurd_bool q refl) _ c.stopped.ensures
 
-pub returns-then-not-put : goal.returns-then-not-put
-returns-then-not-put g c =
-    upgrade_stopped _ _ _ c.examine-u.ensures c.if-u-ne0.false true (λ q. absurd_bool refl q) (λ q. c.if-allowance-eq0.false) _ c.stopped-then-not-put.ensures
+pub returns-then-is_err : goal.returns-then-is_err
+returns-then-is_err g c =
+    upgrade_stopped _ _ _ c.examine-u.ensures c.if-u-ne0.false true (λ q. absurd_bool refl q) (λ q. c.if-allowance-eq0.false) _ c.stopped-then-is_err.ensures
 
 pub returns : goal.returns
 returns g c = upgrade_made _ _ _ c.examine-u.ensures c.if-u-ne0.false c.if-allowance-eq0.false _ c.upgrade.ensures.card

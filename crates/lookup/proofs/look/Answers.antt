@@ -1,5 +1,5 @@
 -- `look` hands back the part that its definition names: where the block was found, or an empty one.
-use Rattle.lookup.proofs.Reading.{card_part, disk_part, look_card, look_disk, look_refused, look_outside}
+use Rattle.lookup.proofs.Reading.{card_part, disk_part, look_card, look_disk, look_else}
 use mathlib.Core.Path.{sym, ◌∙◌}
 use native.Mathlib.Omega.{arith}
 use Rattle.lookup.proofs.look.Goals as goal
@@ -26,8 +26,5 @@ returns-in-Card c = look_card _ _ _ _ _ _ (sym c.in-Card.is ∙ c.find.ensures)
 pub returns-in-Disk : goal.returns-in-Disk
 returns-in-Disk c = look_disk _ _ _ _ _ (sym c.in-Disk.is ∙ c.find.ensures)
 
-pub returns-in-Refused : goal.returns-in-Refused
-returns-in-Refused c = look_refused _ _ _ _ (sym c.in-Refused.is ∙ c.find.ensures)
-
-pub returns-in-Outside : goal.returns-in-Outside
-returns-in-Outside c = look_outside _ _ _ _ (sym c.in-Outside.is ∙ c.find.ensures)
+pub returns-in_default : goal.returns-in_default
+returns-in_default c = look_else _ _ _ _ c.find.ensures c.in_default.not-Card c.in_default.not-Disk

@@ -12,8 +12,8 @@ inspect-v-requires c = (c.fit_of-fit.ensures.framed c.if-fit-ne0.false, search r
 pub returns-then-v-ne0 : goal.returns-then-v-ne0
 returns-then-v-ne0 c = search (state_damaged, rules)
 
-pub condition-c-requires : goal.condition-c-requires
-condition-c-requires c = (
+pub condition-condition-requires : goal.condition-condition-requires
+condition-condition-requires c = (
   (c.fit_of-fit.ensures.framed c.if-fit-ne0.false).fitted,
   inspected_placed _ _ _ _ c.inspect-v.ensures c.if-v-ne0.false,
   c.inspect-v.ensures.settled_is c.if-v-ne0.false,

@@ -3,7 +3,7 @@ use native.Mathlib.Omega.{arith}
 use mathlib.Core.Path.{sym, ap, ◌∙◌}
 use Rattle.lookup.specs.declared.Found.{Found}
 use Rattle.lookup.specs.Place.{touched_by}
-use borrow.Author.Rules.{rules}
+use Rattle.lookup.proofs.Recent.{touched_else}
 use Rattle.lookup.proofs.touch_found.Goals as goal
 
 pub overflow_cast-i : goal.overflow_cast-i
@@ -21,14 +21,5 @@ returns-in-Card c =
     c.to_front.ensures
     ∙ ap (λ (x : Found). touched_by x c.args.table.now) (sym c.in-Card.is)
 
-pub returns-in-Disk : goal.returns-in-Disk
-unfolding touched_by
-returns-in-Disk c = search rules
-
-pub returns-in-Refused : goal.returns-in-Refused
-unfolding touched_by
-returns-in-Refused c = search rules
-
-pub returns-in-Outside : goal.returns-in-Outside
-unfolding touched_by
-returns-in-Outside c = search rules
+pub returns-in_default : goal.returns-in_default
+returns-in_default c = touched_else _ _ c.in_default.not-Card

@@ -1,5 +1,5 @@
--- `note_step` notes an undone entry's blocks, and nothing of another step: one law for each of its three forms.
-use Rattle.recovery.proofs.Moving.{note_nothing, note_undo, note_tail, blocks_small}
+-- `note_step` notes an undone entry's blocks, and nothing of another step: one law for an entry undone, and one for the rest.
+use Rattle.recovery.proofs.Moving.{note_undo, note_else, blocks_small}
 use Rattle.recovery.proofs.Turns.{undo_fits}
 use Rattle.recovery.proofs.note_step.Goals as goal
 
@@ -11,11 +11,8 @@ note_entry-requires c =
     let l = undo_fits c.args.g _ _ _ c.in-Undo.is c.requires.1 in
     blocks_small _ _ _ c.requires.0 (c.requires.2 l) _ c.entry_of.ensures
 
-pub returns-in-Nothing : goal.returns-in-Nothing
-returns-in-Nothing c = note_nothing _ _ _ c.in-Nothing.is
-
 pub returns-in-Undo : goal.returns-in-Undo
 returns-in-Undo c = note_undo _ _ _ _ c.in-Undo.is _ c.entry_of.ensures _ c.note_entry.ensures
 
-pub returns-in-Tail : goal.returns-in-Tail
-returns-in-Tail c = note_tail _ _ _ _ c.in-Tail.is
+pub returns-in_default : goal.returns-in_default
+returns-in_default c = note_else _ _ _ c.in_default.not-Undo

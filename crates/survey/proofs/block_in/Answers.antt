@@ -1,18 +1,19 @@
--- `block_in` answers its definition. The invariant: `free` says whether none of the entries passed takes the block.
-use Rattle.protocol.specs.Below.{any_below}
-use Rattle.survey.proofs.Laws.{none_more, block_free, block_taken}
+-- `block_in` answers its definition: the range asks of each entry whether it takes the block.
+use Rattle.std.proofs.lemmas.Iterator.{YieldsList-from_range}
+use Rattle.std.proofs.lemmas.Iterator.Search.{any_from_yields_List}
+use Rattle.std.proofs.Common.{ap, ◌∙◌, refl, arith}
 use borrow.Author.Rules.{rules}
+use borrow.Author.Tests.{tests}
+use mathlib.Core.Bool.{not}
+use Rattle.survey.specs.Raw.{needed_by, block_in}
+use Rattle.survey.proofs.Ranges.{any_range}
 use Rattle.survey.proofs.block_in.Goals as goal
 
-pub loop-i-init : goal.loop-i-init
-unfolding any_below
-loop-i-init c = search rules
-
-pub loop-i-preserved : goal.loop-i-preserved
-loop-i-preserved c = search (none_more, rules)
-
-pub returns-then-free : goal.returns-then-free
-returns-then-free c = search (block_free, rules)
-
-pub returns-else-free : goal.returns-else-free
-returns-else-free c = search (block_taken, rules)
+pub returns : goal.returns
+unfolding block_in
+returns c =
+    let n = c.args.g.blocks in
+    ap not
+    (any_from_yields_List (needed_by c.args.g c.args.card.now c.args.p) _ _ _ c.any.ensures.ran (YieldsList-from_range 0 n n refl (omega arith))
+    (λ x b q k. search (rules, tests))
+    ∙ any_range (needed_by c.args.g c.args.card.now c.args.p) n)

@@ -1,9 +1,0 @@
--- `block` ends: what is left of the bytes falls by sixteen.
-use Rattle.std.proofs.Common.{◌-◌, ◌≤◌, length}
-use Rattle.listing.proofs.list.block.Given as goal
-
-abbrev pub invariant-loop-at : goal.invariant-loop-at
-invariant-loop-at g l = l.at ≤ length l.bytes
-
-abbrev pub decreases-loop-at : goal.decreases-loop-at
-decreases-loop-at g l = length l.bytes - l.at
