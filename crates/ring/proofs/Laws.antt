@@ -295,6 +295,14 @@ module _ (p : ℕ → Bool) where
   any_in_range : (n : ℕ) → list_any p (range_with_len 0 n) ≡ any_below p n
   any_in_range n = any_from 0 n ∙ any_cong (λ i. p (0 + i)) p n (λ i l. ap p (zero-add i))
 
+pub window_number_fits_lem : (g : Geometry) (c : List ℕ) (j r : ℕ) → r ≡ window_number g c j → r < g.disk → window_number_fits g c j ≡ true
+unfolding window_number_fits
+window_number_fits_lem g c j r e h = lt-ltb _ _ (rw e at h)
+
+pub window_number_misfits : (g : Geometry) (c : List ℕ) (j r : ℕ) → r ≡ window_number g c j → g.disk ≤ r → window_number_fits g c j ≡ false
+unfolding window_number_fits
+window_number_misfits g c j r e h = le-ltb _ _ (rw e at h)
+
 pub number_test : (g : Geometry) (c : List ℕ) (j r : ℕ) → r ≡ window_number g c j → ltb r g.disk ≡ window_number_fits g c j
 unfolding window_number_fits
 number_test g c j r e = ap (λ (x : ℕ). ltb x g.disk) e

@@ -109,7 +109,11 @@ fn hex_mark(bytes: &[u8; 16], j: usize) -> u8
     ensures { result ≡ hex_mark bytes.now j }
 {
     let b = bytes[j / 2];
-    if j % 2 == 0 { glyph(b / 16) } else { glyph(b % 16) }
+    if j % 2 == 0 {
+        glyph(b / 16)
+    } else {
+        glyph(b % 16)
+    }
 }
 
 // Sixteen bytes in hexadecimal.
