@@ -7,7 +7,8 @@ use mathlib.Core.Path.{◌≡◌, refl, sym, ap, subst, ◌∙◌}
 use mathlib.Core.Logic.{⊎_elim}
 use native.Mathlib.Numerals.{add-one}
 use native.Mathlib.Omega.{arith}
-use lib.ListN.{length, get_or, set, length-set}
+use lib.ListN.{length, get_or, set, take, length-set}
+use Rattle.std.proofs.lemmas.List.{get_or-take, length-take}
 use lib.Seq.{get_or-set_same, get_or-set_other}
 use borrow.Author.Tests.{lt-ltb}
 use Rattle.protocol.specs.declared.Entry.{Entry}
@@ -105,11 +106,27 @@ count_few g e good = go (is_modified e)
     go true = let l : Limits g = limits g good in omega arith
     go false = omega arith
 
-module _ (g : Geometry) (c d ch vs : List ℕ) (n : ℕ) (v : Clearing g c d ch vs n) (k : ℕ) (l : k < n) (fs : List ℕ) (r : ℕ) (x : Counting g c vs k fs r)
-    (at : ℕ) (here : at ≡ get_or vs k 0) (e : Entry) (is : e ≡ entry_at g c at)
+-- a turn that looks at place k of the row's first n
+module _ (g : Geometry) (c d ch vs : List ℕ) (n : ℕ) (v : Clearing g c d ch vs n) (k : ℕ) (t : k < length (take n vs)) (at : ℕ)
+    (here : at ≡ get_or (take n vs) k 0)
   where
+    turn_inside : k < n
+    turn_inside = omega (arith, length-take n vs)
+
+    turn_place : at ≡ get_or vs k 0
+    turn_place = here ∙ get_or-take n vs k 0 turn_inside
+
+    pub turn_below : at < g.blocks
+    turn_below = subst (λ (i : ℕ). i < g.blocks) (sym turn_place) (place_below g c d ch vs n v k turn_inside)
+
+module _ (g : Geometry) (c d ch vs : List ℕ) (n : ℕ) (v : Clearing g c d ch vs n) (k : ℕ) (t : k < length (take n vs)) (fs : List ℕ) (r : ℕ)
+    (x : Counting g c vs k fs r) (at : ℕ) (here : at ≡ get_or (take n vs) k 0) (e : Entry) (is : e ≡ entry_at g c at)
+  where
+    l : k < n
+    l = turn_inside g c d ch vs n v k t at here
+
     same : e ≡ entry_at g c (get_or vs k 0)
-    same = is ∙ ap (entry_at g c) here
+    same = is ∙ ap (entry_at g c) (turn_place g c d ch vs n v k t at here)
 
     counted_is : (q : ℕ) → q ≡ evict_count g e → q ≡ length (flat (evict_runs g c (entry_at g c (get_or vs k 0)).number))
     counted_is q more =
@@ -136,6 +153,7 @@ module _ (g : Geometry) (c d ch vs : List ℕ) (n : ℕ) (v : Clearing g c d ch 
     counting_turn q more =
         let few = count_few g e (clear_fitted g c d ch vs n v).good in
         let room = clear_few g c d ch vs n v in
+        let inside = l in
         record {
           so_far = record {
             stores =
@@ -153,41 +171,37 @@ module _ (g : Geometry) (c d ch vs : List ℕ) (n : ℕ) (v : Clearing g c d ch 
           long = length-set fs k e.current ∙ x.long;
         }
 
-pub counting_end : (g : Geometry) (c vs : List ℕ) (k n : ℕ) (fs : List ℕ) (r : ℕ) → k ≤ n → n ≤ k → Counting g c vs k fs r → Weighed g c vs n fs r
-counting_end g c vs k n fs r a b x = let e : k ≡ n = omega arith in subst (λ (i : ℕ). Weighed g c vs i fs r) e x.so_far
-
 -- ---- made
-
-pub clear_end : (g : Geometry) (c d ch vs : List ℕ) (k n a : ℕ) (c₁ d₁ : List ℕ) (r : ℕ) → k ≤ n → n ≤ k
-    → Both (taken_runs g c vs k) ch a c c₁ d d₁ r → Both (taken_runs g c vs n) ch a c c₁ d d₁ r
-clear_end g c d ch vs k n a c₁ d₁ r l h x = let e : k ≡ n = omega arith in subst (λ (i : ℕ). Both (taken_runs g c vs i) ch a c c₁ d d₁ r) e x
 
 pub clear_start : (g : Geometry) (c d ch vs : List ℕ) (a : ℕ) → Both (taken_runs g c vs 0) ch a c c d d a
 unfolding taken_runs
 clear_start g c d ch vs a = record { card = did_start _; disk = did_start _ }
 
-module _ (g : Geometry) (c d ch vs : List ℕ) (n : ℕ) (v : Clearing g c d ch vs n) (k a : ℕ) (l : k < n) (c₁ d₁ : List ℕ) (r : ℕ)
-    (x : Both (taken_runs g c vs k) ch a c c₁ d d₁ r)
+module _ (g : Geometry) (c d ch vs : List ℕ) (n : ℕ) (v : Clearing g c d ch vs n) (k a : ℕ) (t : k < length (take n vs))
+    (c₁ d₁ : List ℕ) (r : ℕ) (x : Both (taken_runs g c vs k) ch a c c₁ d d₁ r)
   where
+    reach : k < n
+    reach = omega (arith, length-take n vs)
+
     -- a credit that is spent is spent for all of them
     pub clear_cut : r ≡ 0 → Both (taken_runs g c vs n) ch a c c₁ d d₁ 0
     unfolding taken_runs
     clear_cut z =
         let f : ℕ → List Run = λ i. evict_runs g c (entry_at g c (get_or vs i 0)).number in
-        let e : n ≡ k + (n - k) = omega arith in
+        let e : n ≡ k + (n - k) = omega (arith, reach) in
         let whole : each_below f k ++ each_below (λ i. f (k + i)) (n - k) ≡ each_below f n = sym (ap (each_below f) e ∙ each_plus f k (n - k)) in
         record { card = did_same whole (did_spent x.card _ z); disk = did_same whole (did_spent x.disk _ z) }
 
     -- where something is left of it the evictions before are all made
     module _ (h : r ≡ 0 → ⊥) where
-      abbrev t : List ℕ
-      t = v.table
+      abbrev tb : List ℕ
+      tb = v.table
 
       abbrev ns : List ℕ
       ns = v.numbers
 
-      in_list : k < length (victims g c t ns)
-      in_list = listed g c d ch vs n v k l
+      in_list : k < length (victims g c tb ns)
+      in_list = listed g c d ch vs n v k reach
 
       whole : Intact g c
       whole = (sound g c d ch vs n v).0
@@ -195,36 +209,39 @@ module _ (g : Geometry) (c d ch vs : List ℕ) (n : ℕ) (v : Clearing g c d ch 
       settled : is_settled g c ≡ true
       settled = (sound g c d ch vs n v).1
 
-      now_is : c₁ ≡ room_after g c t ns k
+      now_is : c₁ ≡ room_after g c tb ns k
       now_is =
-          did_all x.card h ∙ ap (λ (rs : List Run). made_on card (flat rs) c) (taken_is g c d ch vs n v k (omega arith))
+          did_all x.card h ∙ ap (λ (rs : List Run). made_on card (flat rs) c) (taken_is g c d ch vs n v k (omega (arith, reach)))
 
-      module _ (at : ℕ) (here : at ≡ get_or vs k 0) where
+      module _ (at : ℕ) (here : at ≡ get_or (take n vs) k 0) where
+        placed : at ≡ get_or vs k 0
+        placed = here ∙ get_or-take n vs k 0 reach
+
         pub clear_place : Fitted g c₁ × (at < g.blocks)
         clear_place = (
           record { good = whole.good; long = did_length x.card ∙ whole.sized },
-          subst (λ (i : ℕ). i < g.blocks) (sym here) (place_below g c d ch vs n v k l),
+          subst (λ (i : ℕ). i < g.blocks) (sym placed) (place_below g c d ch vs n v k reach),
         )
 
         module _ (e : Entry) (is : e ≡ entry_at g c₁ at) where
           as_before : e ≡ entry_at g c (get_or vs k 0)
           as_before =
-              is ∙ (λ i. entry_at g (now_is i) ((here ∙ v.places k l) i))
-              ∙ victim_stays t ns whole settled v.arranged k in_list
-              ∙ ap (entry_at g c) (sym (v.places k l))
+              is ∙ (λ i. entry_at g (now_is i) ((placed ∙ v.places k reach) i))
+              ∙ victim_stays tb ns whole settled v.arranged k in_list
+              ∙ ap (entry_at g c) (sym (v.places k reach))
 
           pub clear_leaving : Leaving g c₁ d₁ e.number at e ch
           clear_leaving = record {
             fitted = clear_place.0;
             disk = did_length x.disk ∙ v.disk;
-            inside = subst (λ (y : Entry). y.number < g.disk) (sym as_before) (number_below_lem whole (get_or vs k 0) (place_below g c d ch vs n v k l));
+            inside = subst (λ (y : Entry). y.number < g.disk) (sym as_before) (number_below_lem whole (get_or vs k 0) (place_below g c d ch vs n v k reach));
             here =
-                here ∙ v.places k l
-                ∙ sym (victim_found t ns whole settled v.arranged k in_list)
-                ∙ (λ i. find_entry g (sym now_is i) ((sym (number_is g c d ch vs n v k l) ∙ ap (λ (y : Entry). y.number) (sym as_before)) i));
+                placed ∙ v.places k reach
+                ∙ sym (victim_found tb ns whole settled v.arranged k in_list)
+                ∙ (λ i. find_entry g (sym now_is i) ((sym (number_is g c d ch vs n v k reach) ∙ ap (λ (y : Entry). y.number) (sym as_before)) i));
             below = clear_place.1;
             is = is;
-            current = subst (λ (y : Entry). y.current < g.blocks) (sym as_before) (place_current g c d ch vs n v k l);
+            current = subst (λ (y : Entry). y.current < g.blocks) (sym as_before) (place_current g c d ch vs n v k reach);
             wide = v.wide;
           }
 
@@ -232,9 +249,9 @@ module _ (g : Geometry) (c d ch vs : List ℕ) (n : ℕ) (v : Clearing g c d ch 
               → Both (taken_runs g c vs (k + 1)) ch a c c₂ d d₂ q
           clear_turn c₂ d₂ q y =
               let grown : taken_runs g c vs k ++ evict_runs g c₁ e.number ≡ taken_runs g c vs (k + 1) =
-              (λ i. taken_is g c d ch vs n v k (omega arith) i
-              ++ evict_runs g (now_is i) ((ap (λ (y : Entry). y.number) as_before ∙ number_is g c d ch vs n v k l) i))
-              ∙ sym (evicts_in_turn t ns whole settled v.arranged k in_list)
-              ∙ ap (evictions g c t ns) (sym (add-one k))
-              ∙ sym (taken_is g c d ch vs n v (k + 1) (omega arith)) in
+              (λ i. taken_is g c d ch vs n v k (omega (arith, reach)) i
+              ++ evict_runs g (now_is i) ((ap (λ (y : Entry). y.number) as_before ∙ number_is g c d ch vs n v k reach) i))
+              ∙ sym (evicts_in_turn tb ns whole settled v.arranged k in_list)
+              ∙ ap (evictions g c tb ns) (sym (add-one k))
+              ∙ sym (taken_is g c d ch vs n v (k + 1) (omega (arith, reach))) in
               record { card = did_same grown (did_then x.card y.card); disk = did_same grown (did_then x.disk y.disk) }

@@ -21,7 +21,7 @@ use Rattle.stores.proofs.Laws.{refused_answer, refused_after, refused_map}
 use Rattle.transfer.specs.Moved.{Finished}
 use Rattle.room.specs.declared.Selection.{Selection}
 use Rattle.room.specs.declared.Making.{Making}
-use Rattle.room.specs.Made.{asked_refusal, Asked, Chosen, Prepared, Makeable}
+use Rattle.room.specs.Made.{asked_refusal, Asked, Chosen, Prepared}
 use Rattle.room.proofs.Asking.{asked_all}
 
 module _ (c d : List ℕ) (m : Map) (t ns : List ℕ) (size room : ℕ) (xs : List ℕ) (s : Basis) (x : Asked c d m t ns size room xs s) where
@@ -72,13 +72,3 @@ module _ (c d : List ℕ) (m : Map) (t ns bs ch : List ℕ) (room : ℕ) (k : ro
           },
           ap (λ (y : Answer). turned y t (all_to_front (entry_found (geometry_of c) (room_left (geometry_of c) c t ns) ns) (length ns) t)) q,
         )
-
-    pub room_makeable : p.refusal ≡ 0 → Makeable c d m t ns bs ch es ps vs p
-    room_makeable z = record {
-      passes = sym refusal_is ∙ z;
-      geometry_is = x.geometry_is z;
-      head_is = x.head_is z;
-      homes = x.homes z;
-      count = x.count z;
-      places = x.places z;
-    }

@@ -1,7 +1,7 @@
 -- The victims: an entry is one by its flag and its mark, and one walk over the table from its last number finds the first ones in their order.
 -- Where the numbers are cached says which entries are marked, and there are enough victims or too few. Assumes nothing.
 use Prim.Native.Nat.{ℕ, ◌+◌, ◌-◌, ◌≤◌, ◌<◌}
-use mathlib.Core.List.{List, [], ◌∷◌, ◌++◌, append-nil}
+use mathlib.Core.List.{List, [], ◌∷◌, ◌++◌, append-nil, reverse}
 use mathlib.Core.Bool.{Bool, true, false, cond, not, ◌&&◌}
 use mathlib.Core.Path.{◌≡◌, refl, sym, ap, subst, ◌∙◌}
 use mathlib.Core.Logic.{⊎_elim}
@@ -9,6 +9,7 @@ use native.Mathlib.Nat.{not-suc-le-zero}
 use native.Mathlib.Numerals.{add-one}
 use native.Mathlib.Omega.{arith}
 use lib.ListN.{length, get_or, set, length-append, get_or-append}
+use Rattle.std.proofs.lemmas.List.{get_or_read, get_or-reverse, length-reverse}
 use lib.Seq.{get_or-set_same, get_or-set_other, get_or-append_seam}
 use lib.Dec.{ltb}
 use borrow.Author.Tests.{lt-ltb, le-ltb, lt-leb, le-leb, eq-eqb, eqb-true}
@@ -77,74 +78,77 @@ module _ (g : Geometry) (c : List ℕ) (x at : ℕ) (q : at ≡ x) (ns : List �
 
 -- ---- the walk
 
--- what the walk down to place j of the table has found, for these numbers
-pub record Swept (g : Geometry) (c t ns : List ℕ) (j : ℕ) (vs : List ℕ) (found : ℕ) : Type 0 where
-  pub count : length (sifted (is_victim g c ns) (from_last t) (128 - j)) ≡ found
-  pub places : (i : ℕ) → i < found → get_or vs i 0 ≡ get_or (sifted (is_victim g c ns) (from_last t) (128 - j)) i 0
+-- what the walk over the last k numbers of the table has found, for these numbers
+pub record Swept (g : Geometry) (c t ns : List ℕ) (k : ℕ) (vs : List ℕ) (found : ℕ) : Type 0 where
+  pub count : length (sifted (is_victim g c ns) (from_last t) k) ≡ found
+  pub places : (i : ℕ) → i < found → get_or vs i 0 ≡ get_or (sifted (is_victim g c ns) (from_last t) k) i 0
 
-pub swept_start : (g : Geometry) (c t ns vs : List ℕ) → Swept g c t ns 128 vs 0
+-- what the walk comes to after k numbers
+pub next_is : (t : List ℕ) (k x : ℕ) → length t ≡ 128 → (k < length (reverse t)) × (x ≡ get_or (reverse t) k x)
+    → (k < 128) × (x ≡ get_or t (127 - k) 0)
+next_is t k x long h =
+    let l : k < 128 = omega (arith, length-reverse t, h.0) in
+    let inside : k < length t = omega arith in
+    let place : length t - 1 - k ≡ 127 - k = omega arith in
+    let read : x ≡ get_or t (127 - k) x = h.1 ∙ get_or-reverse t k x inside ∙ ap (λ (i : ℕ). get_or t i x) place in
+    (l, get_or_read t (127 - k) x (omega arith) read 0)
+
+pub swept_start : (g : Geometry) (c t ns vs : List ℕ) → Swept g c t ns 0 vs 0
 unfolding each_below
 swept_start g c t ns vs = record { count = refl; places = λ i l. absurd (not-suc-le-zero l) }
 
-module _ (g : Geometry) (c t ns : List ℕ) (j : ℕ) (vs : List ℕ) (found : ℕ) (w : Swept g c t ns j vs found) (few : j ≤ 128) where
+module _ (g : Geometry) (c t ns : List ℕ) (k : ℕ) (vs : List ℕ) (found : ℕ) (w : Swept g c t ns k vs found) where
   abbrev before : List ℕ
-  before = sifted (is_victim g c ns) (from_last t) (128 - j)
+  before = sifted (is_victim g c ns) (from_last t) k
 
-  module _ (l : 0 < j) where
-    abbrev x : ℕ
-    x = get_or t (j - 1) 0
-
-    longer : sifted (is_victim g c ns) (from_last t) (128 - (j - 1)) ≡ before ++ keep (is_victim g c ns x) x
+  module _ (x : ℕ) (e : x ≡ get_or t (127 - k) 0) where
+    longer : sifted (is_victim g c ns) (from_last t) (k + 1) ≡ before ++ keep (is_victim g c ns x) x
     unfolding each_below from_last
-    longer =
-        let next : 128 - (j - 1) ≡ 128 - j + 1 = omega arith in
-        let place : 127 - (128 - j) ≡ j - 1 = omega arith in
-        ap (sifted (is_victim g c ns) (from_last t)) (next ∙ add-one (128 - j))
-        ∙ ap (λ (i : ℕ). before ++ keep (is_victim g c ns (get_or t i 0)) (get_or t i 0)) place
+    longer = rw add-one (ap (λ (y : ℕ). before ++ keep (is_victim g c ns y) y) (sym e))
 
-    pub swept_past : false ≡ is_victim g c ns x → Swept g c t ns (j - 1) vs found
+    pub swept_past : false ≡ is_victim g c ns x → Swept g c t ns (k + 1) vs found
     unfolding keep
     swept_past h =
-        let same : sifted (is_victim g c ns) (from_last t) (128 - (j - 1)) ≡ before =
+        let same : sifted (is_victim g c ns) (from_last t) (k + 1) ≡ before =
         longer ∙ ap (λ (b : Bool). before ++ keep b x) (sym h) ∙ append-nil before in
         record {
           count = ap length same ∙ w.count;
           places = λ i b. w.places i b ∙ ap (λ (z : List ℕ). get_or z i 0) (sym same);
         }
 
-    pub swept_found : true ≡ is_victim g c ns x → found < length vs → Swept g c t ns (j - 1) (set vs found x) (found + 1)
+    pub swept_found : true ≡ is_victim g c ns x → found < length vs → Swept g c t ns (k + 1) (set vs found x) (found + 1)
     unfolding keep
     swept_found h room =
-        let more : sifted (is_victim g c ns) (from_last t) (128 - (j - 1)) ≡ before ++ (x ∷ []) =
+        let more : sifted (is_victim g c ns) (from_last t) (k + 1) ≡ before ++ (x ∷ []) =
         longer ∙ ap (λ (b : Bool). before ++ keep b x) (sym h) in
         record {
           count = ap length more ∙ length-append before (x ∷ []) ∙ ap (λ (n : ℕ). n + 1) w.count;
           places =
               λ i b.
               ⊎_elim
-              (λ (k : i ≡ found).
-              subst (λ (n : ℕ). get_or (set vs found x) n 0 ≡ get_or (sifted (is_victim g c ns) (from_last t) (128 - (j - 1))) n 0) (sym k)
+              (λ (j : i ≡ found).
+              subst (λ (n : ℕ). get_or (set vs found x) n 0 ≡ get_or (sifted (is_victim g c ns) (from_last t) (k + 1)) n 0) (sym j)
               (get_or-set_same vs found x 0 room
               ∙ sym (get_or-append_seam before x [] 0)
               ∙ (λ s. get_or (sym more s) (w.count s) 0)))
-              (λ (k : i < found).
+              (λ (j : i < found).
               get_or-set_other vs found i x 0 (omega arith)
-              ∙ w.places i k
+              ∙ w.places i j
               ∙ sym (get_or-append before (x ∷ []) 0 i (omega (arith, w.count)))
               ∙ ap (λ (z : List ℕ). get_or z i 0) (sym more))
               (last_or_before i found (rw add-one at b));
         }
 
   -- the victims begin with those found so far
-  rest : (ys : List ℕ) × (victims g c t ns ≡ before ++ ys)
+  rest : k ≤ 128 → (ys : List ℕ) × (victims g c t ns ≡ before ++ ys)
   unfolding victims
-  rest =
-      let e : 128 ≡ 128 - j + j = omega arith in
-      (_, ap (sifted (is_victim g c ns) (from_last t)) e ∙ each_split _ (128 - j) j)
+  rest few =
+      let e : 128 ≡ k + (128 - k) = omega arith in
+      (_, ap (sifted (is_victim g c ns) (from_last t)) e ∙ each_split _ k (128 - k))
 
-  pub swept_enough : (want : ℕ) → found ≡ want → Gathered g c t ns want vs found
-  swept_enough want q =
-      let (ys, e) = rest in
+  pub swept_enough : (want : ℕ) → k ≤ 128 → found ≡ want → Gathered g c t ns want vs found
+  swept_enough want few q =
+      let (ys, e) = rest few in
       record {
         few = λ l. absurd (omega arith);
         enough = λ l. omega (arith, ap length e, length-append before ys, w.count);
@@ -154,11 +158,10 @@ module _ (g : Geometry) (c t ns : List ℕ) (j : ℕ) (vs : List ℕ) (found : �
             ∙ ap (λ (z : List ℕ). get_or z i 0) (sym e);
       }
 
-  pub swept_end : (want : ℕ) → j ≤ 0 → found ≤ want → Gathered g c t ns want vs found
+  pub swept_end : (want : ℕ) → k ≡ 128 → found ≤ want → Gathered g c t ns want vs found
   unfolding victims
-  swept_end want l most =
-      let z : j ≡ 0 = omega arith in
-      let all : before ≡ victims g c t ns = ap (λ (i : ℕ). sifted (is_victim g c ns) (from_last t) (128 - i)) z in
+  swept_end want z most =
+      let all : before ≡ victims g c t ns = ap (sifted (is_victim g c ns) (from_last t)) z in
       record {
         few = λ b. omega (arith, ap length all, w.count);
         enough = λ b. omega (arith, ap length all, w.count);

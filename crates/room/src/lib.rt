@@ -19,12 +19,6 @@ ghost use Rattle.room.specs.Made.{Asked, Sifting, Gathered, Chosen, taken_runs, 
 use plan::Basis;
 use protocol::{Answer, Geometry, Map, Stored};
 
-fn wide(x: u8) -> usize
-    ensures { (result ≡ x) × (result < 256) }
-{
-    x as usize
-}
-
 // All refusals but 14, of `size` bytes of data and a choice of this room; and the index of the card's numbers.
 fn ask(
     card: &[u8],
@@ -39,15 +33,13 @@ fn ask(
     requires { Blank index.old }
     ensures { Asked card.now disk.now map table.now numbers.now size room index.new result }
 {
-    let arranged = recency::is_arranged(table);
-    let x = plan::meet(card, disk, map, arranged, index);
+    let x = plan::meet(card, disk, map, recency::is_arranged(table), index);
     if x.refusal != 0 {
         return x;
     }
-    let g = x.geometry;
-    let own = plan::request_refusal(g, numbers, size, room);
+    let own = plan::request_refusal(x.geometry, numbers, size, room);
     if own != 0 {
-        return plan::stopped(g, own);
+        return plan::stopped(x.geometry, own);
     }
     x
 }
@@ -57,7 +49,7 @@ fn is_victim(g: Geometry, card: &[u8], marks: &[u8; 256], x: u8) -> bool
     requires { Fitted g card.now × (length marks.now ≡ 256) }
     ensures { (ns : List ℕ) → Sifting g card.now ns marks.now → result ≡ is_victim g card.now ns x }
 {
-    let at = wide(x);
+    let at = usize::from(x);
     if g.blocks as usize <= at {
         return false;
     }
@@ -79,16 +71,13 @@ fn gather(
     requires { Fitted g card.now × (length table.now ≡ 128) × (length marks.now ≡ 256) × (length victims.old ≡ 128) }
     ensures { (ns : List ℕ) → Sifting g card.now ns marks.now → Gathered g card.now table.now ns want victims.new result }
 {
-    let mut found: usize = 0;
-    let mut j: usize = 128;
-    while 0 < j {
+    let mut found = 0;
+    for x in table.iter().rev() {
         if found == want {
             return found;
         }
-        j -= 1;
-        let x = table[j];
-        if is_victim(g, card, marks, x) {
-            victims[found] = x;
+        if is_victim(g, card, marks, *x) {
+            victims[found] = *x;
             found += 1;
         }
     }
@@ -134,11 +123,10 @@ fn choose(
             count: 0,
         };
     }
-    let g = x.geometry;
-    plan::find_homes(g, card, index, numbers, entries, previous);
+    plan::find_homes(x.geometry, card, index, numbers, entries, previous);
     let missing = lacking(n, x.free);
     let marks = recency::marks_of(entries, n);
-    let found = gather(g, card, table, &marks, missing, victims);
+    let found = gather(x.geometry, card, table, &marks, missing, victims);
     if found < missing {
         return Selection {
             refusal: 14,
@@ -156,13 +144,11 @@ fn weigh(g: Geometry, card: &[u8], victims: &[u8; 128], count: usize, freed: &mu
     requires { Fitted g card.now × ((d ch : List ℕ) × Clearing g card.now d ch victims.now count) × (length freed.old ≡ 128) }
     ensures { Weighed g card.now victims.now count freed.new result }
 {
-    let mut stores: u64 = 0;
-    let mut k: usize = 0;
-    while k < count {
-        let e = checks::entry_of(g, card, wide(victims[k]));
+    let mut stores = 0;
+    for (k, v) in victims[..count].iter().enumerate() {
+        let e = checks::entry_of(g, card, usize::from(*v));
         freed[k] = e.current as u16;
         stores += transfer::evict_count(g, e);
-        k += 1;
     }
     stores
 }
@@ -181,15 +167,13 @@ fn clear(
     ensures { Both (taken_runs g card.old victims.now count) choice.now credit card.old card.new disk.old disk.new result }
 {
     let mut left = credit;
-    let mut k: usize = 0;
-    while k < count {
+    for v in &victims[..count] {
         if left == 0 {
             return 0;
         }
-        let at = wide(victims[k]);
+        let at = usize::from(*v);
         let e = checks::entry_of(g, card, at);
         left = transfer::take_off(g, card, disk, e.number, at, e, choice, left);
-        k += 1;
     }
     left
 }
@@ -221,21 +205,19 @@ fn prepare(
 {
     let mut index = [0u8; 640];
     let x = ask(card, disk, map, table, numbers, size, room, &mut index);
-    let g = x.geometry;
-    let head = x.head;
     if x.refusal != 0 {
         return Making {
             refusal: x.refusal,
-            geometry: g,
-            head: head,
+            geometry: x.geometry,
+            head: x.head,
             count: 0,
         };
     }
     let v = choose(x, card, &index, table, numbers, entries, previous, victims);
     Making {
         refusal: v.refusal,
-        geometry: g,
-        head: head,
+        geometry: x.geometry,
+        head: x.head,
         count: v.count,
     }
 }
@@ -253,23 +235,21 @@ fn finish(
     ensures answer { (result.answer ≡ counted evicted s.answer) × (result.map ≡ handed_on s.answer map s.map) }
     ensures table { table.new ≡ turned s.answer table.old (all_to_front (λ i. get_or entries.now i 0) n table.old) }
 {
-    let a = s.answer;
-    let m = s.map;
-    match a {
+    match s.answer {
         Answer::Done(k) => {
             recency::all_to_front(table, entries, n);
             Stored {
                 answer: Answer::Done(evicted + k),
-                map: m,
+                map: s.map,
             }
         }
         Answer::Cut => Stored {
             answer: Answer::Cut,
-            map: map,
+            map,
         },
         Answer::Refused(r) => Stored {
             answer: Answer::Refused(r),
-            map: map,
+            map,
         },
     }
 }
@@ -293,17 +273,16 @@ fn make(
     ensures media { Finished (room_work 2 card.old disk.old map table.old numbers.now «data».now choice.now) allowance map card.old card.new disk.old disk.new result }
     ensures table { table.new ≡ table_after_save allowance card.old disk.old map table.old numbers.now «data».now choice.now }
 {
-    let g = p.geometry;
     let mut freed = [0u16; 128];
-    let count = weigh(g, card, victims, p.count, &mut freed);
+    let count = weigh(p.geometry, card, victims, p.count, &mut freed);
     let credit = stores::credit(count, allowance);
-    clear(g, card, disk, victims, p.count, choice, credit);
+    clear(p.geometry, card, disk, victims, p.count, choice, credit);
     if allowance < count {
         return stores::hand_on(Answer::Cut, map, map);
     }
     let left = plan::release(map, &freed, p.count);
     let s = commit::save(
-        g,
+        p.geometry,
         card,
         p.head,
         left,

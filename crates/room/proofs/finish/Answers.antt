@@ -8,18 +8,11 @@ use Rattle.protocol.specs.Recency.{all_to_front, turned}
 use Rattle.room.specs.Made.{counted}
 use Rattle.room.proofs.finish.Goals as goal
 
-pub all_to_front-requires : goal.all_to_front-requires
-all_to_front-requires c = let p = c.requires in (p.0, p.1, p.2)
-
-pub overflow_add-result : goal.overflow_add-result
-overflow_add-result c = search (c.requires.3 _ c.in-Done.is, rules)
-
 pub returns-in-Done-clause-answer : goal.returns-in-Done-clause-answer
 unfolding counted handed_on turned
 returns-in-Done-clause-answer c =
     let s = c.args in
     let e = sym c.in-Done.is in
-    let moved = c.all_to_front.ensures in
     (ap (counted s.evicted) e, ap (λ (y : Answer). handed_on y s.map s.s.map) e)
 
 pub returns-in-Done-clause-table : goal.returns-in-Done-clause-table
@@ -27,8 +20,7 @@ unfolding counted handed_on turned
 returns-in-Done-clause-table c =
     let s = c.args in
     let e = sym c.in-Done.is in
-    let moved = c.all_to_front.ensures in
-    moved ∙ ap (λ (y : Answer). turned y s.table.now (all_to_front (λ i. get_or s.entries.now i 0) s.n s.table.now)) e
+    c.all_to_front.ensures ∙ ap (λ (y : Answer). turned y s.table.now (all_to_front (λ i. get_or s.entries.now i 0) s.n s.table.now)) e
 
 pub returns-in-Cut-clause-answer : goal.returns-in-Cut-clause-answer
 unfolding counted handed_on turned
