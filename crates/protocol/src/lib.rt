@@ -16,7 +16,7 @@ pub struct Geometry {
 }
 
 // An entry's four fields: flag byte, disk block number, previous and current data block.
-#[derive(Clone, Copy)]
+#[derive(Clone, Copy, PartialEq, Eq)]
 pub struct Entry {
     pub flags: u8,
     pub number: u64,

@@ -12,7 +12,7 @@ ghost use Rattle.protocol.specs.Map.{made_map};
 ghost use Rattle.protocol.specs.Recover.{if_changing, recover_runs};
 ghost use Rattle.ring.specs.Fitted.{Fitted, WindowOf};
 ghost use Rattle.recovery.specs.Step.{step_runs, step_run, step_stores, undoes, spelled_stores, UndoneBy, Listed, Examined};
-ghost use Rattle.recovery.specs.Went.{Went, Recovered, same_entry};
+ghost use Rattle.recovery.specs.Went.{Went, Recovered};
 ghost use Rattle.recovery.specs.Blocks.{noted, BlocksNoted};
 
 use protocol::{Answer, Entry, FRESH, Geometry, Map, Mapped, Stored};
@@ -56,13 +56,6 @@ fn undone_of(version: u64, e: Entry) -> Entry
     }
 }
 
-fn same(a: Entry, b: Entry) -> bool
-    ensures { result ≡ same_entry a b }
-{
-    (a.flags == b.flags)
-        & ((a.number == b.number) & ((a.previous == b.previous) & (a.current == b.current)))
-}
-
 // What recovery's list has at one place: nothing, the entry there as it becomes, or Tail's new value.
 #[derive(Clone, Copy)]
 pub enum Step {
@@ -82,7 +75,7 @@ fn undo_step(g: Geometry, card: &[u8], w: Window, i: usize) -> Step
         return Step::Nothing;
     }
     let u = undone_of(ring::version_of(card), e);
-    if same(e, u) {
+    if e == u {
         return Step::Nothing;
     }
     Step::Undo(u)

@@ -14,16 +14,13 @@ use std::os::unix::fs::FileExt;
 
 // Says so where the file is not as long as its header asks.
 fn match_header(rt: &HostRuntime, path: &[u8], card: &[u8]) {
-    match faults::fault_of(card, 1, 2) {
-        Fault::Length(long) => {
-            err(rt, path);
-            err(rt, b": ");
-            count(&rt.stderr(), card.len() as u64, 0);
-            err(rt, b" bytes, and its header asks for ");
-            count(&rt.stderr(), long, 0);
-            err(rt, b"\n");
-        }
-        _ => {}
+    if let Fault::Length(long) = faults::fault_of(card, 1, 2) {
+        err(rt, path);
+        err(rt, b": ");
+        count(&rt.stderr(), card.len() as u64, 0);
+        err(rt, b" bytes, and its header asks for ");
+        count(&rt.stderr(), long, 0);
+        err(rt, b"\n");
     }
 }
 
@@ -148,7 +145,7 @@ fn read_back(rt: &HostRuntime, path: &[u8], file: &mut File, card: &mut [u8]) {
 }
 
 // Lists recovery's stores, makes them, and tells the condition of the card as the file now has it.
-fn repair(rt: &HostRuntime, path: &[u8], file: &mut File, card: &mut [u8], allowance: u64) {
+pub fn repair(rt: &HostRuntime, path: &[u8], file: &mut File, card: &mut [u8], allowance: u64) {
     let s = recovery::examine(card);
     if s.refusal != 0 {
         refuse(rt, path, card, 1, 2, s.refusal);
@@ -162,7 +159,7 @@ fn repair(rt: &HostRuntime, path: &[u8], file: &mut File, card: &mut [u8], allow
 }
 
 // Shows upgrade's store, makes it, and tells the condition of the card as the file now has it.
-fn renew(rt: &HostRuntime, path: &[u8], file: &mut File, card: &mut [u8], allowance: u64) {
+pub fn renew(rt: &HostRuntime, path: &[u8], file: &mut File, card: &mut [u8], allowance: u64) {
     let s = upgrade::examine(card);
     if s.refusal != 0 {
         refuse(rt, path, card, 1, 1, s.refusal);
@@ -175,24 +172,15 @@ fn renew(rt: &HostRuntime, path: &[u8], file: &mut File, card: &mut [u8], allowa
     read_back(rt, path, file, card);
 }
 
-// One of the two, on the card that was read from the file.
-fn change(
+// Opens the card's file for writing, reads the card and changes both: by `repair` or `renew`.
+pub fn update<F: FnOnce(&HostRuntime, &[u8], &mut File, &mut [u8], u64)>(
     rt: &HostRuntime,
     path: &[u8],
-    file: &mut File,
-    card: &mut [u8],
-    anew: bool,
+    change: F,
     allowance: u64,
-) {
-    if anew {
-        renew(rt, path, file, card, allowance);
-    } else {
-        repair(rt, path, file, card, allowance);
-    }
-}
-
-// Opens the card's file for writing and upgrades or recovers it.
-pub fn update(rt: &HostRuntime, path: &[u8], anew: bool, allowance: u64) {
+)
+    requires { F.IsAlwaysCallable change }
+{
     let Some(mut file) = open_update(rt, path) else {
         return;
     };
@@ -201,7 +189,7 @@ pub fn update(rt: &HostRuntime, path: &[u8], anew: bool, allowance: u64) {
         return;
     };
     if is_long_enough(rt, path, n) {
-        change(rt, path, &mut file, &mut buf[..n], anew, allowance);
+        change(rt, path, &mut file, &mut buf[..n], allowance);
     }
 }
 

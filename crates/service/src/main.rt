@@ -26,8 +26,8 @@ fn run(rt: &HostRuntime, word: Word, count: usize) -> bool {
         Word::Show => (count == 3) && words::show(rt),
         Word::Block => (count == 5) && words::block(rt),
         Word::Preview => (3 <= count) && words::preview(rt, count),
-        Word::Recover => (count == 3 || count == 4) && words::update(rt, count, false),
-        Word::Upgrade => (count == 3 || count == 4) && words::update(rt, count, true),
+        Word::Recover => (count == 3 || count == 4) && words::update(rt, count, files::repair),
+        Word::Upgrade => (count == 3 || count == 4) && words::update(rt, count, files::renew),
         Word::Format => (count == 7) && words::format(rt),
         Word::Other => false,
     }

@@ -4,6 +4,7 @@ ghost use Rattle.std.specs.Prelude.{◌≤◌, length, IfSome};
 use crate::files;
 use arguments::{is_whole, number};
 use protocol::Geometry;
+use std::fs::File;
 use std::rt::Env;
 
 // Room for an argument: no path that the system takes is longer.
@@ -22,25 +23,15 @@ pub enum Word {
 }
 
 fn spoken(s: &[u8]) -> Word {
-    if text::same(s, b"show") {
-        return Word::Show;
+    match s {
+        b"show" => Word::Show,
+        b"block" => Word::Block,
+        b"preview" => Word::Preview,
+        b"recover" => Word::Recover,
+        b"upgrade" => Word::Upgrade,
+        b"format" => Word::Format,
+        _ => Word::Other,
     }
-    if text::same(s, b"block") {
-        return Word::Block;
-    }
-    if text::same(s, b"preview") {
-        return Word::Preview;
-    }
-    if text::same(s, b"recover") {
-        return Word::Recover;
-    }
-    if text::same(s, b"upgrade") {
-        return Word::Upgrade;
-    }
-    if text::same(s, b"format") {
-        return Word::Format;
-    }
-    Word::Other
 }
 
 pub fn command(rt: &HostRuntime) -> Word {
@@ -92,10 +83,8 @@ pub fn preview(rt: &HostRuntime, count: usize) -> bool {
         return false;
     }
     let mut path = [0u8; ROOM];
-    let list = s.list;
-    let k = s.count;
     if let Some(n) = take(rt, 2, b"CARD", &mut path) {
-        outlook::preview(rt, &path[..n], &list[..k]);
+        outlook::preview(rt, &path[..n], &s.list[..s.count]);
     }
     true
 }
@@ -108,14 +97,20 @@ fn allowance(rt: &HostRuntime, count: usize) -> Option<u64> {
     number(rt, 3)
 }
 
-// A recovery, or an upgrade.
-pub fn update(rt: &HostRuntime, count: usize, anew: bool) -> bool {
+// A change of the card under an allowance: a recovery, or an upgrade.
+pub fn update<F: FnOnce(&HostRuntime, &[u8], &mut File, &mut [u8], u64)>(
+    rt: &HostRuntime,
+    count: usize,
+    change: F,
+) -> bool
+    requires { F.IsAlwaysCallable change }
+{
     let Some(a) = allowance(rt, count) else {
         return false;
     };
     let mut path = [0u8; ROOM];
     if let Some(n) = take(rt, 2, b"CARD", &mut path) {
-        files::update(rt, &path[..n], anew, a);
+        files::update(rt, &path[..n], change, a);
     }
     true
 }
@@ -135,10 +130,10 @@ pub fn format(rt: &HostRuntime) -> bool {
     };
     let mut path = [0u8; ROOM];
     let g = Geometry {
-        k: k,
-        slots: slots,
-        blocks: blocks,
-        disk: disk,
+        k,
+        slots,
+        blocks,
+        disk,
     };
     if let Some(n) = take(rt, 2, b"CARD", &mut path) {
         files::format(rt, &path[..n], g);

@@ -299,3 +299,12 @@ module _ (c d : List ℕ) (m : Map) (b : ℕ) (ch : List ℕ) (a : ℕ) where
         (subst (λ (j : Geometry). Moved (evict_runs j c b) ch a c c' d d' y) (x.geometry_is z) k)
         (w ∙ evict_freed c d m b ch r x z e i)
         h
+
+-- ---- the table
+
+-- a call that did not answer done leaves the old table
+pub turned_else : (a : Answer) (old new : List ℕ) → ((m : ℕ) → a ≡ Done m → ⊥) → old ≡ turned a old new
+unfolding turned
+turned_else (Done m) old new n = absurd (n m refl)
+turned_else Cut old new n = refl
+turned_else (Refused r) old new n = refl

@@ -57,7 +57,7 @@ fn no_room(g: Geometry, refusal: u8) -> Room
     ensures { result.refusal ≡ refusal }
 {
     Room {
-        refusal: refusal,
+        refusal,
         geometry: g,
         block: 0,
         entry: 0,
@@ -109,16 +109,16 @@ pub fn load_run(g: Geometry, b: u64, block: u8, entry: u8, at: usize) -> Run
     ensures { result ≡ load_run g b block entry at }
 {
     if at == 0 {
-        let to = stores::block_place(g, block as u64);
+        let to = stores::block_place(g, u64::from(block));
         return Run::Words(to, stores::disk_place(g, b));
     }
     let e = Entry {
         flags: 0x80,
         number: b,
         previous: FRESH,
-        current: block as u32,
+        current: u32::from(block),
     };
-    Run::Entry(stores::entry_place(g, entry as usize), e)
+    Run::Entry(stores::entry_place(g, usize::from(entry)), e)
 }
 
 // Makes a load's list. No run of it goes to the disk.
@@ -150,10 +150,8 @@ fn touch_done(answer: Answer, table: &mut [u8], x: u8)
     requires { (is_arranged table.old ≡ true) × (x < 128) }
     ensures { table.new ≡ turned answer table.old (to_front x table.old) }
 {
-    match answer {
-        Answer::Done(_) => recency::to_front(table, x),
-        Answer::Cut => {}
-        Answer::Refused(_) => {}
+    if let Answer::Done(_) = answer {
+        recency::to_front(table, x);
     }
 }
 
@@ -176,7 +174,7 @@ pub fn load(
     if room.refusal != 0 {
         return Stored {
             answer: Answer::Refused(room.refusal),
-            map: map,
+            map,
         };
     }
     let g = room.geometry;
@@ -212,7 +210,7 @@ fn find_cached(card: &[u8], disk: &[u8], map: Map, b: u64, choice: &[u8]) -> Pla
         Place {
             refusal: 0,
             geometry: g,
-            at: at,
+            at,
         }
     } else {
         Place {
@@ -241,7 +239,7 @@ pub fn evict_run(g: Geometry, b: u64, entry: usize, e: Entry, at: usize) -> Run
     if !codec::is_modified(e) {
         return Run::Nothing;
     }
-    let from = stores::block_place(g, e.current as u64);
+    let from = stores::block_place(g, u64::from(e.current));
     Run::Sectors(stores::disk_place(g, b), from)
 }
 
@@ -313,7 +311,7 @@ pub fn evict(
     if place.refusal != 0 {
         return Stored {
             answer: Answer::Refused(place.refusal),
-            map: map,
+            map,
         };
     }
     let g = place.geometry;

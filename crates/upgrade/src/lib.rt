@@ -40,17 +40,16 @@ pub fn examine(card: &[u8]) -> Checked
     ensures { Examined card.now result }
 {
     let f = ring::fit_of(card, 1, 1);
-    let g = f.geometry;
+    let geometry = f.geometry;
     if f.refusal != 0 {
         return Checked {
             refusal: f.refusal,
-            geometry: g,
+            geometry,
         };
     }
-    let r = checks::card_refusal(f, card);
     Checked {
-        refusal: r,
-        geometry: g,
+        refusal: checks::card_refusal(f, card),
+        geometry,
     }
 }
 
