@@ -16,7 +16,7 @@ ghost use Rattle.plan.specs.Met.{Searchable};
 ghost use Rattle.transfer.specs.Moved.{Both, Finished};
 ghost use Rattle.room.specs.Made.{Asked, Sifting, Gathered, Chosen, taken_runs, Clearing, Weighed, Prepared, counted, Makeable};
 
-use plan::Basis;
+use plan::{Basis, EMPTY, Plan};
 use protocol::{Answer, Geometry, Map, Stored};
 
 // All refusals but 14, of `size` bytes of data and a choice of this room; and the index of the card's numbers.
@@ -263,13 +263,12 @@ fn make(
     table: &mut [u8],
     numbers: &[u64],
     data: &[u8],
-    entries: &mut [u8; 128],
-    previous: &[u16; 128],
+    plan: &mut Plan,
     victims: &[u8; 128],
     choice: &[u8],
     allowance: u64,
 ) -> Stored
-    requires { Makeable card.old disk.old map table.old numbers.now «data».now choice.now entries.old previous.now victims.now p }
+    requires { Makeable card.old disk.old map table.old numbers.now «data».now choice.now plan.old.entries plan.old.previous victims.now p }
     ensures media { Finished (room_work 2 card.old disk.old map table.old numbers.now «data».now choice.now) allowance map card.old card.new disk.old disk.new result }
     ensures table { table.new ≡ table_after_save allowance card.old disk.old map table.old numbers.now «data».now choice.now }
 {
@@ -288,12 +287,11 @@ fn make(
         left,
         numbers,
         data,
-        entries,
-        previous,
+        plan,
         choice,
         allowance - count,
     );
-    finish(s, count, map, table, entries, numbers.len())
+    finish(s, count, map, table, &plan.entries, numbers.len())
 }
 
 // Saves the blocks `numbers`, with their bytes side by side in `data`, as one commit, after as many evictions as blocks are missing. `allowance`
@@ -312,8 +310,7 @@ pub fn commit(
     ensures media { Finished (room_work 2 card.old disk.old map table.old numbers.now «data».now choice.now) allowance map card.old card.new disk.old disk.new result }
     ensures table { table.new ≡ table_after_save allowance card.old disk.old map table.old numbers.now «data».now choice.now }
 {
-    let mut entries = [0u8; 128];
-    let mut previous = [0u16; 128];
+    let mut plan = EMPTY;
     let mut victims = [0u8; 128];
     let p = prepare(
         card,
@@ -323,25 +320,14 @@ pub fn commit(
         numbers,
         data.len(),
         plan::choice_room(choice),
-        &mut entries,
-        &mut previous,
+        &mut plan.entries,
+        &mut plan.previous,
         &mut victims,
     );
     if p.refusal != 0 {
         return stores::hand_on(Answer::Refused(p.refusal), map, map);
     }
     make(
-        p,
-        card,
-        disk,
-        map,
-        table,
-        numbers,
-        data,
-        &mut entries,
-        &previous,
-        &victims,
-        choice,
-        allowance,
+        p, card, disk, map, table, numbers, data, &mut plan, &victims, choice, allowance,
     )
 }

@@ -36,14 +36,14 @@ save-s-requires c =
 pub finish-requires : goal.finish-requires
 finish-requires c =
     make_places _ _ _ _ _ _ _ _ _ _ _ c.requires _ _ c.weigh-count.ensures _ _ _ c.credit-credit.ensures _ _ c.clear.ensures
-    c.if-allowance-count.false _ c.release-left.ensures _ _ _ c.save-s.ensures
+    c.if-allowance-count.false _ c.release-left.ensures _ _ _ c.save-s.ensures.saved
 
 pub returns-clause-media : goal.returns-clause-media
 returns-clause-media c =
     (make_done _ _ _ _ _ _ _ _ _ _ _ c.requires _ _ c.weigh-count.ensures _ _ _ c.credit-credit.ensures _ _ c.clear.ensures
-    c.if-allowance-count.false _ c.release-left.ensures _ _ _ c.save-s.ensures _ _ c.finish.ensures.answer c.finish.ensures.table).0
+    c.if-allowance-count.false _ c.release-left.ensures _ _ _ c.save-s.ensures.saved _ _ c.finish.ensures.answer c.finish.ensures.table).0
 
 pub returns-clause-table : goal.returns-clause-table
 returns-clause-table c =
     (make_done _ _ _ _ _ _ _ _ _ _ _ c.requires _ _ c.weigh-count.ensures _ _ _ c.credit-credit.ensures _ _ c.clear.ensures
-    c.if-allowance-count.false _ c.release-left.ensures _ _ _ c.save-s.ensures _ _ c.finish.ensures.answer c.finish.ensures.table).1
+    c.if-allowance-count.false _ c.release-left.ensures _ _ _ c.save-s.ensures.saved _ _ c.finish.ensures.answer c.finish.ensures.table).1
