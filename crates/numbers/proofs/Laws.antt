@@ -4,10 +4,9 @@ use mathlib.Core.Path.{◌≡◌, refl, sym, ap, ◌∙◌, subst}
 use mathlib.Core.List.{List, [], ◌∷◌, ◌++◌, append-nil}
 use Prim.Native.Nat.{ℕ, zero, suc, ◌+◌, ◌*◌, ◌-◌, ◌/◌, ◌%◌, ◌^◌, ◌≤◌, ◌<◌, suc-le-suc}
 use native.Mathlib.Nat.{pow-succ', suc_inj, add-sub_of_le, zero-lt-suc, mul-add-mod_self_right, add-zero, add-suc, suc-add, zero-add, add_assoc, mul_assoc, mul_comm, add-mul, mul-add, pow-suc, one-le-pow, mod-lt, mod-eq_of_lt, div-eq_of_lt, div-add-mod, mul-add-mod_self_left, mul-add-div_right, mul-le-mul_right, le_of_suc-le-suc, not-suc-le-zero}
-use native.Mathlib.Numerals.{add-one}
 use native.Mathlib.Omega.{arith}
 use lib.ListN.{length, get_or, take, drop, set, length-take, length-drop, take-append-drop}
-use lib.Seq.{take_all, take-nil, drop-nil, take-suc, drop-cons, get_or-take, get_or-drop, drop-drop, take-add, ext_get_or, length-take-le}
+use lib.Seq.{take_all, take-nil, drop-nil, drop-cons, get_or-take, get_or-drop, drop-drop, take-add, ext_get_or}
 use Rattle.numbers.specs.Bytes.{be_from, be, bytes_be, part, number_at, patch, Bytes}
 
 -- ---- numbers
@@ -337,16 +336,6 @@ unfolding patch
 patch_one [] at b = refl
 patch_one (x ∷ xs) zero b = ap (λ (r : List ℕ). b ∷ r) (patch_nil xs zero)
 patch_one (x ∷ xs) (suc at) b = ap (λ (r : List ℕ). x ∷ r) (patch_one xs at b)
-
--- a copy's turn: one more element
-pub set-patch_snoc : (d : List ℕ) (to : ℕ) (bs : List ℕ) (i : ℕ) → i < length bs
-    → set (patch d to (take i bs)) (to + i) (get_or bs i 0) ≡ patch d to (take (i + 1) bs)
-set-patch_snoc d to bs i h =
-    sym (ap (λ (k : ℕ). patch d to (take k bs)) (add-one i)
-    ∙ ap (patch d to) (take-suc bs i 0 h)
-    ∙ patch_append d to (take i bs) (get_or bs i 0 ∷ [])
-    ∙ ap (λ (k : ℕ). patch (patch d to (take i bs)) (to + k) (get_or bs i 0 ∷ [])) (length-take-le i bs (omega arith))
-    ∙ patch_one (patch d to (take i bs)) (to + i) (get_or bs i 0))
 
 -- ---- numbers in a patched row
 

@@ -1,19 +1,19 @@
 -- The start, the turn and the end of each loop, over plain rows: what a loop has done after i bytes is a definition at i.
 -- Assumes nothing.
-use mathlib.Core.Path.{◌≡◌, refl, sym, ap, ◌∙◌, subst}
+use mathlib.Core.Path.{◌≡◌, refl, sym, ap, ◌∙◌}
 use mir.Syntax.{w8, w64}
 use mir.Val.{Fits}
 use borrow.Rule.Slice.PartMut.{mid_of, put_mid}
 use mathlib.Core.List.{List, [], ◌∷◌, ◌++◌, append_assoc}
 use Prim.Native.Nat.{ℕ, zero, suc, ◌+◌, ◌*◌, ◌-◌, ◌/◌, ◌%◌, ◌^◌, ◌≤◌, ◌<◌}
-use native.Mathlib.Nat.{zero-add, pow-suc, pow-le-pow_right, zero-lt-suc, div-div-eq-div-mul, div-one}
+use native.Mathlib.Nat.{pow-suc, pow-le-pow_right, zero-lt-suc, div-div-eq-div-mul, div-one}
 use native.Mathlib.Numerals.{add-one}
 use native.Mathlib.Omega.{arith}
-use lib.ListN.{replicate, get_or-replicate, length-replicate, length, get_or, take, drop, set}
-use lib.Seq.{drop-drop, take_all}
+use lib.ListN.{replicate, length-replicate, length, get_or, take, drop, set}
+use lib.Seq.{drop-drop, ext_get_or}
 use Rattle.numbers.specs.Bytes.{be_from, be, bytes_be, part, number_at, patch}
 use Rattle.numbers.specs.Post.{Number}
-use Rattle.numbers.proofs.Laws.{length_part, part_one, part_all, part_append, part-patch_same, patch_nil, set-patch_snoc, length-patch, patch_past, patch_as_parts}
+use Rattle.numbers.proofs.Laws.{length_part, get_d_part, part_one, part_append, patch_nil, patch_past, patch_as_parts}
 
 -- ---- a number is read, the highest byte first
 
@@ -36,23 +36,34 @@ byte_room : (i r b : ℕ) → r < 256 ^ i → Fits w8 b → r * 256 + b < 256 ^ 
 byte_room i r b h k =
     let e : 256 ^ (i + 1) ≡ 256 ^ i * 256 = ap (λ (n : ℕ). 256 ^ n) (add-one i) ∙ pow-suc 256 i in omega arith
 
-pub number_fits_lem : (xs : List ℕ) (at w i r b : ℕ) → i < w → w ≤ 8 → Number xs at i r → Fits w8 b → Fits w64 (r * 256 + b)
-number_fits_lem xs at w i r b h k n l =
+-- a byte of a part, at its place in the row
+item_at : (xs : List ℕ) (at w i : ℕ) → i < length (mid_of at (at + w - at) xs) → at + w ≤ length xs
+    → (i < w) × (get_or (mid_of at (at + w - at) xs) i 0 ≡ get_or xs (at + i) 0)
+unfolding part
+item_at xs at w i h k =
+    let as_many : at + w - at ≡ w = omega arith in
+    let is : mid_of at (at + w - at) xs ≡ part xs at w = ap (λ (j : ℕ). take j (drop at xs)) as_many in
+    let in_part : i < w = omega (arith, ap length is, length_part xs at w k) in
+    (in_part, ap (λ (r : List ℕ). get_or r i 0) is ∙ get_d_part xs at w i in_part)
+
+-- a number of i bytes leaves room for one more, the next of at most 8
+pub number_fits_lem : (xs : List ℕ) (at w i r : ℕ) → i < length (mid_of at (at + w - at) xs) → at + w ≤ length xs → w ≤ 8
+    → Fits w8 (get_or xs (at + i) 0) → Number xs at i r → Fits w64 (r * 256 + get_or (mid_of at (at + w - at) xs) i 0)
+number_fits_lem xs at w i r h k l f n =
+    let item : (i < w) × (get_or (mid_of at (at + w - at) xs) i 0 ≡ get_or xs (at + i) 0) = item_at xs at w i h k in
     let top : i + 1 ≤ 8 = omega arith in
-    record { fits = omega (arith, byte_room i r b n.below l, pow-le-pow_right (zero-lt-suc 255) top) }
+    record { fits = omega (arith, byte_room i r (get_or xs (at + i) 0) n.below f, pow-le-pow_right (zero-lt-suc 255) top) }
 
-pub number_scales : (xs : List ℕ) (at w i r : ℕ) → i < w → w ≤ 8 → Number xs at i r → Fits w64 (r * 256)
-number_scales xs at w i r h k n = record { fits = omega (arith, number_fits_lem xs at w i r 0 h k n (record { fits = zero-lt-suc 255 })) }
+pub number_scales : (xs : List ℕ) (at w i r : ℕ) → i < length (mid_of at (at + w - at) xs) → at + w ≤ length xs → w ≤ 8
+    → Fits w8 (get_or xs (at + i) 0) → Number xs at i r → Fits w64 (r * 256)
+number_scales xs at w i r h k l f n = record { fits = omega (arith, number_fits_lem xs at w i r h k l f n) }
 
-pub number_turn : (xs : List ℕ) (at w i r : ℕ) → i < w → at + w ≤ length xs → Fits w8 (get_or xs (at + i) 0) → Number xs at i r
-    → Number xs at (i + 1) (r * 256 + get_or xs (at + i) 0)
-number_turn xs at w i r h k l n =
+pub number_turn : (xs : List ℕ) (at w i r : ℕ) → i < length (mid_of at (at + w - at) xs) → at + w ≤ length xs → Fits w8 (get_or xs (at + i) 0) → Number xs at i r
+    → Number xs at (i + 1) (r * 256 + get_or (mid_of at (at + w - at) xs) i 0)
+number_turn xs at w i r h k f n =
     let b : ℕ = get_or xs (at + i) 0 in
-    record { value = ap (λ (q : ℕ). q * 256 + b) n.value ∙ sym (number_more xs at i (omega arith)); below = byte_room i r b n.below l }
-
-pub number_end : (xs : List ℕ) (at w i r : ℕ) → i ≤ w → w ≤ i → Number xs at i r → Number xs at w r
-number_end xs at w i r h k n =
-    let e : i ≡ w = omega arith in subst (λ (j : ℕ). Number xs at j r) e n
+    let item : (i < w) × (get_or (mid_of at (at + w - at) xs) i 0 ≡ b) = item_at xs at w i h k in
+    rw item.1 (record { value = ap (λ (q : ℕ). q * 256 + b) n.value ∙ sym (number_more xs at i (omega arith)); below = byte_room i r b n.below f })
 
 -- ---- a number is written, the lowest byte first
 
@@ -103,49 +114,6 @@ put_turn s₀ s at w v rest left h p =
           ∙ ap (λ (n : ℕ). patch s₀ (at + l) (bytes_be n v)) more;
     }
 
-pub put_end : (s₀ s : List ℕ) (at w v rest left : ℕ) → left ≤ 0 → Written s₀ at w v s rest left → s ≡ patch s₀ at (bytes_be w v)
-put_end s₀ s at w v rest left h p =
-    let here : at + left ≡ at = omega arith in
-    let all : w - left ≡ w = omega arith in
-    p.row ∙ ap (λ (n : ℕ). patch s₀ n (bytes_be (w - left) v)) here ∙ ap (λ (n : ℕ). patch s₀ at (bytes_be n v)) all
-
-pub put_length : (s₀ s : List ℕ) (at w v rest left : ℕ) → Written s₀ at w v s rest left → length s ≡ length s₀
-put_length s₀ s at w v rest left p = ap length p.row ∙ length-patch s₀ (at + left) (bytes_be (w - left) v)
-
-pub put_index : (s₀ s : List ℕ) (at w v rest left : ℕ) → 0 < left → at + w ≤ length s₀ → Written s₀ at w v s rest left → at + (left - 1) < length s
-put_index s₀ s at w v rest left h k p = omega (arith, p.within, put_length s₀ s at w v rest left p)
-
--- ---- a row is copied, the first byte first
-
-pub copy_start : (d bs : List ℕ) → d ≡ patch d 0 (take 0 bs)
-copy_start d bs = sym (patch_nil d 0)
-
-pub copy_turn : (d₀ d bs : List ℕ) (i b : ℕ) → i < length bs → b ≡ get_or bs i 0 → d ≡ patch d₀ 0 (take i bs) → set d i b ≡ patch d₀ 0 (take (i + 1) bs)
-copy_turn d₀ d bs i b h e f =
-    ap (λ (r : List ℕ). set r i b) f
-    ∙ ap (λ (k : ℕ). set (patch d₀ 0 (take i bs)) i k) e
-    ∙ ap (λ (k : ℕ). set (patch d₀ 0 (take i bs)) k (get_or bs i 0)) (sym (zero-add i))
-    ∙ set-patch_snoc d₀ 0 bs i h
-
-pub copy_end : (d₀ d bs : List ℕ) (i : ℕ) → length d₀ ≡ length bs → length bs ≤ i → d ≡ patch d₀ 0 (take i bs) → d ≡ bs
-copy_end d₀ d bs i e h f =
-    f
-    ∙ ap (patch d₀ 0) (take_all i bs h)
-    ∙ sym (part_all (patch d₀ 0 bs) (length d₀) (length-patch d₀ 0 bs))
-    ∙ part-patch_same d₀ 0 bs (length d₀) (sym e) (omega arith)
-
-pub fill_turn : (d₀ d : List ℕ) (i v : ℕ) → i < length d → length d ≡ length d₀ → d ≡ patch d₀ 0 (take i (replicate (length d₀) v))
-    → set d i v ≡ patch d₀ 0 (take (i + 1) (replicate (length d₀) v))
-fill_turn d₀ d i v h e f =
-    let j : i < length d₀ = omega arith in
-    copy_turn d₀ d (replicate (length d₀) v) i v (omega (arith, length-replicate (length d₀) v)) (sym (get_or-replicate (length d₀) i v 0 j)) f
-
-pub fill_end : (d₀ d : List ℕ) (i v : ℕ) → length d ≤ i → length d ≡ length d₀ → d ≡ patch d₀ 0 (take i (replicate (length d₀) v))
-    → d ≡ replicate (length d₀) v
-fill_end d₀ d i v h e f =
-    let l : length (replicate (length d₀) v) ≡ length d₀ = length-replicate (length d₀) v in
-    copy_end d₀ d (replicate (length d₀) v) i (sym l) (omega arith) f
-
 -- ---- a part that was lent comes back into its place
 
 part_back : (d bs : List ℕ) (at n : ℕ) → length bs ≡ n → at + n ≤ length d → put_mid at (at + n - at) d bs ≡ patch d at bs
@@ -157,12 +125,20 @@ part_back d bs at n e h =
     ∙ ap (λ (j : ℕ). take at d ++ (bs ++ drop j d)) (sym end)
     ∙ ap (λ (r : List ℕ). take at d ++ (bs ++ r)) (sym (drop-drop k at d)))
 
-pub copy_back : (d last src : List ℕ) (to from n : ℕ) → to + n ≤ length d → from + n ≤ length src → last ≡ mid_of from (from + n - from) src
-    → put_mid to (to + n - to) d last ≡ patch d to (part src from n)
+-- a place whose bytes are those of a part
+pub copy_back : (d place src : List ℕ) (to from n i : ℕ) → to + n ≤ length d → from + n ≤ length src → length place ≡ length (mid_of to (to + n - to) d)
+    → length (mid_of from (from + n - from) src) ≤ i → ((k : ℕ) → k < i → get_or place k 0 ≡ get_or (mid_of from (from + n - from) src) k 0)
+    → put_mid to (to + n - to) d place ≡ patch d to (part src from n)
 unfolding part
-copy_back d last src to from n h k e =
-    let as_many : from + n - from ≡ n = omega arith in
-    let is : last ≡ part src from n = e ∙ ap (λ (j : ℕ). take j (drop from src)) as_many in
+copy_back d place src to from n i h k long l same =
+    let there : to + n - to ≡ n = omega arith in
+    let here : from + n - from ≡ n = omega arith in
+    let bytes : mid_of from (from + n - from) src ≡ part src from n = ap (λ (j : ℕ). take j (drop from src)) here in
+    let as_many : length place ≡ n = long ∙ ap (λ (j : ℕ). length (take j (drop to d))) there ∙ length_part d to n h in
+    let all : n ≤ i = omega (arith, ap length bytes, length_part src from n k) in
+    let is : place ≡ part src from n =
+    ext_get_or 0 place (part src from n) (as_many ∙ sym (length_part src from n k))
+    (λ j m. same j (omega arith) ∙ ap (λ (r : List ℕ). get_or r j 0) bytes) in
     ap (put_mid to (to + n - to) d) is ∙ part_back d (part src from n) to n (length_part src from n k) h
 
 pub fill_back : (d last : List ℕ) (at n v : ℕ) → at + n ≤ length d → last ≡ replicate (length (mid_of at (at + n - at) d)) v

@@ -1,10 +1,6 @@
--- `get` answers the number. The loop's invariant: r is the number in the first i bytes.
-use Prim.Native.Nat.{◌≤◌, ◌-◌}
+-- `get` answers the number. The loop's invariant: r is the number in the bytes read so far.
 use Rattle.numbers.specs.Post.{Number}
 use Rattle.numbers.proofs.get.Given as goal
 
-abbrev pub invariant-loop-i : goal.invariant-loop-i
-invariant-loop-i l = (l.i ≤ l.width) × Number l.s l.at l.i l.r
-
-abbrev pub decreases-loop-i : goal.decreases-loop-i
-decreases-loop-i l = l.width - l.i
+abbrev pub invariant-loop-b : goal.invariant-loop-b
+invariant-loop-b l = Number l.s l.at l.b-index l.r
