@@ -9,8 +9,10 @@ use native.Mathlib.Numerals.{add-one}
 use native.Mathlib.Omega.{arith}
 use lib.Bits.{bit_and}
 use lib.Dec.{eqb}
-use lib.ListN.{length, get_or, set, replicate, length-set, length-replicate, get_or-replicate, get_or-eq_default}
-use lib.Seq.{get_or-set_same, get_or-set_other}
+use mir.Syntax.{w8}
+use mir.Val.{Fits}
+use lib.ListN.{length, get_or, set, take, replicate, length-take, length-set, length-replicate, get_or-replicate, get_or-eq_default}
+use lib.Seq.{get_or-take, get_or-set_same, get_or-set_other}
 use borrow.Author.Tests.{eq-eqb, ne_eqb}
 use Rattle.protocol.specs.Below.{all_below, any_below}
 use Rattle.protocol.specs.Recency.{stands_at, stands_in, is_arranged}
@@ -27,8 +29,8 @@ among_more : (s : List ℕ) (i x : ℕ) → among_first s (i + 1) x ≡ among_fi
 unfolding among_first any_below stands_at
 among_more s i x = rw add-one
 
-pub marks_turn : (s marks : List ℕ) (i : ℕ) → Marks s i marks → get_or s i 0 < 256 → Marks s (i + 1) (set marks (get_or s i 0) 1)
-marks_turn s marks i m b = record { long = length-set marks (get_or s i 0) 1 ∙ m.long; at = at }
+mark_next : (s marks : List ℕ) (i : ℕ) → Marks s i marks → get_or s i 0 < 256 → Marks s (i + 1) (set marks (get_or s i 0) 1)
+mark_next s marks i m b = record { long = length-set marks (get_or s i 0) 1 ∙ m.long; at = at }
   where
     at : (x : ℕ) → x < 256 → get_or (set marks (get_or s i 0) 1) x 0 ≡ cond (among_first s (i + 1) x) 1 0
     at x l =
@@ -43,8 +45,13 @@ marks_turn s marks i m b = record { long = length-set marks (get_or s i 0) 1 ∙
         ∙ sym (ap (λ (t : Bool). cond t 1 0) (among_more s i x ∙ ap (λ (t : Bool). among_first s i x || t) (ne_eqb (get_or s i 0) x d) ∙ or_none (among_first s i x))))
         (same_or_other (get_or s i 0) x)
 
-pub marks_end : (s marks : List ℕ) (i n : ℕ) → Marks s i marks → i ≤ n → n ≤ i → Marks s n marks
-marks_end s marks i n m a b = let e : i ≡ n = omega arith in rw e at m
+-- the number at place i of the first n
+pub marks_turn : (s marks : List ℕ) (n i x : ℕ) → Marks s i marks → i < length (take n s) → x ≡ get_or (take n s) i 0
+    → ((k : ℕ) → Fits w8 (get_or s k 0)) → Marks s (i + 1) (set marks x 1)
+marks_turn s marks n i x m l e fits =
+    let j : i < n = omega (arith, length-take n s) in
+    let q : x ≡ get_or s i 0 = e ∙ get_or-take n s i 0 j in
+    rw q (mark_next s marks i m (omega (arith, fits i)))
 
 -- ---- joined
 
@@ -77,23 +84,19 @@ pub mark_is : (marks : List ℕ) (x : ℕ) → Flags marks → get_or marks x 0 
 unfolding is_marked
 mark_is marks x f = bit_is (get_or marks x 0) (f.bit x)
 
-pub join_turn : (marks : List ℕ) (all i : ℕ) → Flags marks → all ≡ cond (all_below (is_marked marks) i) 1 0
-    → bit_and all (get_or marks i 0) ≡ cond (all_below (is_marked marks) (i + 1)) 1 0
+pub join_turn : (marks : List ℕ) (all i : ℕ) → Flags marks → i < length (take 128 marks) → all ≡ cond (all_below (is_marked marks) i) 1 0
+    → bit_and all (get_or (take 128 marks) i 0) ≡ cond (all_below (is_marked marks) (i + 1)) 1 0
 unfolding all_below
-join_turn marks all i f e =
-    (λ t. bit_and (e t) (mark_is marks i f t))
+join_turn marks all i f l e =
+    let j : i < 128 = omega (arith, length-take 128 marks) in
+    let m : get_or (take 128 marks) i 0 ≡ cond (is_marked marks i) 1 0 = get_or-take 128 marks i 0 j ∙ mark_is marks i f in
+    (λ t. bit_and (e t) (m t))
     ∙ both (all_below (is_marked marks) i) (is_marked marks i)
     ∙ ap (λ (k : ℕ). cond (all_below (is_marked marks) k) 1 0) (sym (add-one i))
 
 test_is : (b : Bool) → eqb (cond b 1 0) 1 ≡ b
 test_is true = refl
 test_is false = refl
-
-pub join_end : (marks : List ℕ) (all i : ℕ) → all ≡ cond (all_below (is_marked marks) i) 1 0 → i ≤ 128 → 128 ≤ i
-    → eqb all 1 ≡ all_below (is_marked marks) 128
-join_end marks all i e a b =
-    let q : i ≡ 128 = omega arith in
-    ap (λ (k : ℕ). eqb k 1) e ∙ test_is (all_below (is_marked marks) i) ∙ ap (all_below (is_marked marks)) q
 
 -- ---- the check of a table
 

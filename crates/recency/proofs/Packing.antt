@@ -5,9 +5,9 @@ use mathlib.Core.Bool.{Bool, true, false, cond}
 use mathlib.Core.Path.{◌≡◌, refl, sym, ap, ◌∙◌}
 use native.Mathlib.Numerals.{add-one}
 use native.Mathlib.Omega.{arith}
-use lib.ListN.{length, get_or, set, take, drop, length-set, length-drop, take-append-drop}
-use lib.Seq.{length-take-le, drop-length, drop-cons, drop-set-lt, take-suc, append_snoc, get_or-set_same, get_or-set_other, set_at}
-use Rattle.recency.specs.Moved.{Flags, is_marked, left_out, Packed, latest}
+use lib.ListN.{length, get_or, set, take, drop, length-set, length-take, take-append-drop}
+use lib.Seq.{length-take-le, get_or-take, drop-length, drop-cons, drop-set-lt, take-suc, append_snoc, get_or-set_same, get_or-set_other, set_at}
+use Rattle.recency.specs.Moved.{Flags, is_marked, left_out, latest}
 use Rattle.recency.proofs.Marks.{mark_is}
 
 -- ---- packed to the back
@@ -89,53 +89,54 @@ module _ (marks t s : List ℕ) (from to : ℕ) (h : Packing (is_marked marks) t
             back = ap (λ (k : ℕ). drop k after) y ∙ joined ∙ sym r;
           }
 
-pub pack_end : (p : ℕ → Bool) (t s : List ℕ) (from to : ℕ) → Packing p t s from to → from ≤ 0 → Packed p t s
-pack_end p t s from to h l =
-    let z : from ≡ 0 = omega arith in
-    let left : drop to s ≡ left_out p t = h.back ∙ ap (λ (k : ℕ). left_out p (drop k t)) z in
-    let e : length t - length (left_out p t) ≡ to = omega (arith, ap length left, length-drop to s, h.long, h.within) in
-    record { long = h.long; back = ap (λ (k : ℕ). drop k s) e ∙ left }
-
 -- ---- put at the front
 
--- the table t with the first i of n put at the end of its first n places, the last one first
-pub placed : (ℕ → ℕ) → List ℕ → ℕ → ℕ → List ℕ
-placed f t n i = take (n - i) t ++ (latest f i ++ drop n t)
+-- the numbers in hand, by place
+abbrev number : List ℕ → ℕ → ℕ
+number e i = get_or e i 0
 
-pub record Putting (f : ℕ → ℕ) (t s : List ℕ) (n i : ℕ) : Type 0 where
+-- the table t with the first i of n numbers put at the end of its first n places, the last one first
+pub placed : List ℕ → List ℕ → ℕ → ℕ → List ℕ
+placed e t n i = take (n - i) t ++ (latest (number e) i ++ drop n t)
+
+pub record Putting (e t s : List ℕ) (n i : ℕ) : Type 0 where
   pub long : length s ≡ length t
-  pub table : s ≡ placed f t n i
+  pub table : s ≡ placed e t n i
 
-module _ (f : ℕ → ℕ) (t : List ℕ) (n : ℕ) where
-  pub put_start : Putting f t t n 0
+module _ (e t : List ℕ) (n : ℕ) where
+  pub put_start : Putting e t t n 0
   unfolding placed latest
   put_start =
       let z : n ≡ n - 0 = omega arith in
       record { long = refl; table = sym (take-append-drop n t) ∙ ap (λ (k : ℕ). take k t ++ drop n t) z }
 
-  pub put_turn : (s : List ℕ) (i : ℕ) → Putting f t s n i → i < n → n ≤ length t → Putting f t (set s (n - 1 - i) (f i)) n (i + 1)
+  pub put_turn : (s : List ℕ) (i : ℕ) → Putting e t s n i → i < length (take n e) → n ≤ length t
+      → Putting e t (set s (n - 1 - i) (get_or (take n e) i 0)) n (i + 1)
   unfolding placed latest
   put_turn s i h l b =
+      let j : i < n = omega (arith, length-take n e) in
       let m : ℕ = n - 1 - i in
-      let e : n - i ≡ suc m = omega arith in
-      let e' : m ≡ n - suc i = omega arith in
-      let r : List ℕ = latest f i ++ drop n t in
+      let x : ℕ = get_or e i 0 in
+      let q : n - i ≡ suc m = omega arith in
+      let q' : m ≡ n - suc i = omega arith in
+      let r : List ℕ = latest (number e) i ++ drop n t in
       let split : s ≡ take m t ++ get_or t m 0 ∷ r =
       h.table
-      ∙ ap (λ (k : ℕ). take k t ++ r) e
+      ∙ ap (λ (k : ℕ). take k t ++ r) q
       ∙ ap (λ (z : List ℕ). z ++ r) (take-suc t m 0 (omega arith))
       ∙ append_snoc (take m t) (get_or t m 0) r in
-      rw add-one (record {
-        long = length-set s m (f i) ∙ h.long;
+      rw (get_or-take n e i 0 j, add-one) (record {
+        long = length-set s m x ∙ h.long;
         table =
-            ap (λ (z : List ℕ). set z m (f i)) split
-            ∙ set_at (take m t) (get_or t m 0) r (f i) m (length-take-le m t (omega arith))
-            ∙ ap (λ (k : ℕ). take k t ++ (f i ∷ r)) e';
+            ap (λ (z : List ℕ). set z m x) split
+            ∙ set_at (take m t) (get_or t m 0) r x m (length-take-le m t (omega arith))
+            ∙ ap (λ (k : ℕ). take k t ++ (x ∷ r)) q';
       })
 
-  pub put_end : (s : List ℕ) (i : ℕ) → Putting f t s n i → i ≤ n → n ≤ i → s ≡ latest f n ++ drop n t
+  pub put_end : (s : List ℕ) (i : ℕ) → Putting e t s n i → n ≤ length e → length (take n e) ≤ i → i ≤ length (take n e)
+      → s ≡ latest (number e) n ++ drop n t
   unfolding placed
-  put_end s i h a b =
-      let e : i ≡ n = omega arith in
+  put_end s i h l a b =
+      let q : i ≡ n = omega (arith, length-take-le n e l) in
       let z : n - n ≡ 0 = omega arith in
-      h.table ∙ ap (placed f t n) e ∙ ap (λ (k : ℕ). take k t ++ (latest f n ++ drop n t)) z
+      h.table ∙ ap (placed e t n) q ∙ ap (λ (k : ℕ). take k t ++ (latest (number e) n ++ drop n t)) z

@@ -18,10 +18,8 @@ pub fn marks_of(s: &[u8], n: usize) -> [u8; 256]
     ensures { Marks s.now n result }
 {
     let mut marks = [0u8; 256];
-    let mut i: usize = 0;
-    while i < n {
-        marks[s[i] as usize] = 1;
-        i += 1;
+    for x in &s[..n] {
+        marks[usize::from(*x)] = 1;
     }
     marks
 }
@@ -32,10 +30,8 @@ fn all_marked(marks: &[u8; 256]) -> bool
     ensures { result ≡ all_below (is_marked marks.now) 128 }
 {
     let mut all: u8 = 1;
-    let mut i: usize = 0;
-    while i < 128 {
-        all = all & marks[i];
-        i += 1;
+    for mark in &marks[..128] {
+        all &= *mark;
     }
     all == 1
 }
@@ -57,22 +53,12 @@ pub fn to_front(table: &mut [u8], x: u8)
     ensures { table.new ≡ to_front x table.old }
 {
     let mut carry = x;
-    let mut at: usize = 0;
-    while at < table.len() {
-        let old = table[at];
-        table[at] = carry;
-        carry = old;
-        at += 1;
-        if old == x {
+    for place in table.iter_mut() {
+        carry = std::mem::replace(place, carry);
+        if carry == x {
             return;
         }
     }
-}
-
-fn wide(x: u8) -> usize
-    ensures { (result ≡ x) × (result < 256) }
-{
-    x as usize
 }
 
 // The unmarked numbers of a table packed to its back, in their order. From the last place down, each number is put before those packed so
@@ -81,14 +67,12 @@ fn pack(table: &mut [u8], marks: &[u8; 256])
     requires { Flags marks.now }
     ensures { Packed (is_marked marks.now) table.old table.new }
 {
-    let mut from = table.len();
-    let mut to = from;
-    while 0 < from {
-        from -= 1;
+    let mut to = table.len();
+    for from in (0..table.len()).rev() {
         to -= 1;
         let x = table[from];
         table[to] = x;
-        to += wide(marks[wide(x)]);
+        to += usize::from(marks[usize::from(x)]);
     }
 }
 
@@ -97,10 +81,8 @@ fn put_first(table: &mut [u8], entries: &[u8; 128], n: usize)
     requires { (n ≤ 128) × (n ≤ length table.old) }
     ensures { table.new ≡ latest (λ i. get_or entries.now i 0) n ++ drop n table.old }
 {
-    let mut i: usize = 0;
-    while i < n {
-        table[n - 1 - i] = entries[i];
-        i += 1;
+    for (i, x) in entries[..n].iter().enumerate() {
+        table[n - 1 - i] = *x;
     }
 }
 
@@ -118,13 +100,9 @@ pub fn all_to_front(table: &mut [u8], entries: &[u8; 128], n: usize)
 pub fn ascend() -> Recency
     ensures { result.order ≡ ascending }
 {
-    let mut order = [0u8; 128];
-    let mut i: usize = 0;
-    while i < 128 {
-        order[i] = i as u8;
-        i += 1;
+    Recency {
+        order: std::array::from_fn(|i| i as u8),
     }
-    Recency { order }
 }
 
 // A use of the entry x, in the table that the station lends.

@@ -1,16 +1,13 @@
--- `all_marked` joins one mark after the other. The invariant: `all` is 1 where the first i are marked, and else 0. Assumes nothing.
+-- `all_marked` joins one mark after the other. The invariant: `all` is 1 where those passed are marked, and else 0. Assumes nothing.
 use mathlib.Core.Path.{refl}
 use Rattle.protocol.specs.Below.{all_below}
-use Rattle.recency.proofs.Marks.{join_turn, join_end}
+use Rattle.recency.proofs.Marks.{join_turn}
 use borrow.Author.Rules.{rules}
 use Rattle.recency.proofs.all_marked.Goals as goal
 
-pub loop-i-init : goal.loop-i-init
+pub loop-mark-init : goal.loop-mark-init
 unfolding all_below
-loop-i-init c = (search rules, refl)
+loop-mark-init c = refl
 
-pub loop-i-preserved : goal.loop-i-preserved
-loop-i-preserved c = (search rules, search (join_turn, rules))
-
-pub returns : goal.returns
-returns c = search (join_end, rules)
+pub loop-mark-preserved : goal.loop-mark-preserved
+loop-mark-preserved c = search (join_turn, rules)

@@ -1,5 +1,5 @@
 -- `pack` reads the places from the last one down, and what is left of those read stands at the back. Assumes nothing.
-use Rattle.recency.proofs.Packing.{pack_start, pack_turn, pack_end}
+use Rattle.recency.proofs.Packing.{pack_start, pack_turn}
 use borrow.Author.Rules.{rules}
 use Rattle.recency.proofs.pack.Goals as goal
 
@@ -8,6 +8,3 @@ loop-from-init c = search (pack_start, rules)
 
 pub loop-from-preserved : goal.loop-from-preserved
 loop-from-preserved c = search (pack_turn, rules)
-
-pub returns : goal.returns
-returns c = search (pack_end, rules)

@@ -5,6 +5,3 @@ use Rattle.recency.proofs.pack.Given as goal
 
 abbrev pub invariant-loop-from : goal.invariant-loop-from
 invariant-loop-from l = Packing (is_marked l.marks) l.initial.table l.table l.from l.to
-
-abbrev pub decreases-loop-from : goal.decreases-loop-from
-decreases-loop-from l = l.from
