@@ -231,17 +231,6 @@ module _ (j n : ℕ) (small : j ≤ 9) (few : n ≤ 512) where
 
   -- one of them lies among them
   module _ (i : ℕ) (l : i < n) where
-    unit_within : i * 2 ^ j + 2 ^ j ≤ n * 2 ^ j
-    unit_within =
-        let k : suc i * 2 ^ j ≤ n * 2 ^ j = mul-le-mul_right (2 ^ j) l in
-        omega (arith, suc-mul i (2 ^ j))
-
-    pub unit_sum : (at end : ℕ) → at + n * 2 ^ j ≤ end → end < 2 ^ 64 → Fits w64 (at + i * 2 ^ j % 2 ^ 64)
-    unit_sum at end h k = rw (unit_shifted i (omega arith)) (omega (arith, unit_within))
-
-    pub unit_room : (at end : ℕ) → at + n * 2 ^ j ≤ end → at + i * 2 ^ j % 2 ^ 64 + 1 * 2 ^ j % 2 ^ 64 ≤ end
-    unit_room at end h = rw (unit_shifted i (omega arith), unit_one) (omega (arith, unit_within))
-
     pub chosen_turn : (m : Medium) (to from : ℕ) (src ch dst₀ dst dst' : List ℕ)
         → dst ≡ made_on m (chosen ch (units m (2 ^ j) i to (part src from (n * 2 ^ j)))) dst₀ → get_or ch i 0 ≡ 1
         → dst' ≡ patch dst (to + i * 2 ^ j % 2 ^ 64) (part src (from + i * 2 ^ j % 2 ^ 64) (1 * 2 ^ j % 2 ^ 64))
@@ -251,16 +240,10 @@ module _ (j n : ℕ) (small : j ≤ 9) (few : n ≤ 512) where
         ∙ (λ t. patch dst (to + unit_shifted i (omega arith) t) (part src (from + unit_shifted i (omega arith) t) (unit_one t)))
         ∙ chosen-made m (2 ^ j) n i to from src ch dst₀ dst l so e
 
-  -- before the first turn, and after the last
+  -- before the first turn
   pub chosen-start : (m : Medium) (to : ℕ) (bs ch dst : List ℕ) → dst ≡ made_on m (chosen ch (units m (2 ^ j) 0 to bs)) dst
   unfolding units chosen made_on
   chosen-start m to bs ch dst = refl
-
-  pub chosen_end : (m : Medium) (i to : ℕ) (bs ch dst₀ dst : List ℕ) → i ≤ n → n ≤ i → dst ≡ made_on m (chosen ch (units m (2 ^ j) i to bs)) dst₀
-      → dst ≡ made_on m (chosen ch (units m (2 ^ j) n to bs)) dst₀
-  chosen_end m i to bs ch dst₀ dst a b e =
-      let q : i ≡ n = omega arith in
-      e ∙ ap (λ (k : ℕ). made_on m (chosen ch (units m (2 ^ j) k to bs)) dst₀) q
 
   module _ (m : Medium) (to from : ℕ) (src ch : List ℕ) (h : from + n * 2 ^ j ≤ length src) where
     us : List Store

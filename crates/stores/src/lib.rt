@@ -78,12 +78,9 @@ fn make_chosen(
     requires { (places ≤ 9) × (count ≤ 512) × (to + count * 2 ^ places ≤ length dst.old) × (from + count * 2 ^ places ≤ length src.now) × (count ≤ length choice.now) }
     ensures { (m : Medium) → dst.new ≡ made_on m (chosen choice.now (units m (2 ^ places) count to (part src.now from (count * 2 ^ places)))) dst.old }
 {
-    let mut i: usize = 0;
-    while i < count {
-        let at = i;
-        i += 1;
-        if choice[at] == 1 {
-            let past = at << places;
+    for (i, chosen) in choice[..count].iter().enumerate() {
+        if *chosen == 1 {
+            let past = i << places;
             numbers::copy(dst, to + past, src, from + past, 1 << places);
         }
     }
@@ -212,8 +209,5 @@ pub fn hand_on(answer: Answer, old: Map, new: Map) -> Stored
         Answer::Cut => old,
         Answer::Refused(_) => old,
     };
-    Stored {
-        answer: answer,
-        map: map,
-    }
+    Stored { answer, map }
 }
