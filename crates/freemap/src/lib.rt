@@ -142,12 +142,10 @@ pub fn take(m: Map, start: usize, want: usize, blocks: &mut [u8; 128]) -> Map
     ensures { Took m start want blocks.new result }
 {
     let mut map = m;
-    let mut i: usize = 0;
-    while i < want {
+    for block in blocks[..want].iter_mut() {
         let d = next_free(map, start);
-        blocks[i] = d as u8;
+        *block = d as u8;
         map = with(map, d);
-        i += 1;
     }
     map
 }

@@ -1,10 +1,7 @@
--- `take` lists and marks what one search after the other finds. The invariant: i of them are listed and marked. Assumes nothing.
-use Prim.Native.Nat.{◌≤◌, ◌-◌}
+-- `take` lists and marks what one search after the other finds. The invariant: those of the places passed are listed and marked.
+-- Assumes nothing.
 use Rattle.freemap.proofs.Taking.{Taking}
 use Rattle.freemap.proofs.take.Given as goal
 
-abbrev pub invariant-loop-i : goal.invariant-loop-i
-invariant-loop-i l = (l.i ≤ l.want) × Taking l.initial.map l.start l.i l.blocks l.map
-
-abbrev pub decreases-loop-i : goal.decreases-loop-i
-decreases-loop-i l = l.want - l.i
+abbrev pub invariant-loop-block : goal.invariant-loop-block
+invariant-loop-block l = Taking l.initial.map l.start l.want l.block-index l.block-items l.map
