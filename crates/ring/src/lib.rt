@@ -44,10 +44,8 @@ fn zeros(card: &[u8], at: usize, n: usize) -> bool
     ensures { result ≡ all_below (zero_from card.now at) (8 * n) }
 {
     let mut all: u64 = 0;
-    let mut i: usize = 0;
-    while i < n {
-        all = all | numbers::get(card, at + 8 * i, 8);
-        i += 1;
+    for i in 0..n {
+        all |= numbers::get(card, at + 8 * i, 8);
     }
     all == 0
 }
@@ -135,16 +133,13 @@ pub fn fit_of(card: &[u8], low: u64, high: u64) -> Fit
     if !header_fits(card, low, high) {
         return unfit();
     }
-    let g = geometry_of(card);
-    let version = version_of(card);
-    let head = head_of(card);
-    let tail = tail_of(card);
+    let geometry = geometry_of(card);
     Fit {
-        refusal: length_refusal(g, card),
-        geometry: g,
-        version: version,
-        head: head,
-        tail: tail,
+        refusal: length_refusal(geometry, card),
+        geometry,
+        version: version_of(card),
+        head: head_of(card),
+        tail: tail_of(card),
     }
 }
 
@@ -152,8 +147,7 @@ pub fn fit_of(card: &[u8], low: u64, high: u64) -> Fit
 pub fn fit_refusal(card: &[u8], low: u64, high: u64) -> u8
     ensures { result ≡ fit_refusal low high card.now }
 {
-    let f = fit_of(card, low, high);
-    f.refusal
+    fit_of(card, low, high).refusal
 }
 
 // 3: a disk of the wrong length.
@@ -191,12 +185,12 @@ pub fn window_of(g: Geometry, card: &[u8]) -> Window
     requires { Fitted g card.now × Placed g card.now }
     ensures { WindowOf g card.now result }
 {
-    let to = head_of(card);
-    let from = tail_of(card);
+    let head = head_of(card);
+    let tail = tail_of(card);
     Window {
-        tail: from,
-        count: window_length(g.slots, from, to),
-        head: to,
+        tail,
+        count: window_length(g.slots, tail, head),
+        head,
     }
 }
 
@@ -223,15 +217,7 @@ fn window_fits(g: Geometry, card: &[u8], w: Window) -> bool
     requires { Fitted g card.now × WindowOf g card.now w }
     ensures { result ≡ all_below (window_number_fits g card.now) w.count }
 {
-    let count = w.count;
-    let mut j: u64 = 0;
-    while j < count {
-        if window_number(g, card, w, j) >= g.disk {
-            return false;
-        }
-        j += 1;
-    }
-    true
+    (0..w.count).all(|j| window_number(g, card, w, j) < g.disk)
 }
 
 // Whether the number b stands in the window. A settled card's window is empty, so there it costs nothing.
@@ -239,15 +225,7 @@ pub fn in_window(g: Geometry, card: &[u8], w: Window, b: u64) -> bool
     requires { Fitted g card.now × WindowOf g card.now w }
     ensures { result ≡ in_window g card.now b }
 {
-    let count = w.count;
-    let mut j: u64 = 0;
-    while j < count {
-        if window_number(g, card, w, j) == b {
-            return true;
-        }
-        j += 1;
-    }
-    false
+    (0..w.count).any(|j| window_number(g, card, w, j) == b)
 }
 
 // Not 4: Head and Tail below S, the window's numbers below D.

@@ -1,19 +1,14 @@
--- `in_window` answers whether the number stands in the window. The invariant: it stands in no slot passed.
-use Rattle.protocol.specs.Below.{any_below}
-use Rattle.protocol.proofs.Below.{any_more}
-use Rattle.ring.proofs.Laws.{window_has_lem, window_lacks, in_window_found, in_window_none}
+-- `in_window` answers whether the number stands in the window.
+use borrow.Author.Tests.{tests}
 use borrow.Author.Rules.{rules}
+use Rattle.std.proofs.lemmas.Iterator.{YieldsList-from_range}
+use Rattle.std.proofs.lemmas.Iterator.Search.{any_from_yields_List}
+use Rattle.protocol.specs.Ring.{window_has}
+use Rattle.ring.proofs.Laws.{has_test, in_window_test}
 use Rattle.ring.proofs.in_window.Goals as goal
 
-pub loop-j-init : goal.loop-j-init
-unfolding any_below
-loop-j-init c = search rules
-
-pub returns-then-window_number-b : goal.returns-then-window_number-b
-returns-then-window_number-b c = search (in_window_found, window_has_lem, rules)
-
-pub loop-j-preserved : goal.loop-j-preserved
-loop-j-preserved c = (search rules, any_more _ _ c.loop-j.invariant.1 (window_lacks _ _ _ _ _ c.window_number.ensures c.if-window_number-b.false))
-
 pub returns : goal.returns
-returns c = search (in_window_none, rules)
+returns c =
+    in_window_test _ _ c.args.w _ _ c.requires.1
+    (any_from_yields_List (window_has c.args.g c.args.card.now c.args.b) _ _ c.any.result c.any.ensures.ran
+    (YieldsList-from_range 0 c.args.w.count c.args.w.count (search rules) (search rules)) (λ j b q k. search (has_test, rules, tests)))
