@@ -1,6 +1,6 @@
 -- A record's bytes put one part after the other, and what the tests of a name and of a block answer. By the laws of patches side by side and
 -- by cases on the tests. Assumes nothing.
-use Prim.Native.Nat.{ℕ, zero, suc, ◌+◌, ◌*◌, ◌≤◌, ◌<◌}
+use Prim.Native.Nat.{ℕ, zero, suc, ◌+◌, ◌*◌, ◌≤◌}
 use mathlib.Core.List.{List, [], ◌∷◌, ◌++◌}
 use mathlib.Core.Bool.{Bool, true, false, not, ◌&&◌, and_assoc}
 use mathlib.Core.Path.{◌≡◌, refl, sym, ap, ◌∙◌}
@@ -14,7 +14,8 @@ use Rattle.numbers.specs.Post.{Number}
 use Rattle.numbers.proofs.Laws.{patch_append, patch_one, patch_nil, part_all}
 use Rattle.protocol.specs.Below.{all_below, each_below}
 use Rattle.protocol.specs.Layout.{between}
-use Rattle.protocol.proofs.Below.{all_more, all_fails, all_done, and_left, and_right}
+use Rattle.protocol.proofs.Below.{and_true, and_left, and_right}
+use Rattle.std.specs.List.{list_all}
 use Rattle.recipe.specs.Record.{Recipe, is_printable, good_name, good_count, good_recipe, record_length, line_bytes, record_bytes, count_in, good_record}
 use Rattle.recipe.specs.Shelf.{zero_at, is_blank}
 use Rattle.recipe_codec.specs.Front.{front_bytes, block_refusal}
@@ -52,20 +53,19 @@ pub lines_start : (x : Recipe) (s : List ℕ) → s ≡ patch s 28 (each_below (
 unfolding each_below
 lines_start x s = sym (patch_nil s 28)
 
-pub lines_turn : (x : Recipe) (s₀ s₁ s₂ : List ℕ) (at i : ℕ) → at ≡ 28 + 6 * i → s₁ ≡ patch s₀ 28 (each_below (line_bytes x) i)
-    → s₂ ≡ patch s₁ at (bytes_be 2 (get_or x.ingredients i 0) ++ bytes_be 4 (get_or x.grams i 0))
-    → s₂ ≡ patch s₀ 28 (each_below (line_bytes x) (i + 1))
+-- line i of ingredient y and z grams, and m lines then
+pub lines_turn : (x : Recipe) (s₀ s₁ s₂ : List ℕ) (at i m y z : ℕ) → at ≡ 28 + 6 * i → s₁ ≡ patch s₀ 28 (each_below (line_bytes x) i)
+    → y ≡ get_or x.ingredients i 0 → z ≡ get_or x.grams i 0 → m ≡ i + 1 → s₂ ≡ patch s₁ at (bytes_be 2 y ++ bytes_be 4 z)
+    → (at + 6 ≡ 28 + 6 * m) × (s₂ ≡ patch s₀ 28 (each_below (line_bytes x) m))
 unfolding each_below line_bytes
-lines_turn x s₀ s₁ s₂ at i e p q =
-    let h : at ≡ 28 + length (each_below (line_bytes x) i) = omega (arith, length_lines x i) in
-    q
-    ∙ (λ t. patch (p t) (h t) (line_bytes x i))
-    ∙ sym (patch_append s₀ 28 (each_below (line_bytes x) i) (line_bytes x i))
-    ∙ ap (λ (n : ℕ). patch s₀ 28 (each_below (line_bytes x) n)) (sym (add-one i))
-
-pub lines_end : (x : Recipe) (s₀ s : List ℕ) (i n : ℕ) → i ≤ n → n ≤ i → s ≡ patch s₀ 28 (each_below (line_bytes x) i)
-    → s ≡ patch s₀ 28 (each_below (line_bytes x) n)
-lines_end x s₀ s i n a b p = let e : i ≡ n = omega arith in p ∙ ap (λ (k : ℕ). patch s₀ 28 (each_below (line_bytes x) k)) e
+lines_turn x s₀ s₁ s₂ at i m y z e p v w l q =
+    let h : at ≡ 28 + length (each_below (line_bytes x) i) = omega (arith, length_lines x i) in (
+      omega arith,
+      q
+          ∙ (λ t. patch (p t) (h t) (bytes_be 2 (v t) ++ bytes_be 4 (w t)))
+          ∙ sym (patch_append s₀ 28 (each_below (line_bytes x) i) (line_bytes x i))
+          ∙ ap (λ (n : ℕ). patch s₀ 28 (each_below (line_bytes x) n)) (sym (add-one i) ∙ sym l),
+    )
 
 -- the lines behind what stands before them
 pub record_put : (x : Recipe) (s₀ s₁ s₂ : List ℕ) → length x.name ≡ 24 → s₁ ≡ patch s₀ 0 (front_bytes x.name x.count)
@@ -100,36 +100,30 @@ pub recipe_end : (x : Recipe) (t : Bool) → t ≡ good_name x.name
 unfolding good_recipe good_count
 recipe_end x t e = rw (e, and_assoc)
 
+-- a test of the first index, and then of the others
+all_first : (q : ℕ → Bool) (n : ℕ) → all_below q (suc n) ≡ q 0 && all_below (λ i. q (suc i)) n
+unfolding all_below
+all_first q zero = sym (and_true (q 0))
+all_first q (suc n) = ap (λ (b : Bool). b && q (suc n)) (all_first q n) ∙ and_assoc (q 0) (all_below (λ i. q (suc i)) n) (q (suc n))
+
+-- a test of each byte is one of the indices
+all_bytes : (p : ℕ → Bool) (bs : List ℕ) → list_all p bs ≡ all_below (λ i. p (get_or bs i 0)) (length bs)
+unfolding all_below
+all_bytes p [] = refl
+all_bytes p (b ∷ bs) = ap (λ (t : Bool). p b && t) (all_bytes p bs) ∙ sym (all_first (λ i. p (get_or (b ∷ bs) i 0)) (length bs))
+
 pub name_length : (name : List ℕ) → (length name ≡ 24 → ⊥) → false ≡ good_name name
 unfolding good_name
 name_length name h = rw (ne_eqb (length name) 24 h)
 
-pub name_fails : (name : List ℕ) (i : ℕ) (t : Bool) → length name ≡ 24 → i < 24 → t ≡ between 32 126 (get_or name i 0) → not t ≡ true
-    → false ≡ good_name name
+pub name_test : (name : List ℕ) (t : Bool) → length name ≡ 24 → t ≡ list_all (between 32 126) name → t ≡ good_name name
 unfolding good_name is_printable
-name_fails name i t l h e f =
-    rw (eq-eqb (length name) 24 l) (sym (all_fails (is_printable name) 24 i h (sym e ∙ not-true t f)))
+name_test name t l e =
+    rw (eq-eqb (length name) 24 l) (e ∙ all_bytes (between 32 126) name ∙ ap (all_below (λ i. between 32 126 (get_or name i 0))) l)
 
-pub name_turn : (name : List ℕ) (i : ℕ) (t : Bool) → all_below (is_printable name) i ≡ true → t ≡ between 32 126 (get_or name i 0) → not t ≡ false
-    → all_below (is_printable name) (i + 1) ≡ true
-unfolding is_printable
-name_turn name i t h e f = all_more (is_printable name) i h (sym e ∙ not-false t f)
-
-pub name_end : (name : List ℕ) (i : ℕ) → length name ≡ 24 → all_below (is_printable name) i ≡ true → 24 ≤ i → i ≤ 24 → true ≡ good_name name
-unfolding good_name
-name_end name i l h a b = rw (eq-eqb (length name) 24 l) (sym (all_done (is_printable name) 24 i h a b))
-
-pub blank_fails : (bs : List ℕ) (i : ℕ) → (get_or bs i 0 ≡ 0 → ⊥) → i < length bs → false ≡ is_blank bs
+pub blank_test : (bs : List ℕ) (t : Bool) → t ≡ list_all (λ b. eqb b 0) bs → t ≡ is_blank bs
 unfolding is_blank zero_at
-blank_fails bs i h l = sym (all_fails (zero_at bs) (length bs) i l (ne_eqb (get_or bs i 0) 0 h))
-
-pub blank_turn : (bs : List ℕ) (i : ℕ) → all_below (zero_at bs) i ≡ true → get_or bs i 0 ≡ 0 → all_below (zero_at bs) (i + 1) ≡ true
-unfolding zero_at
-blank_turn bs i h e = all_more (zero_at bs) i h (eq-eqb (get_or bs i 0) 0 e)
-
-pub blank_end : (bs : List ℕ) (i : ℕ) → all_below (zero_at bs) i ≡ true → length bs ≤ i → i ≤ length bs → true ≡ is_blank bs
-unfolding is_blank
-blank_end bs i h a b = sym (all_done (zero_at bs) (length bs) i h a b)
+blank_test bs t e = e ∙ all_bytes (λ b. eqb b 0) bs
 
 pub record_end : (bs : List ℕ) (n m : ℕ) (t : Bool) → Number bs 0 2 n → m ≡ record_length (get_or bs 3 0) → t ≡ good_name (part bs 4 24)
     → eqb n m && (eqb (get_or bs 2 0) 1 && (leb (get_or bs 3 0) 250 && t)) ≡ good_record bs

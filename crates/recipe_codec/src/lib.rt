@@ -19,17 +19,7 @@ fn is_printable(x: u8) -> bool
 fn good_name(name: &[u8]) -> bool
     ensures { result ≡ good_name name.now }
 {
-    if name.len() != 24 {
-        return false;
-    }
-    let mut i: usize = 0;
-    while i < 24 {
-        if !is_printable(name[i]) {
-            return false;
-        }
-        i += 1;
-    }
-    true
+    name.len() == 24 && name.iter().all(|x| is_printable(*x))
 }
 
 // Whether the fields are a recipe's: not 19, but for its number.
@@ -74,12 +64,10 @@ fn put_lines(staged: &mut [u8], name: &[u8], ingredients: &[u16], grams: &[u32])
     requires { (28 + 6 * length ingredients.now ≤ length staged.old) × (length grams.now ≡ length ingredients.now) }
     ensures { staged.new ≡ patch staged.old 28 (each_below (line_bytes (recipe_from name.now (length ingredients.now) ingredients.now grams.now)) (length ingredients.now)) }
 {
-    let mut at: usize = 28;
-    let mut i: usize = 0;
-    while i < ingredients.len() {
-        put_line(staged, at, ingredients[i], grams[i]);
+    let mut at = 28;
+    for (ingredient, weight) in ingredients.iter().zip(grams) {
+        put_line(staged, at, *ingredient, *weight);
         at += 6;
-        i += 1;
     }
 }
 
@@ -99,14 +87,7 @@ pub fn write(staged: &mut [u8], name: &[u8], ingredients: &[u16], grams: &[u32])
 pub fn is_blank(block: &[u8]) -> bool
     ensures { result ≡ is_blank block.now }
 {
-    let mut i: usize = 0;
-    while i < block.len() {
-        if block[i] != 0 {
-            return false;
-        }
-        i += 1;
-    }
-    true
+    block.iter().all(|x| *x == 0)
 }
 
 // Whether the first block of a recipe begins as a record does: not 21.

@@ -1,19 +1,13 @@
--- `is_blank` answers its definition. The invariant: the bytes passed are zero. Assumes nothing.
-use Rattle.protocol.specs.Below.{all_below}
-use Rattle.recipe_codec.proofs.Laws.{blank_fails, blank_turn, blank_end}
-use native.Mathlib.Omega.{arith}
+-- `is_blank` answers its definition. Assumes nothing.
+use lib.Dec.{eqb}
+use borrow.Author.Tests.{tests}
 use borrow.Author.Rules.{rules}
+use Rattle.std.proofs.lemmas.Iterator.{YieldsList-from_slice}
+use Rattle.std.proofs.lemmas.Iterator.Search.{all_from_yields_List}
+use Rattle.recipe_codec.proofs.Laws.{blank_test}
 use Rattle.recipe_codec.proofs.is_blank.Goals as goal
 
-pub loop-i-init : goal.loop-i-init
-unfolding all_below
-loop-i-init c = search rules
-
-pub returns-then-block-i-ne0 : goal.returns-then-block-i-ne0
-returns-then-block-i-ne0 c = blank_fails _ _ c.if-block-i-ne0.true (omega arith)
-
-pub loop-i-preserved : goal.loop-i-preserved
-loop-i-preserved c = search (blank_turn, rules)
-
 pub returns : goal.returns
-returns c = search (blank_end, rules)
+returns c =
+    blank_test _ _
+    (all_from_yields_List (λ b. eqb b 0) _ _ _ c.all.ensures.ran (YieldsList-from_slice c.args.block.now cc) (λ x b q k. search (rules, tests)))
