@@ -51,9 +51,5 @@ pub fn is_special(files: &impl Files, path: &[u8]) -> bool {
     if PATH_MAX <= path.len() {
         return false;
     }
-    let text = ended(path);
-    match ask(files, &text) {
-        Some(mode) => !is_regular(mode),
-        None => false,
-    }
+    ask(files, &ended(path)).is_some_and(|mode| !is_regular(mode))
 }
