@@ -5,7 +5,6 @@ ghost use Rattle.std.specs.Prelude.{◌≡◌, true, ◌-◌, ◌≤◌, min, le
 
 use std::env::FillError;
 use std::rt::Env;
-use text::Parsed;
 
 // How many arguments there are, the program's own name among them.
 pub fn count(env: &impl Env) -> usize {
@@ -18,12 +17,10 @@ pub fn count(env: &impl Env) -> usize {
 }
 
 // Argument i as a number.
-pub fn number(env: &impl Env, i: usize) -> Parsed {
+pub fn number(env: &impl Env, i: usize) -> Option<u64> {
     let mut buf = [0u8; 4096];
-    match env.arg(i, &mut buf) {
-        Ok(n) => text::parse(&buf[..n]),
-        Err(_) => Parsed::Wrong,
-    }
+    let n = env.arg(i, &mut buf).ok()?;
+    text::parse(&buf[..n])
 }
 
 // Whether an argument was whole when it was read; says so where it was not.
@@ -55,7 +52,7 @@ pub fn numbers(env: &impl Env, end: usize) -> ArgumentList
     let mut kept: usize = 0;
     let mut i: usize = 3;
     while i < end {
-        let Parsed::Number(b) = number(env, i) else {
+        let Some(b) = number(env, i) else {
             return ArgumentList {
                 all: false,
                 count: 0,

@@ -5,7 +5,6 @@ use crate::files;
 use arguments::{is_whole, number};
 use protocol::Geometry;
 use std::rt::Env;
-use text::Parsed;
 
 // Room for an argument: no path that the system takes is longer.
 const ROOM: usize = 4096;
@@ -75,7 +74,7 @@ pub fn show(rt: &HostRuntime) -> bool {
 pub fn block(rt: &HostRuntime) -> bool {
     let mut card = [0u8; ROOM];
     let mut disk = [0u8; ROOM];
-    let Parsed::Number(b) = number(rt, 4) else {
+    let Some(b) = number(rt, 4) else {
         return false;
     };
     let Some(c) = take(rt, 2, b"CARD", &mut card) else {
@@ -102,16 +101,16 @@ pub fn preview(rt: &HostRuntime, count: usize) -> bool {
 }
 
 // Without an allowance a recovery or an upgrade is made in full.
-fn allowance(rt: &HostRuntime, count: usize) -> Parsed {
+fn allowance(rt: &HostRuntime, count: usize) -> Option<u64> {
     if count == 3 {
-        return Parsed::Number(0xFFFF_FFFF_FFFF_FFFF);
+        return Some(0xFFFF_FFFF_FFFF_FFFF);
     }
     number(rt, 3)
 }
 
 // A recovery, or an upgrade.
 pub fn update(rt: &HostRuntime, count: usize, anew: bool) -> bool {
-    let Parsed::Number(a) = allowance(rt, count) else {
+    let Some(a) = allowance(rt, count) else {
         return false;
     };
     let mut path = [0u8; ROOM];
@@ -122,16 +121,16 @@ pub fn update(rt: &HostRuntime, count: usize, anew: bool) -> bool {
 }
 
 pub fn format(rt: &HostRuntime) -> bool {
-    let Parsed::Number(k) = number(rt, 3) else {
+    let Some(k) = number(rt, 3) else {
         return false;
     };
-    let Parsed::Number(slots) = number(rt, 4) else {
+    let Some(slots) = number(rt, 4) else {
         return false;
     };
-    let Parsed::Number(blocks) = number(rt, 5) else {
+    let Some(blocks) = number(rt, 5) else {
         return false;
     };
-    let Parsed::Number(disk) = number(rt, 6) else {
+    let Some(disk) = number(rt, 6) else {
         return false;
     };
     let mut path = [0u8; ROOM];

@@ -1,20 +1,22 @@
--- A row of characters filled from the left, one mark a turn: after j turns its first j columns are the row of j. The marks themselves, by
--- cases on their tests. Assumes nothing.
+-- A row of characters, column by column. The marks themselves, by cases on their tests. Assumes nothing.
 use Prim.Native.Nat.{ℕ, zero, suc, ◌+◌, ◌*◌, ◌-◌, ◌/◌, ◌%◌, ◌^◌, ◌≤◌, ◌<◌}
-use mathlib.Core.List.{List, [], ◌∷◌, ◌++◌}
+use mathlib.Core.List.{List, [], ◌∷◌}
 use mathlib.Core.Bool.{Bool, true, false, cond, not, ◌&&◌}
-use mathlib.Core.Path.{◌≡◌, refl, sym, ap, ◌∙◌}
+use mathlib.Core.Path.{◌≡◌, refl, sym, ap, subst, ◌∙◌}
 use mathlib.Core.Logic.{⊎_elim}
 use native.Mathlib.Nat.{not-suc-le-zero, one-le-pow, pow-suc, mul-suc}
-use native.Mathlib.Numerals.{add-one}
 use native.Mathlib.Omega.{arith}
-use lib.ListN.{length, get_or, take, set, replicate, length-append, length-set, length-replicate, get_or-append}
-use lib.Seq.{take_all, take-suc-set, get_or_at}
+use lib.ListN.{length, get_or, length-append, get_or-append}
+use lib.Seq.{get_or_at, ext_get_or}
 use lib.Pow.{pow-add}
-use lib.Dec.{ltb, leb}
+use lib.Dec.{ltb, leb, eqb}
 use borrow.Author.Tests.{leb-true, eq-eqb, ne_eqb, lt-ltb, le-ltb}
 use Rattle.protocol.specs.Below.{first_below}
-use Rattle.protocol.proofs.Below.{and_left, and_right, last_or_before, first_at, first_none}
+use Rattle.protocol.proofs.Below.{and_left, and_right, same_or_other, last_or_before, first_at, first_none}
+use denote.Param.Members.{Mut, Called}
+use Rattle.std.specs.Prelude.{Option, Some, None, MatchOption, unwrap_or}
+use Rattle.std.specs.List.{AllWithin, HoldsAt}
+use Rattle.std.specs.Array.{IsFromFnResult, IsFromFnResultFrom}
 use Rattle.text.specs.Text.{row, SPACE, COMMA, decimal_mark, number_mark, plain_mark, marked_at, glyph, hex_mark, place_mark}
 
 -- ---- choices
@@ -33,29 +35,6 @@ within_high low high j h = leb-true j high (and_right (leb low j) (leb j high) h
 
 -- ---- rows
 
--- out has n columns, and the first j are those of the row
-pub record Filled (f : ℕ → ℕ) (n j : ℕ) (out : List ℕ) : Type 0 where
-  pub long : length out ≡ n
-  pub front : take j out ≡ row f j
-
-pub row-start : (f : ℕ → ℕ) (n : ℕ) → Filled f n 0 (replicate n 0)
-unfolding row
-row-start f n = record { long = length-replicate {A = ℕ} n 0; front = refl }
-
-pub row_turn : (f : ℕ → ℕ) (n j : ℕ) (out : List ℕ) (x : ℕ) → Filled f n j out → j < n → x ≡ f j → Filled f n (j + 1) (set out j x)
-unfolding row
-row_turn f n j out x h l e = record {
-  long = length-set out j x ∙ h.long;
-  front =
-      let k : j < length out = omega (arith, h.long) in
-      rw (add-one, take-suc-set) (λ t. h.front t ++ (e t ∷ []));
-}
-
-pub row_end : (f : ℕ → ℕ) (n j : ℕ) (out : List ℕ) → Filled f n j out → j ≤ n → n ≤ j → out ≡ row f n
-row_end f n j out h a b =
-    let e : j ≡ n = omega arith in
-    sym (take_all j out (omega (arith, h.long))) ∙ h.front ∙ ap (row f) e
-
 length-row : (f : ℕ → ℕ) (n : ℕ) → length (row f n) ≡ n
 unfolding row
 length-row f zero = refl
@@ -70,6 +49,22 @@ row_at f (suc n) i l =
     (λ e. rw e (get_or_at (row f n) (f n) [] 0 n (length-row f n)))
     (λ b. get_or-append (row f n) (f n ∷ []) 0 i (omega (arith, length-row f n)) ∙ row_at f n i b)
     (last_or_before i n l)
+
+-- calls that leave f as it is gave the columns of a field
+module _ {F : Type 0} (g : Mut F (ℕ × Unit {0}) ℕ) (f : F) (h : ℕ → ℕ) (gives : (j y : ℕ) (q : F) → Called g f (j, tt) y q → (q ≡ f) × (y ≡ h j)) where
+  columns : (out : List ℕ) (i n : ℕ) → IsFromFnResultFrom g f out i n → (j : ℕ) → i ≤ j → j < i + n → get_or out j 0 ≡ h j
+  columns out i zero r j a b = absurd (omega arith)
+  columns out i (suc n) (q, y, is, called, rest) j a b =
+      let same : (q ≡ f) × (y ≡ h i) = gives i y q called in
+      ⊎_elim
+      (λ (e : j ≡ i). ap (λ (k : ℕ). get_or out k 0) e ∙ is.1 0 ∙ same.1 ∙ ap h (sym e))
+      (λ (d : j ≡ i → ⊥). columns out (i + 1) n (subst (λ (p : F). IsFromFnResultFrom g p out (i + 1) n) same.0 rest) j (omega arith) (omega arith))
+      (same_or_other j i)
+
+  pub row_is : (n : ℕ) (out : List ℕ) → IsFromFnResult g f out n → out ≡ row h n
+  row_is n out r =
+      ext_get_or 0 out (row h n) (r.long ∙ sym (length-row h n))
+      (λ j l. columns out 0 n r.each j (omega arith) (omega arith) ∙ sym (row_at h n j (omega arith)))
 
 -- ---- numbers
 
@@ -110,36 +105,21 @@ plain_gap n k h = passed _ _ _ _ (le-ltb k 20 h) refl
 
 -- ---- blank columns
 
-mark_space : (field : List ℕ) (j : ℕ) → get_or field j 0 ≡ SPACE → marked_at field j ≡ false
+mark_space : (x : ℕ) → x ≡ SPACE → not (eqb x SPACE) ≡ false
+mark_space x e = ap not (eq-eqb x SPACE e)
+
+mark_other : (x : ℕ) → (x ≡ SPACE → ⊥) → not (eqb x SPACE) ≡ true
+mark_other x e = ap not (ne_eqb x SPACE e)
+
+-- the place of the first mark, or how many columns there are
+pub blank_is : (field : List ℕ) (r : Option ℕ) → length field ≡ 26
+    → MatchOption r (AllWithin (λ x. x ≡ SPACE) field 0 (length field))
+    (λ i. (i < length field) × HoldsAt (λ x. x ≡ SPACE → ⊥) field i × AllWithin (λ x. x ≡ SPACE) field 0 i)
+    → unwrap_or r 26 ≡ first_below (marked_at field) 26
 unfolding marked_at
-mark_space field j e = ap not (eq-eqb (get_or field j 0) SPACE e)
-
-mark_other : (field : List ℕ) (j : ℕ) → (get_or field j 0 ≡ SPACE → ⊥) → marked_at field j ≡ true
-unfolding marked_at
-mark_other field j e = ap not (ne_eqb (get_or field j 0) SPACE e)
-
--- the first j columns are blank
-pub record Blank (field : List ℕ) (j : ℕ) : Type 0 where
-  pub spaces : (i : ℕ) → i < j → marked_at field i ≡ false
-
-pub blank_start : (field : List ℕ) → Blank field 0
-blank_start field = record { spaces = λ i l. absurd (not-suc-le-zero l) }
-
-pub blank_turn : (field : List ℕ) (j : ℕ) → Blank field j → get_or field j 0 ≡ SPACE → Blank field (j + 1)
-blank_turn field j h e = record {
-  spaces =
-      λ i l.
-      ⊎_elim
-      (λ q. rw q (mark_space field j e))
-      (λ b. h.spaces i b)
-      (last_or_before i j (omega arith));
-}
-
-pub blank_found : (field : List ℕ) (n j : ℕ) → Blank field j → j < n → (get_or field j 0 ≡ SPACE → ⊥) → j ≡ first_below (marked_at field) n
-blank_found field n j h l e = sym (first_at (marked_at field) n j l (mark_other field j e) h.spaces)
-
-pub blank_whole : (field : List ℕ) (n j : ℕ) → Blank field j → n ≤ j → n ≡ first_below (marked_at field) n
-blank_whole field n j h l = sym (first_none (marked_at field) n (λ i b. h.spaces i (omega arith)))
+blank_is field None l h = sym (first_none (marked_at field) 26 (λ i b. mark_space (get_or field i 0) (h i 0 (omega arith) (omega arith))))
+blank_is field (Some i) l (b, at, before) =
+    sym (first_at (marked_at field) 26 i (omega arith) (mark_other (get_or field i 0) (at 0)) (λ j m. mark_space (get_or field j 0) (before j 0 (omega arith) m)))
 
 -- ---- bytes in hexadecimal
 

@@ -1,32 +1,26 @@
--- Two texts compared: by their lengths, then character by character. Assumes nothing.
-use Prim.Native.Nat.{ℕ, ◌+◌, ◌≤◌, ◌<◌}
+-- Two texts compared. Assumes nothing.
+use Prim.Native.Nat.{ℕ}
 use mathlib.Core.List.{List}
-use mathlib.Core.Bool.{true, false}
-use mathlib.Core.Path.{◌≡◌, refl, sym}
+use mathlib.Core.Path.{◌≡◌, ap}
 use lib.ListN.{length, get_or}
+use lib.Seq.{ext_get_or}
 use lib.Dec.{eqb}
-use borrow.Author.Tests.{eq-eqb, ne_eqb}
+use lib.Pointwise.{pointwise, bytes_decides}
+use borrow.Author.Tests.{eq-eqb, eqb-true}
 use Rattle.protocol.specs.Below.{all_below}
-use Rattle.protocol.proofs.Below.{all_more, all_fails, all_done, and_both, and_fails}
+use Rattle.protocol.proofs.Below.{bool_same, and_left, and_right, and_both, all_at, all_of}
 use Rattle.text.specs.Text.{same_at, same_text}
 
-module _ (a b : List ℕ) where
-  pub same_unlike : (length a ≡ length b → ⊥) → false ≡ same_text a b
-  unfolding same_text
-  same_unlike h = rw (ne_eqb (length a) (length b) h) refl
-
-  pub same_none : all_below (same_at a b) 0 ≡ true
-  unfolding all_below
-  same_none = refl
-
-  pub same_next : (i : ℕ) → all_below (same_at a b) i ≡ true → get_or a i 0 ≡ get_or b i 0 → all_below (same_at a b) (i + 1) ≡ true
-  unfolding same_at
-  same_next i h e = all_more (same_at a b) i h (eq-eqb (get_or a i 0) (get_or b i 0) e)
-
-  pub same_differs : (i : ℕ) → i < length a → (get_or a i 0 ≡ get_or b i 0 → ⊥) → false ≡ same_text a b
-  unfolding same_text same_at
-  same_differs i l h = sym (and_fails (eqb (length a) (length b)) _ (all_fails (same_at a b) (length a) i l (ne_eqb (get_or a i 0) (get_or b i 0) h)))
-
-  pub same_all : (i : ℕ) → length a ≡ length b → all_below (same_at a b) i ≡ true → length a ≤ i → i ≤ length a → true ≡ same_text a b
-  unfolding same_text
-  same_all i e h k l = sym (and_both (eq-eqb (length a) (length b) e) (all_done (same_at a b) (length a) i h k l))
+-- byte for byte, or as long and the same at each place
+pub same_is : (a b : List ℕ) → pointwise eqb a b ≡ same_text a b
+unfolding same_text same_at
+same_is a b =
+    bool_same (pointwise eqb a b) (same_text a b)
+    (λ e.
+    let q : a ≡ b = (bytes_decides a b).0 e in
+    and_both (eq-eqb (length a) (length b) (ap length q)) (all_of (same_at a b) (length a) (λ i l. eq-eqb _ _ (ap (λ (r : List ℕ). get_or r i 0) q))))
+    (λ e.
+    let long = eqb (length a) (length b) in
+    let each = all_below (same_at a b) (length a) in
+    (bytes_decides a b).1 (ext_get_or 0 a b (eqb-true _ _ (and_left long each e))
+    (λ i l. eqb-true _ _ (all_at (same_at a b) (length a) i (and_right long each e) l))))

@@ -1,7 +1,6 @@
 -- Worked fields and arguments that compute, in ASCII numbers.
-use Rattle.std.specs.Prelude.{ℕ, List, [], ◌∷◌, ◌++◌, ◌≡◌, replicate}
+use Rattle.std.specs.Prelude.{ℕ, List, [], ◌∷◌, ◌++◌, ◌≡◌, replicate, Some, None}
 use Rattle.protocol.specs.Table.{bytes3}
-use Rattle.text.specs.declared.Parsed.TheVariants.{Number, Wrong}
 use Rattle.text.specs.Text.{number_field, plain_field, hex_field, list_line, parsed}
 
 -- marks behind n spaces
@@ -38,8 +37,8 @@ pub record Fields : Type 0 where
 
 pub record Arguments : Type 0 where
   -- "42", "", "4x", the largest number of 64 bits, and one more
-  pub read : parsed (52 ∷ 50 ∷ []) ≡ Number 42
-  pub empty : parsed [] ≡ Wrong
-  pub letter : parsed (52 ∷ 120 ∷ []) ≡ Wrong
-  pub most : parsed (long 53) ≡ Number 0xFFFFFFFFFFFFFFFF
-  pub past : parsed (long 54) ≡ Wrong
+  pub read : parsed (52 ∷ 50 ∷ []) ≡ Some 42
+  pub empty : parsed [] ≡ None
+  pub letter : parsed (52 ∷ 120 ∷ []) ≡ None
+  pub most : parsed (long 53) ≡ Some 0xFFFFFFFFFFFFFFFF
+  pub past : parsed (long 54) ≡ None

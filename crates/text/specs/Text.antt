@@ -1,10 +1,8 @@
 -- The characters that a program prints, as ASCII numbers in rows of fixed length: a number, bytes in hexadecimal, a line of a listing.
 -- An argument as a number.
-use Rattle.std.specs.Prelude.{ℕ, zero, suc, ◌+◌, ◌*◌, ◌-◌, ◌/◌, ◌%◌, ◌^◌, List, [], ◌∷◌, ◌++◌, Bool, cond, not, ◌&&◌, ◌||◌, length, get_or, ltb, eqb}
+use Rattle.std.specs.Prelude.{ℕ, zero, suc, ◌+◌, ◌*◌, ◌-◌, ◌/◌, ◌%◌, ◌^◌, List, [], ◌∷◌, ◌++◌, Bool, cond, not, ◌&&◌, ◌||◌, length, get_or, ltb, eqb, Option, Some, None}
 use Rattle.protocol.specs.Below.{all_below}
 use Rattle.protocol.specs.Layout.{between}
-use Rattle.text.specs.declared.Parsed.{Parsed}
-use Rattle.text.specs.declared.Parsed.TheVariants.{Number, Wrong}
 
 -- the characters that f gives in columns 0 to n - 1
 unfoldable pub row : (ℕ → ℕ) → ℕ → List ℕ
@@ -122,8 +120,8 @@ unfoldable pub is_number : List ℕ → Bool
 is_number bs = ltb 0 (length bs) && (all_below (digit_at bs) (length bs) && ltb (value_from 0 bs) (2 ^ 64))
 
 -- an argument as a number: only decimal digits, at least one, and the number fits 64 bits
-unfoldable pub parsed : List ℕ → Parsed
-parsed bs = cond (is_number bs) (Number (value_from 0 bs)) Wrong
+unfoldable pub parsed : List ℕ → Option ℕ
+parsed bs = cond (is_number bs) (Some (value_from 0 bs)) None
 
 -- ---- words
 

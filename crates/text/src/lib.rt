@@ -38,19 +38,6 @@ fn power(e: usize) -> u64
     POWERS[e]
 }
 
-fn low(x: u64) -> u8
-    requires { x < 256 }
-    ensures { result ≡ x }
-{
-    x as u8
-}
-
-fn wide(x: u8) -> u64
-    ensures { result ≡ x }
-{
-    x as u64
-}
-
 // The digit of n that counts ten to the power e, or a space.
 fn decimal_mark(n: u64, e: usize) -> u8
     requires { e < 20 }
@@ -60,7 +47,7 @@ fn decimal_mark(n: u64, e: usize) -> u8
     if (n < p) & (0 < e) {
         b' '
     } else {
-        48 + low(n / p % 10)
+        48 + (n / p % 10) as u8
     }
 }
 
@@ -83,13 +70,7 @@ fn number_mark(n: u64, k: usize) -> u8
 pub fn number(n: u64) -> [u8; 26]
     ensures { result ≡ number_field n }
 {
-    let mut out = [0u8; 26];
-    let mut j: usize = 0;
-    while j < 26 {
-        out[j] = number_mark(n, 25 - j);
-        j += 1;
-    }
-    out
+    std::array::from_fn(|j| number_mark(n, 25 - j))
 }
 
 // Column k of a number without commas, counted from its right end.
@@ -104,27 +85,14 @@ fn plain_mark(n: u64, k: usize) -> u8
 pub fn plain(n: u64) -> [u8; 26]
     ensures { result ≡ plain_field n }
 {
-    let mut out = [0u8; 26];
-    let mut j: usize = 0;
-    while j < 26 {
-        out[j] = plain_mark(n, 25 - j);
-        j += 1;
-    }
-    out
+    std::array::from_fn(|j| plain_mark(n, 25 - j))
 }
 
 // How many columns at the left of a field are blank: a sentence prints the rest.
 pub fn blank(field: &[u8; 26]) -> usize
     ensures { result ≡ first_below (marked_at field.now) 26 }
 {
-    let mut j: usize = 0;
-    while j < 26 {
-        if field[j] != b' ' {
-            return j;
-        }
-        j += 1;
-    }
-    26
+    field.iter().position(|mark| *mark != b' ').unwrap_or(26)
 }
 
 // A hexadecimal digit, in capitals.
@@ -135,12 +103,6 @@ fn glyph(d: u8) -> u8
     if d < 10 { 48 + d } else { 55 + d }
 }
 
-fn high(b: u8) -> u8
-    ensures { (result ≡ b / 16) × (result < 16) }
-{
-    b / 16
-}
-
 // Column j of sixteen bytes in hexadecimal.
 fn hex_mark(bytes: &[u8; 16], j: usize) -> u8
     requires { j < 32 }
@@ -148,7 +110,7 @@ fn hex_mark(bytes: &[u8; 16], j: usize) -> u8
 {
     let b = bytes[j / 2];
     if j % 2 == 0 {
-        glyph(high(b))
+        glyph(b / 16)
     } else {
         glyph(b % 16)
     }
@@ -158,13 +120,7 @@ fn hex_mark(bytes: &[u8; 16], j: usize) -> u8
 pub fn hex(bytes: &[u8; 16]) -> [u8; 32]
     ensures { result ≡ hex_field bytes.now }
 {
-    let mut out = [0u8; 32];
-    let mut j: usize = 0;
-    while j < 32 {
-        out[j] = hex_mark(bytes, j);
-        j += 1;
-    }
-    out
+    std::array::from_fn(|j| hex_mark(bytes, j))
 }
 
 // A byte as a character, or a full stop where it is not printable.
@@ -180,7 +136,7 @@ fn place_mark(at: u64, j: usize) -> u8
     ensures { result ≡ place_mark at j }
 {
     let shift = 4 * (3 - j);
-    glyph(low((at >> shift) % 16))
+    glyph(((at >> shift) % 16) as u8)
 }
 
 // Column k of bytes in hexadecimal with a space behind each.
@@ -221,20 +177,7 @@ fn list_mark(bytes: &[u8; 16], at: u64, j: usize) -> u8
 pub fn list_line(bytes: &[u8; 16], at: u64) -> [u8; 75]
     ensures { result ≡ list_line at bytes.now }
 {
-    let mut out = [0u8; 75];
-    let mut j: usize = 0;
-    while j < 75 {
-        out[j] = list_mark(bytes, at, j);
-        j += 1;
-    }
-    out
-}
-
-// An argument as a number, or wrong.
-#[derive(Clone, Copy)]
-pub enum Parsed {
-    Number(u64),
-    Wrong,
+    std::array::from_fn(|j| list_mark(bytes, at, j))
 }
 
 fn is_digit(b: u8) -> bool
@@ -244,42 +187,25 @@ fn is_digit(b: u8) -> bool
 }
 
 // Reads decimal digits, at least one, as a number of 64 bits.
-pub fn parse(text: &[u8]) -> Parsed
+pub fn parse(text: &[u8]) -> Option<u64>
     ensures { result ≡ parsed text.now }
 {
-    if text.len() == 0 {
-        return Parsed::Wrong;
+    if text.is_empty() {
+        return None;
     }
     let mut value: u64 = 0;
-    let mut i: usize = 0;
-    while i < text.len() {
-        let b = text[i];
-        if !is_digit(b) {
-            return Parsed::Wrong;
+    for b in text {
+        if !is_digit(*b) {
+            return None;
         }
-        let d = wide(b - 48);
-        if (0xFFFF_FFFF_FFFF_FFFF - d) / 10 < value {
-            return Parsed::Wrong;
-        }
-        value = value * 10 + d;
-        i += 1;
+        value = value.checked_mul(10)?.checked_add(u64::from(*b - 48))?;
     }
-    Parsed::Number(value)
+    Some(value)
 }
 
 // Whether two texts are the same.
 pub fn same(a: &[u8], b: &[u8]) -> bool
     ensures { result ≡ same_text a.now b.now }
 {
-    if a.len() != b.len() {
-        return false;
-    }
-    let mut i: usize = 0;
-    while i < a.len() {
-        if a[i] != b[i] {
-            return false;
-        }
-        i += 1;
-    }
-    true
+    a == b
 }

@@ -1,16 +1,15 @@
--- `blank` finds the first mark. The invariant: the columns passed are blank.
-use Rattle.text.proofs.Laws.{blank_start, blank_turn, blank_found, blank_whole}
+-- `blank` counts the columns before the first mark.
+use mathlib.Core.Path.{◌≡◌, ◌∙◌}
+use borrow.Author.Tests.{tests}
 use borrow.Author.Rules.{rules}
+use Rattle.std.proofs.lemmas.Iterator.{YieldsList-from_slice, IsFirst-from_position}
+use Rattle.text.specs.Text.{SPACE}
+use Rattle.text.proofs.Laws.{blank_is}
 use Rattle.text.proofs.blank.Goals as goal
 
-pub loop-j-init : goal.loop-j-init
-loop-j-init c = search (blank_start, rules)
-
-pub returns-then-field-j-ne32 : goal.returns-then-field-j-ne32
-returns-then-field-j-ne32 c = search (blank_found, rules)
-
-pub loop-j-preserved : goal.loop-j-preserved
-loop-j-preserved c = search (blank_turn, rules)
-
 pub returns : goal.returns
-returns c = search (blank_whole, rules)
+returns c =
+    c.unwrap_or.ensures
+    ∙ blank_is _ _ c.told-field
+    (IsFirst-from_position _ _ c.position.result (λ x. x ≡ SPACE → ⊥) (λ x. x ≡ SPACE) c.position.ensures.ran (YieldsList-from_slice c.args.field.now cc)
+    (λ x q k. search (rules, tests)) (λ x q k. search (rules, tests)))

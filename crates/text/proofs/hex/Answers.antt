@@ -1,14 +1,9 @@
+-- `hex` fills its field with sixteen bytes in hexadecimal: each column has its mark.
 use Rattle.text.specs.Text.{hex_field}
-use Rattle.text.proofs.Laws.{row-start, row_turn, row_end}
+use Rattle.text.proofs.Laws.{row_is}
 use borrow.Author.Rules.{rules}
 use Rattle.text.proofs.hex.Goals as goal
 
-pub loop-j-init : goal.loop-j-init
-loop-j-init c = search (row-start, rules)
-
-pub loop-j-preserved : goal.loop-j-preserved
-loop-j-preserved c = search (row_turn, rules)
-
 pub returns : goal.returns
 unfolding hex_field
-returns c = search (row_end, rules)
+returns c = row_is _ _ _ (λ j y q k. search rules) _ _ c.from_fn.ensures.items
