@@ -1,6 +1,6 @@
 -- The start, the turn and the end of each loop, over plain rows: what a loop has done after i bytes is a definition at i.
 -- Assumes nothing.
-use mathlib.Core.Path.{◌≡◌, refl, sym, ap, ◌∙◌, subst}
+use mathlib.Core.Path.{◌≡◌, refl, sym, ap, ◌∙◌}
 use mir.Syntax.{w8, w64}
 use mir.Val.{Fits}
 use borrow.Rule.Slice.PartMut.{mid_of, put_mid}
@@ -64,14 +64,6 @@ number_turn xs at w i r h k f n =
     let b : ℕ = get_or xs (at + i) 0 in
     let item : (i < w) × (get_or (mid_of at (at + w - at) xs) i 0 ≡ b) = item_at xs at w i h k in
     rw item.1 (record { value = ap (λ (q : ℕ). q * 256 + b) n.value ∙ sym (number_more xs at i (omega arith)); below = byte_room i r b n.below f })
-
-pub number_end : (xs : List ℕ) (at w i r : ℕ) → i ≤ length (mid_of at (at + w - at) xs) → length (mid_of at (at + w - at) xs) ≤ i → at + w ≤ length xs
-    → Number xs at i r → Number xs at w r
-unfolding part
-number_end xs at w i r h k l n =
-    let as_many : at + w - at ≡ w = omega arith in
-    let e : i ≡ w = omega (arith, ap (λ (j : ℕ). length (take j (drop at xs))) as_many, length_part xs at w l) in
-    subst (λ (j : ℕ). Number xs at j r) e n
 
 -- ---- a number is written, the lowest byte first
 

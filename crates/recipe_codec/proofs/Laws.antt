@@ -67,10 +67,6 @@ lines_turn x s₀ s₁ s₂ at i m y z e p v w l q =
           ∙ ap (λ (n : ℕ). patch s₀ 28 (each_below (line_bytes x) n)) (sym (add-one i) ∙ sym l),
     )
 
-pub lines_end : (x : Recipe) (s₀ s : List ℕ) (i n : ℕ) → i ≡ n → s ≡ patch s₀ 28 (each_below (line_bytes x) i)
-    → s ≡ patch s₀ 28 (each_below (line_bytes x) n)
-lines_end x s₀ s i n e p = p ∙ ap (λ (k : ℕ). patch s₀ 28 (each_below (line_bytes x) k)) e
-
 -- the lines behind what stands before them
 pub record_put : (x : Recipe) (s₀ s₁ s₂ : List ℕ) → length x.name ≡ 24 → s₁ ≡ patch s₀ 0 (front_bytes x.name x.count)
     → s₂ ≡ patch s₁ 28 (each_below (line_bytes x) x.count)

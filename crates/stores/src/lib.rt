@@ -209,8 +209,5 @@ pub fn hand_on(answer: Answer, old: Map, new: Map) -> Stored
         Answer::Cut => old,
         Answer::Refused(_) => old,
     };
-    Stored {
-        answer: answer,
-        map: map,
-    }
+    Stored { answer, map }
 }
