@@ -1,6 +1,6 @@
 -- The number of a word of flag byte and number: each allowed flag byte is subtracted, and what is left is below D only for that flag byte and a
 -- number below D. Assumes nothing.
-use Rattle.std.proofs.Common.{◌≡◌, ℕ, zero, suc, ◌+◌, ◌*◌, ◌/◌, ◌%◌, ◌^◌, ◌<◌, ◌≤◌, Bool, true, false, not, ◌&&◌, eqb, ltb, ◌⊎◌, sym, refl, ap, ◌∙◌, inl, inr, ⊎_elim, arith, ltb-true, le-ltb, lt-ltb, eq-eqb, ne_eqb, eqb-true}
+use Rattle.std.proofs.Common.{◌≡◌, ℕ, zero, suc, ◌+◌, ◌-◌, ◌*◌, ◌/◌, ◌%◌, ◌^◌, ◌<◌, ◌≤◌, Bool, true, false, not, ◌&&◌, eqb, ltb, ◌⊎◌, sym, refl, ap, ◌∙◌, inl, inr, ⊎_elim, arith, ltb-true, le-ltb, lt-ltb, eq-eqb, ne_eqb, eqb-true}
 use lib.Bits.{bit_or, or_shr, or_mod}
 use Rattle.protocol.specs.Entry.{allowed_flags}
 use Rattle.protocol.proofs.Below.{either, and_both, and_fails}
@@ -25,6 +25,9 @@ over_few v more e = ⊎_elim (λ h. let m = h.1 in omega arith) (λ h. let m = h
 -- x is the word w less f, without a borrow or with one
 abbrev Less : ℕ → ℕ → ℕ → Type 0
 Less w f x = (x + f) % 2 ^ 64 ≡ w
+
+pub less_is : (w f : ℕ) → w < 2 ^ 64 → f ≤ 2 ^ 64 → Less w f ((w + (2 ^ 64 - f)) % 2 ^ 64)
+less_is w f l b = omega arith
 
 -- where a number below D stands in w and the word less the flag byte f is not below D, the flag byte is another
 other_flag : (w disk f x : ℕ) → f < 256 → x < 2 ^ 64 → Less w (f * 2 ^ 56) x → disk ≤ x → w % 2 ^ 56 < disk → eqb (w / 2 ^ 56) f ≡ false

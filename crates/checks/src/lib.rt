@@ -91,23 +91,23 @@ fn number_of(w: u64, disk: u64, more: u64) -> u64
     requires { (disk ≤ 65536) × (more ≤ 0x8600000000000000) }
     ensures { (v : ℕ) → more ≡ over_of v → Numbered v w disk result }
 {
-    let over = std::num::wrapping_sub_u64(w, more);
+    let over = w.wrapping_sub(more);
     if over < disk {
         return over;
     }
-    let modified = std::num::wrapping_sub_u64(w, 0x8200_0000_0000_0000);
+    let modified = w.wrapping_sub(0x8200_0000_0000_0000);
     if modified < disk {
         return modified;
     }
-    let clean = std::num::wrapping_sub_u64(w, 0x8000_0000_0000_0000);
+    let clean = w.wrapping_sub(0x8000_0000_0000_0000);
     if clean < disk {
         return clean;
     }
-    let logged = std::num::wrapping_sub_u64(w, 0x8300_0000_0000_0000);
+    let logged = w.wrapping_sub(0x8300_0000_0000_0000);
     if logged < disk {
         return logged;
     }
-    let last = std::num::wrapping_sub_u64(w, more + 0x0100_0000_0000_0000);
+    let last = w.wrapping_sub(more + 0x0100_0000_0000_0000);
     if last < disk {
         return last;
     }
