@@ -1,10 +1,10 @@
 -- Where four blocks lie, by where each does; and what the bytes are that lie there. Assumes nothing.
 use Prim.Native.Nat.{ℕ, ◌+◌, ◌*◌, ◌-◌, ◌≤◌, ◌<◌}
-use mathlib.Core.List.{List}
+use mathlib.Core.List.{List, [], ◌∷◌}
 use mathlib.Core.Path.{◌≡◌, refl, sym, ap, ◌∙◌}
 use native.Mathlib.Nat.{add-mul}
 use native.Mathlib.Omega.{arith}
-use lib.ListN.{length}
+use lib.ListN.{length, replicate}
 use Rattle.numbers.specs.Bytes.{part}
 use Rattle.numbers.proofs.Laws.{part-part}
 use Rattle.protocol.specs.declared.Geometry.{Geometry}
@@ -19,7 +19,6 @@ use Rattle.lookup.specs.declared.Found.TheVariants.{Refused, Outside, Card, Disk
 use Rattle.lookup.specs.Place.{place_in, found_by, sought_at, found_in}
 use Rattle.lookup.proofs.Laws.{found_outside, found_place, find_by_length}
 use Rattle.lookup.proofs.Reading.{Where, in_none, in_nothing, in_cache, in_home, where_is, current_within, home_within}
-use Rattle.extent.specs.declared.Extent.{Extent}
 use Rattle.extent.specs.Four.{Four}
 
 -- ---- one block
@@ -37,26 +36,20 @@ module _ (g : Geometry) (c : List ℕ) (b i : ℕ) where
 -- ---- four of them
 
 -- what is told of each stays, told otherwise
-pub four_map : {f h : ℕ → Found} {b : ℕ} {r : Extent} → ((x : ℕ) → f x ≡ h x) → Four f b r → Four h b r
-four_map e q = record { first = q.first ∙ e _; second = q.second ∙ e _; third = q.third ∙ e _; fourth = q.fourth ∙ e _ }
+pub four_map : {f h : ℕ → Found} {b : ℕ} {r : List Found} → ((x : ℕ) → f x ≡ h x) → Four f b r → Four h b r
+four_map {f} {h} {b} e q = record { are = q.are ∙ (λ t. e b t ∷ e (b + 1) t ∷ e (b + 2) t ∷ e (b + 3) t ∷ []) }
 
 -- the same is told of all
-pub four_all : {f : ℕ → Found} {b k : ℕ} {r : Extent} → ((x : ℕ) → Refused k ≡ f x)
-    → r ≡ record { first = Refused k; second = Refused k; third = Refused k; fourth = Refused k } → Four f b r
-four_all e q =
-    record {
-      first = ap (λ (y : Extent). y.first) q ∙ e _;
-      second = ap (λ (y : Extent). y.second) q ∙ e _;
-      third = ap (λ (y : Extent). y.third) q ∙ e _;
-      fourth = ap (λ (y : Extent). y.fourth) q ∙ e _;
-    }
+pub four_all : {f : ℕ → Found} {b k : ℕ} {r : List Found} → ((x : ℕ) → Refused k ≡ f x) → r ≡ replicate 4 (Refused k) → Four f b r
+four_all {f} {b} e q = record { are = q ∙ (λ t. e b t ∷ e (b + 1) t ∷ e (b + 2) t ∷ e (b + 3) t ∷ []) }
 
 pub four_places : (f : ℕ → Found) (b : ℕ) (p₀ p₁ p₂ p₃ : Found) → p₀ ≡ f (b + 0) → p₁ ≡ f (b + 1) → p₂ ≡ f (b + 2) → p₃ ≡ f (b + 3)
-    → Four f b (record { first = p₀; second = p₁; third = p₂; fourth = p₃ })
-four_places f b p₀ p₁ p₂ p₃ e₀ e₁ e₂ e₃ = record { first = let z : b + 0 ≡ b = omega arith in e₀ ∙ ap f z; second = e₁; third = e₂; fourth = e₃ }
+    → Four f b (p₀ ∷ p₁ ∷ p₂ ∷ p₃ ∷ [])
+four_places f b p₀ p₁ p₂ p₃ e₀ e₁ e₂ e₃ =
+    let z : b + 0 ≡ b = omega arith in record { are = λ t. (e₀ ∙ ap f z) t ∷ e₁ t ∷ e₂ t ∷ e₃ t ∷ [] }
 
 -- checks 4 to 7 pass
-pub four_sought : (g : Geometry) (c xs : List ℕ) (b : ℕ) (v : Verdict) (r : Extent) → Examined g c xs v → v.refusal ≡ 0
+pub four_sought : (g : Geometry) (c xs : List ℕ) (b : ℕ) (v : Verdict) (r : List Found) → Examined g c xs v → v.refusal ≡ 0
     → Four (λ x. found_by g c x 0) b r → Four (sought_at g c) b r
 unfolding sought_at
 four_sought g c xs b v r s z q = four_map (λ x. ap (found_by g c x) (sym (sym s.refusal_is ∙ z))) q

@@ -1,7 +1,7 @@
 // Where four disk blocks in a row lie: one pass over the card's entries serves them all.
 #![tactic(auto)]
 
-ghost use Rattle.std.specs.Prelude.{◌≡◌, ◌+◌, ◌<◌};
+ghost use Rattle.std.specs.Prelude.{◌≡◌, ◌+◌, ◌<◌, replicate};
 ghost use Rattle.lookup.specs.Place.{found_by, sought_at, found_in};
 ghost use Rattle.ring.specs.Fitted.{Framed};
 ghost use Rattle.checks.specs.Passed.{Indexed};
@@ -11,25 +11,11 @@ use lookup::Found;
 use protocol::Geometry;
 use ring::Fit;
 
-// Where each of four blocks lies.
-#[derive(Clone, Copy)]
-pub struct Extent {
-    pub first: Found,
-    pub second: Found,
-    pub third: Found,
-    pub fourth: Found,
-}
-
 // The same of all four: a card that is refused.
-fn refused(r: u8) -> Extent
-    ensures { result ≡ record { first = Found.Refused r; second = Found.Refused r; third = Found.Refused r; fourth = Found.Refused r } }
+fn refused(r: u8) -> [Found; 4]
+    ensures { result ≡ replicate 4 (Found.Refused r) }
 {
-    Extent {
-        first: Found::Refused(r),
-        second: Found::Refused(r),
-        third: Found::Refused(r),
-        fourth: Found::Refused(r),
-    }
+    [Found::Refused(r); 4]
 }
 
 // Where block b + i lies on a card whose numbers are indexed; the sum may be no number of 64 bits.
@@ -47,24 +33,20 @@ fn place(g: Geometry, card: &[u8], index: &[u8; 640], b: u64, i: u64) -> Found
 }
 
 // The four of them.
-fn places(g: Geometry, card: &[u8], index: &[u8; 640], b: u64) -> Extent
+fn places(g: Geometry, card: &[u8], index: &[u8; 640], b: u64) -> [Found; 4]
     requires { Indexed g card.now index.now }
     ensures { Four (λ x. found_by g card.now x 0) b result }
 {
-    let first = place(g, card, index, b, 0);
-    let second = place(g, card, index, b, 1);
-    let third = place(g, card, index, b, 2);
-    let fourth = place(g, card, index, b, 3);
-    Extent {
-        first: first,
-        second: second,
-        third: third,
-        fourth: fourth,
-    }
+    [
+        place(g, card, index, b, 0),
+        place(g, card, index, b, 1),
+        place(g, card, index, b, 2),
+        place(g, card, index, b, 3),
+    ]
 }
 
 // The same of a card that passed checks 1 to 3.
-fn seek(f: Fit, card: &[u8], b: u64) -> Extent
+fn seek(f: Fit, card: &[u8], b: u64) -> [Found; 4]
     requires { Framed card.now f }
     ensures { Four (sought_at f.geometry card.now) b result }
 {
@@ -77,7 +59,7 @@ fn seek(f: Fit, card: &[u8], b: u64) -> Extent
 }
 
 // Where disk blocks b to b + 3 lie, of a card over a disk of `long` bytes: what `lookup::find_in` tells of each.
-pub fn find(card: &[u8], long: u64, b: u64) -> Extent
+pub fn find(card: &[u8], long: u64, b: u64) -> [Found; 4]
     ensures { Four (found_in card.now long) b result }
 {
     let f = ring::fit_of(card, 2, 2);

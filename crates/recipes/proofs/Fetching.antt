@@ -28,10 +28,9 @@ use Rattle.protocol.proofs.Region.{block_ends}
 use Rattle.ring.specs.declared.Fit.{Fit}
 use Rattle.ring.specs.Fitted.{Opened}
 use Rattle.lookup.specs.declared.Found.{Found}
-use Rattle.lookup.specs.declared.Found.TheVariants.{Card, Disk}
+use Rattle.lookup.specs.declared.Found.TheVariants.{Refused, Outside, Card, Disk}
 use Rattle.lookup.specs.Place.{found_in}
 use Rattle.lookup.proofs.Reading.{disk_long}
-use Rattle.extent.specs.declared.Extent.{Extent}
 use Rattle.extent.proofs.Laws.{Lies, refused, outside, on_card_lem, on_disk_lem, lies, disk_four}
 use Rattle.recipe.specs.declared.Fetched.TheVariants.{Is, Refused as RefusedFetch}
 use Rattle.recipe.specs.Record.{good_record, record_length, count_in}
@@ -47,27 +46,6 @@ use Rattle.recipes.specs.declared.Place.{Place}
 use Rattle.recipes.specs.Reach.{Ranged, Window, Found4, held_in, Reached, nth_of, block_in, Reachable, record_in}
 use Rattle.recipes.proofs.Laws.{First, first_is}
 
--- ---- block i of four
-
-pub nth_first : (e : Extent) (i : ℕ) → i ≡ 0 → e.first ≡ nth_of e i
-unfolding nth_of
-nth_first e i q = ap (nth_of e) (sym q)
-
-pub nth_second : (e : Extent) (i : ℕ) → i ≡ 1 → e.second ≡ nth_of e i
-unfolding nth_of
-nth_second e i q = ap (nth_of e) (sym q)
-
-pub nth_third : (e : Extent) (i : ℕ) → i ≡ 2 → e.third ≡ nth_of e i
-unfolding nth_of
-nth_third e i q = ap (nth_of e) (sym q)
-
-pub nth_fourth : (e : Extent) (i : ℕ) → (i ≡ 0 → ⊥) → (i ≡ 1 → ⊥) → (i ≡ 2 → ⊥) → e.fourth ≡ nth_of e i
-unfolding nth_of
-nth_fourth e zero a b c = absurd (a refl)
-nth_fourth e (suc zero) a b c = absurd (b refl)
-nth_fourth e (suc (suc zero)) a b c = absurd (c refl)
-nth_fourth e (suc (suc (suc i))) a b c = refl
-
 -- ---- the bytes of a block that was found
 
 span : (xs : List ℕ) (at n : ℕ) → take (at + n - at) (drop at xs) ≡ part xs at n
@@ -79,6 +57,12 @@ held_card c w at f p n i e = span c p n ∙ ap (held_in c w at) (sym e)
 
 pub held_disk : (c w : List ℕ) (at : ℕ) (f : Found) (p n : ℕ) → f ≡ Disk p n → take (at + n - at) (drop at w) ≡ held_in c w at f
 held_disk c w at f p n e = span w at n ∙ ap (held_in c w at) (sym e)
+
+pub held_else : (c w : List ℕ) (at : ℕ) (f : Found) → ((p n i : ℕ) → f ≡ Card p n i → ⊥) → ((p n : ℕ) → f ≡ Disk p n → ⊥) → [] ≡ held_in c w at f
+held_else c w at (Refused r) p q = refl
+held_else c w at (Outside n) p q = refl
+held_else c w at (Card a n i) p q = absurd (p a n i refl)
+held_else c w at (Disk a n) p q = absurd (q a n refl)
 
 -- ---- where the four stand on the disk
 
@@ -202,11 +186,10 @@ module _ (c : List ℕ) (n r : ℕ) (o : Place) (there : Found4 c n r o) (none :
       (p, refuse_none 19 _ (omega arith) q)
 
   nth_found : (i : ℕ) → i < 4 → nth_of o.extent i ≡ found_in c n (4 * r + i)
-  unfolding nth_of
-  nth_found zero l = let z : 4 * r ≡ 4 * r + 0 = omega arith in (there.four none).first ∙ ap (found_in c n) z
-  nth_found (suc zero) l = (there.four none).second
-  nth_found (suc (suc zero)) l = (there.four none).third
-  nth_found (suc (suc (suc zero))) l = (there.four none).fourth
+  nth_found zero l = let z : 4 * r ≡ 4 * r + 0 = omega arith in ap (λ (e : List Found). nth_of e 0) (there.four none).are ∙ ap (found_in c n) z
+  nth_found (suc zero) l = ap (λ (e : List Found). nth_of e 1) (there.four none).are
+  nth_found (suc (suc zero)) l = ap (λ (e : List Found). nth_of e 2) (there.four none).are
+  nth_found (suc (suc (suc zero))) l = ap (λ (e : List Found). nth_of e 3) (there.four none).are
   nth_found (suc (suc (suc (suc i)))) l = absurd (omega arith)
 
   nth_lies : (d : List ℕ) → length d ≡ n → (i : ℕ) → i < 4 → Lies c d (4 * r + i) (nth_of o.extent i)
@@ -380,7 +363,7 @@ window_wrong c d n r o there none w wrong win =
 
 -- ---- the record copied block by block
 
-module _ (c w : List ℕ) (size : ℕ) (e : Extent) (re : Reachable c w size e) (n : ℕ) (low : 512 ≤ size) (few : n ≤ 1528) where
+module _ (c w : List ℕ) (size : ℕ) (e : List Found) (re : Reachable c w size e) (n : ℕ) (low : 512 ≤ size) (few : n ≤ 1528) where
   -- the blocks passed
   abbrev pub blocks : ℕ → List ℕ
   blocks i = each_below (block_in c w size e) i

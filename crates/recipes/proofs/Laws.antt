@@ -19,13 +19,12 @@ use Rattle.lookup.specs.declared.Found.{Found}
 use Rattle.lookup.specs.declared.Found.TheVariants.{Refused, Outside, Card, Disk}
 use Rattle.lookup.specs.Place.{found_in, found_at}
 use Rattle.lookup.proofs.Laws.{find_by_length}
-use Rattle.extent.specs.declared.Extent.{Extent}
 use Rattle.extent.specs.Four.{Four}
 use Rattle.extent.proofs.Laws.{Lies, refused, outside, on_card_lem, on_disk_lem, lies}
 use Rattle.recipe.specs.Shelf.{in_range}
 use Rattle.recipe.proofs.Refusals.{pair_good}
 use Rattle.recipes.specs.declared.Place.{Place}
-use Rattle.recipes.specs.Reach.{Filled, Found4}
+use Rattle.recipes.specs.Reach.{Filled, Found4, nth_of}
 
 -- ---- the recipe's number
 
@@ -98,6 +97,12 @@ is_found (Outside n) = true
 is_found (Card at n i) = true
 is_found (Disk at n) = true
 
+pub found_else : (f : Found) → ((r : ℕ) → f ≡ Refused r → ⊥) → is_found f ≡ true
+found_else (Refused r) n = absurd (n r refl)
+found_else (Outside k) n = refl
+found_else (Card at k i) n = refl
+found_else (Disk at k) n = refl
+
 pub pair_passes : (c d : List ℕ) (b r : ℕ) (f : Found) → f ≡ found_at c d b → is_found f ≡ true → r ≡ pair_refusal 2 c d or_else r
 pair_passes c d b r f e there = go (lies c d b f (e ∙ sym (find_by_length c d b)))
   where
@@ -110,16 +115,16 @@ pair_passes c d b r f e there = go (lies c d b f (e ∙ sym (find_by_length c d 
 -- ---- where a recipe's blocks lie
 
 -- what the last of them tells
-abbrev pub place_by : Found → Extent → Place
+abbrev pub place_by : Found → List Found → Place
 place_by (Refused x) e = record { refusal = x; size = 0; extent = e }
 place_by (Outside n) e = record { refusal = 19; size = 0; extent = e }
 place_by (Card at n i) e = record { refusal = 0; size = n; extent = e }
 place_by (Disk at n) e = record { refusal = 0; size = n; extent = e }
 
-module _ (c : List ℕ) (n r b : ℕ) (e : Extent) (first : First r b) (four : Four (found_in c n) b e) where
+module _ (c : List ℕ) (n r b : ℕ) (e : List Found) (first : First r b) (four : Four (found_in c n) b e) where
   -- on a disk of that length
-  at_last : (d : List ℕ) → length d ≡ n → Lies c d (b + 3) e.fourth
-  at_last d l = lies c d (b + 3) e.fourth (four.fourth ∙ ap (λ (k : ℕ). found_in c k (b + 3)) (sym l))
+  at_last : (d : List ℕ) → length d ≡ n → Lies c d (b + 3) (nth_of e 3)
+  at_last d l = lies c d (b + 3) (nth_of e 3) (ap (λ (y : List Found). nth_of y 3) four.are ∙ ap (λ (k : ℕ). found_in c k (b + 3)) (sym l))
 
   some_disk : List ℕ
   some_disk = replicate n 0
@@ -134,7 +139,7 @@ module _ (c : List ℕ) (n r b : ℕ) (e : Extent) (first : First r b) (four : F
   own_four : (d : List ℕ) → pair_refusal 2 c d ≡ 0 → b + 3 < (geometry_of c).disk → Four (found_in c n) (4 * r) e
   own_four d z l = subst (λ (k : ℕ). Four (found_in c n) k e) (first_is (geometry_of c) r b (pair_good c d z) first (inside d z l)) four
 
-  pub found_refused : (x : ℕ) → e.fourth ≡ Refused x → Found4 c n r (place_by (Refused x) e)
+  pub found_refused : (x : ℕ) → nth_of e 3 ≡ Refused x → Found4 c n r (place_by (Refused x) e)
   found_refused x q =
       record {
         refusal_is = λ d l. (is d (at_last d l)).0;
@@ -142,13 +147,13 @@ module _ (c : List ℕ) (n r b : ℕ) (e : Extent) (first : First r b) (four : F
         four = λ z. absurd ((is some_disk (at_last some_disk some_long)).1 z);
       }
     where
-      is : (d : List ℕ) → Lies c d (b + 3) e.fourth → (x ≡ pair_refusal 2 c d or_else refuse 19 (in_range (geometry_of c) r)) × (x ≡ 0 → ⊥)
+      is : (d : List ℕ) → Lies c d (b + 3) (nth_of e 3) → (x ≡ pair_refusal 2 c d or_else refuse 19 (in_range (geometry_of c) r)) × (x ≡ 0 → ⊥)
       is d (refused p z) = let w : x ≡ pair_refusal 2 c d = cc in (or_else_first x (pair_refusal 2 c d) _ w (λ y. z (sym w ∙ y)), λ y. z (sym w ∙ y))
       is d (outside p z l) = let w : ◌≡◌ {A = ℕ} 0 1 = cc in absurd (omega arith)
       is d (on_card_lem at i p z l h k) = let w : ◌≡◌ {A = ℕ} 0 1 = cc in absurd (omega arith)
       is d (on_disk_lem p z l h k) = let w : ◌≡◌ {A = ℕ} 0 1 = cc in absurd (omega arith)
 
-  pub found_outside : (k : ℕ) → e.fourth ≡ Outside k → Found4 c n r (place_by (Outside k) e)
+  pub found_outside : (k : ℕ) → nth_of e 3 ≡ Outside k → Found4 c n r (place_by (Outside k) e)
   found_outside k q =
       record {
         refusal_is = λ d l. is d (at_last d l);
@@ -156,7 +161,7 @@ module _ (c : List ℕ) (n r b : ℕ) (e : Extent) (first : First r b) (four : F
         four = λ z. absurd (omega arith);
       }
     where
-      is : (d : List ℕ) → Lies c d (b + 3) e.fourth → 19 ≡ pair_refusal 2 c d or_else refuse 19 (in_range (geometry_of c) r)
+      is : (d : List ℕ) → Lies c d (b + 3) (nth_of e 3) → 19 ≡ pair_refusal 2 c d or_else refuse 19 (in_range (geometry_of c) r)
       is d (refused p z) = let w : ◌≡◌ {A = ℕ} 0 1 = cc in absurd (omega arith)
       is d (outside p z l) =
           or_else_next 19 (pair_refusal 2 c d) _ (sym z)
@@ -165,7 +170,7 @@ module _ (c : List ℕ) (n r b : ℕ) (e : Extent) (first : First r b) (four : F
       is d (on_disk_lem p z l h k) = let w : ◌≡◌ {A = ℕ} 0 1 = cc in absurd (omega arith)
 
   -- found, on the card or on the disk
-  found_there : (size : ℕ) (f : Found) → e.fourth ≡ f → ((d : List ℕ) → Lies c d (b + 3) f → (pair_refusal 2 c d ≡ 0) × (b + 3 < (geometry_of c).disk) × (size ≡ block_size (geometry_of c)))
+  found_there : (size : ℕ) (f : Found) → nth_of e 3 ≡ f → ((d : List ℕ) → Lies c d (b + 3) f → (pair_refusal 2 c d ≡ 0) × (b + 3 < (geometry_of c).disk) × (size ≡ block_size (geometry_of c)))
       → Found4 c n r (record { refusal = 0; size = size; extent = e })
   found_there size f q there =
       let at : (d : List ℕ) → length d ≡ n → (pair_refusal 2 c d ≡ 0) × (b + 3 < (geometry_of c).disk) × (size ≡ block_size (geometry_of c)) =
@@ -179,7 +184,7 @@ module _ (c : List ℕ) (n r b : ℕ) (e : Extent) (first : First r b) (four : F
         four = λ z. own_four some_disk one.0 one.1;
       }
 
-  pub found_card : (at k i : ℕ) → e.fourth ≡ Card at k i → Found4 c n r (place_by (Card at k i) e)
+  found_card : (at k i : ℕ) → nth_of e 3 ≡ Card at k i → Found4 c n r (place_by (Card at k i) e)
   found_card at k i q = found_there k (Card at k i) q there
     where
       there : (d : List ℕ) → Lies c d (b + 3) (Card at k i) → (pair_refusal 2 c d ≡ 0) × (b + 3 < (geometry_of c).disk) × (k ≡ block_size (geometry_of c))
@@ -188,7 +193,7 @@ module _ (c : List ℕ) (n r b : ℕ) (e : Extent) (first : First r b) (four : F
       there d (on_card_lem at' i' p z l h y) = (z, l, cc)
       there d (on_disk_lem p z l h y) = let w : ◌≡◌ {A = ℕ} 0 1 = cc in absurd (omega arith)
 
-  pub found_disk : (at k : ℕ) → e.fourth ≡ Disk at k → Found4 c n r (place_by (Disk at k) e)
+  found_disk : (at k : ℕ) → nth_of e 3 ≡ Disk at k → Found4 c n r (place_by (Disk at k) e)
   found_disk at k q = found_there k (Disk at k) q there
     where
       there : (d : List ℕ) → Lies c d (b + 3) (Disk at k) → (pair_refusal 2 c d ≡ 0) × (b + 3 < (geometry_of c).disk) × (k ≡ block_size (geometry_of c))
@@ -196,6 +201,11 @@ module _ (c : List ℕ) (n r b : ℕ) (e : Extent) (first : First r b) (four : F
       there d (outside p z l) = let w : ◌≡◌ {A = ℕ} 0 1 = cc in absurd (omega arith)
       there d (on_card_lem at' i' p z l h y) = let w : ◌≡◌ {A = ℕ} 0 1 = cc in absurd (omega arith)
       there d (on_disk_lem p z l h y) = (z, l, cc)
+
+  pub found_either : (k : ℕ) → ((at i : ℕ) × (nth_of e 3 ≡ Card at k i)) ⊎ ((at : ℕ) × (nth_of e 3 ≡ Disk at k))
+      → Found4 c n r (record { refusal = 0; size = k; extent = e })
+  found_either k (inl (at, i, q)) = found_card at k i q
+  found_either k (inr (at, q)) = found_disk at k q
 
 -- ---- sums that fit
 

@@ -1,5 +1,5 @@
 -- What the recipe calls find before they store or copy anything: where a recipe's blocks lie, and what they hold.
-use Rattle.std.specs.Prelude.{ℕ, zero, suc, ◌+◌, ◌*◌, ◌-◌, ◌/◌, ◌≤◌, ◌<◌, List, [], true, ◌≡◌, length}
+use Rattle.std.specs.Prelude.{ℕ, ◌+◌, ◌*◌, ◌-◌, ◌/◌, ◌≤◌, ◌<◌, List, [], true, ◌≡◌, length, get_or}
 use Rattle.numbers.specs.Bytes.{part}
 use Rattle.protocol.specs.Below.{each_below}
 use Rattle.protocol.specs.Layout.{good_geometry, geometry_of, block_size, disk_place}
@@ -8,7 +8,6 @@ use Rattle.protocol.specs.Load.{pair_refusal}
 use Rattle.lookup.specs.declared.Found.{Found}
 use Rattle.lookup.specs.declared.Found.TheVariants.{Refused, Outside, Card, Disk}
 use Rattle.lookup.specs.Place.{found_in}
-use Rattle.extent.specs.declared.Extent.{Extent}
 use Rattle.extent.specs.Four.{Four}
 use Rattle.recipe.specs.Record.{Recipe}
 use Rattle.recipe.specs.Shelf.{in_range}
@@ -63,19 +62,16 @@ pub record Reached (c w : List ℕ) (at size : ℕ) (f : Found) : Type 0 where
   pub long : length (held_in c w at f) ≡ size
 
 -- block i of four
-unfoldable pub nth_of : Extent → ℕ → Found
-nth_of e zero = e.first
-nth_of e (suc zero) = e.second
-nth_of e (suc (suc zero)) = e.third
-nth_of e (suc (suc (suc i))) = e.fourth
+abbrev pub nth_of : List Found → ℕ → Found
+nth_of e i = get_or e i (Refused 0)
 
-unfoldable pub block_in : List ℕ → List ℕ → ℕ → Extent → ℕ → List ℕ
+unfoldable pub block_in : List ℕ → List ℕ → ℕ → List Found → ℕ → List ℕ
 block_in c w size e i = held_in c w (i * size) (nth_of e i)
 
 -- all four are there
-pub record Reachable (c w : List ℕ) (size : ℕ) (e : Extent) : Type 0 where
+pub record Reachable (c w : List ℕ) (size : ℕ) (e : List Found) : Type 0 where
   pub at : (i : ℕ) → i < 4 → Reached c w (i * size) size (nth_of e i)
 
 -- the record of n bytes that begins in the first of them
-unfoldable pub record_in : List ℕ → List ℕ → ℕ → Extent → ℕ → List ℕ
+unfoldable pub record_in : List ℕ → List ℕ → ℕ → List Found → ℕ → List ℕ
 record_in c w size e n = part (each_below (block_in c w size e) ((n + (size - 1)) / size)) 0 n

@@ -11,9 +11,8 @@ ghost use Rattle.transfer.specs.Moved.{Finished};
 ghost use Rattle.recipe.specs.Record.{recipe_from, good_recipe};
 ghost use Rattle.recipe.specs.Shelf.{in_range, blocks_of};
 ghost use Rattle.recipe.specs.Calls.{save_refusal, saved_numbers, saved_bytes, save_work, remove_refusal, remove_work, table_after_recipe, table_after_remove, fetched, fetched_output};
-ghost use Rattle.recipes.specs.Reach.{Filled, Asked, Ranged, Window, Found4, held_in, Reached, nth_of, Reachable, record_in};
+ghost use Rattle.recipes.specs.Reach.{Filled, Asked, Ranged, Window, Found4, held_in, Reached, Reachable, record_in};
 
-use extent::Extent;
 use lookup::Found;
 use protocol::{Answer, Geometry, Map, Stored};
 use recipe::Fetched;
@@ -76,9 +75,7 @@ fn pair_or(card: &[u8], disk: &[u8], r: u8) -> u8
 {
     match lookup::find(card, disk, 0) {
         Found::Refused(x) => x,
-        Found::Outside(_) => r,
-        Found::Card(_, _, _) => r,
-        Found::Disk(_, _) => r,
+        _ => r,
     }
 }
 
@@ -95,28 +92,28 @@ fn ask(
     ensures { Asked card.now disk.now recipe (recipe_from name.now count ingredients.now grams.now) result }
 {
     let f = ring::fit_of(card, 2, 2);
-    let g = f.geometry;
+    let geometry = f.geometry;
     if f.refusal != 0 {
         return Own {
             refusal: f.refusal,
-            geometry: g,
+            geometry,
         };
     }
-    if !in_range(g, recipe) {
+    if !in_range(geometry, recipe) {
         return Own {
             refusal: pair_or(card, disk, 19),
-            geometry: g,
+            geometry,
         };
     }
     if !recipe_codec::good_recipe(name, count, ingredients, grams) {
         return Own {
             refusal: pair_or(card, disk, 19),
-            geometry: g,
+            geometry,
         };
     }
     Own {
         refusal: 0,
-        geometry: g,
+        geometry,
     }
 }
 
@@ -141,8 +138,6 @@ fn commit_record(
     let mut staged = [0u8; 4096];
     let n = recipe_codec::write(&mut staged, name, ingredients, grams);
     let s = fill_of(codec::block_size(g) as usize, n);
-    let blocks = s.blocks;
-    let bytes = s.bytes;
     let first = first_block(recipe);
     let numbers = [first, first + 1, first + 2, first + 3];
     room::commit(
@@ -150,8 +145,8 @@ fn commit_record(
         disk,
         map,
         table,
-        &numbers[..blocks],
-        &staged[..bytes],
+        &numbers[..s.blocks],
+        &staged[..s.bytes],
         choice,
         allowance,
     )
@@ -225,12 +220,11 @@ fn window<'a>(card: &[u8], disk: &'a [u8], recipe: u64) -> &'a [u8]
     ensures { Window card.now disk.now (length disk.now) recipe result.now }
 {
     let r = disk_span(card, recipe);
-    let from = r.from;
     let end = r.from + r.bytes;
     if disk.len() < end {
         return &disk[..0];
     }
-    &disk[from..end]
+    &disk[r.from..end]
 }
 
 // Where a recipe's blocks lie: refused, or found, with B.
@@ -238,35 +232,29 @@ fn window<'a>(card: &[u8], disk: &'a [u8], recipe: u64) -> &'a [u8]
 pub struct Place {
     pub refusal: u8,
     pub size: usize,
-    pub extent: Extent,
+    pub extent: [Found; 4],
 }
 
 // 1 to 7 and 19, and where none is given where the recipe's blocks lie. One pass over the card's entries serves them all.
 fn find(card: &[u8], long: u64, recipe: u64) -> Place
     ensures { Found4 card.now long recipe result }
 {
-    let e = extent::find(card, long, first_block(recipe));
-    let last = e.fourth;
-    match last {
+    let extent = extent::find(card, long, first_block(recipe));
+    match extent[3] {
         Found::Refused(r) => Place {
             refusal: r,
             size: 0,
-            extent: e,
+            extent,
         },
         Found::Outside(_) => Place {
             refusal: 19,
             size: 0,
-            extent: e,
+            extent,
         },
-        Found::Card(_, size, _) => Place {
+        Found::Card(_, size, _) | Found::Disk(_, size) => Place {
             refusal: 0,
-            size: size,
-            extent: e,
-        },
-        Found::Disk(_, size) => Place {
-            refusal: 0,
-            size: size,
-            extent: e,
+            size,
+            extent,
         },
     }
 }
@@ -279,41 +267,25 @@ fn block_of<'a>(card: &'a [u8], four: &'a [u8], at: usize, f: Found) -> &'a [u8]
     match f {
         Found::Card(p, n, _) => &card[p..p + n],
         Found::Disk(_, n) => &four[at..at + n],
-        Found::Refused(_) => &card[..0],
-        Found::Outside(_) => &card[..0],
+        _ => &card[..0],
     }
-}
-
-fn nth(e: Extent, i: usize) -> Found
-    ensures { result ≡ nth_of e i }
-{
-    if i == 0 {
-        return e.first;
-    }
-    if i == 1 {
-        return e.second;
-    }
-    if i == 2 {
-        return e.third;
-    }
-    e.fourth
 }
 
 // The record of n bytes, block by block, to the front of the output.
-fn copy_record<'a>(card: &'a [u8], four: &'a [u8], size: usize, e: Extent, n: usize, out: &mut [u8])
+fn copy_record(card: &[u8], four: &[u8], size: usize, e: [Found; 4], n: usize, out: &mut [u8])
     requires { Reachable card.now four.now size e × (512 ≤ size) × (0 < n) × (n ≤ 1528) × (n ≤ length out.old) }
     ensures { out.new ≡ patch out.old 0 (record_in card.now four.now size e n) }
 {
     let mut at: usize = 0;
-    let mut i: usize = 0;
-    while size < n - at {
-        let block = block_of(card, four, at, nth(e, i));
+    for f in e {
+        let block = block_of(card, four, at, f);
+        if n - at <= size {
+            numbers::copy(out, at, block, 0, n - at);
+            return;
+        }
         numbers::copy(out, at, block, 0, size);
         at += size;
-        i += 1;
     }
-    let last = block_of(card, four, at, nth(e, i));
-    numbers::copy(out, at, last, 0, n - at);
 }
 
 // Fetches a recipe from a card and the four blocks of the disk that are the recipe's, of a disk of `long` bytes: a program that does not hold the disk
@@ -336,8 +308,7 @@ pub fn fetch_from<'a>(
     if four.len() != 4 * size {
         return Fetched::Refused(3);
     }
-    let e = p.extent;
-    let first = block_of(card, four, 0, nth(e, 0));
+    let first = block_of(card, four, 0, p.extent[0]);
     let own = recipe_codec::block_refusal(first);
     if own != 0 {
         return Fetched::Refused(own);
@@ -346,7 +317,7 @@ pub fn fetch_from<'a>(
         return Fetched::Refused(9);
     }
     let n = recipe_codec::length_in(first);
-    copy_record(card, four, size, e, n, out);
+    copy_record(card, four, size, p.extent, n, out);
     Fetched::Is(n as u64)
 }
 
@@ -407,7 +378,6 @@ pub fn remove(
     if o.refusal != 0 {
         return stores::hand_on(Answer::Refused(o.refusal), map, map);
     }
-    let size = o.size;
     let zeros = [0u8; 4096];
     room::commit(
         card,
@@ -415,7 +385,7 @@ pub fn remove(
         map,
         table,
         &[first_block(recipe)],
-        &zeros[..size],
+        &zeros[..o.size],
         choice,
         allowance,
     )

@@ -1,6 +1,6 @@
 -- `block_of` hands back the part where the block was found, or an empty one. Assumes nothing.
 use native.Mathlib.Omega.{arith}
-use Rattle.recipes.proofs.Fetching.{held_card, held_disk}
+use Rattle.recipes.proofs.Fetching.{held_card, held_disk, held_else}
 use Rattle.recipes.proofs.block_of.Goals as goal
 
 pub overflow_add-result : goal.overflow_add-result
@@ -24,3 +24,6 @@ returns-in-Card c = held_card _ _ _ _ _ _ _ c.in-Card.is
 
 pub returns-in-Disk : goal.returns-in-Disk
 returns-in-Disk c = held_disk _ _ _ _ _ _ c.in-Disk.is
+
+pub returns-in_default : goal.returns-in_default
+returns-in_default c = held_else _ _ _ _ c.in_default.not-Card c.in_default.not-Disk

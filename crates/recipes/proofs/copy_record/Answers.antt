@@ -9,71 +9,58 @@ use Rattle.protocol.specs.Below.{each_below}
 use Rattle.recipes.proofs.Fetching.{places_few, there, block_long, copy_turn, copy_end}
 use Rattle.recipes.proofs.copy_record.Goals as goal
 
-pub loop-at-init : goal.loop-at-init
+pub loop-f-init : goal.loop-f-init
 unfolding each_below
-loop-at-init c = (omega arith, omega arith, sym (patch_nil _ 0), refl)
-
-pub overflow_sub-n : goal.overflow_sub-n
-overflow_sub-n c = omega arith
+loop-f-init c = (omega arith, omega arith, sym (patch_nil _ 0), refl)
 
 pub block_of-block-requires : goal.block_of-block-requires
 block_of-block-requires c =
     let p = c.requires in
-    let v = c.loop-at.invariant in
-    (_, there _ _ _ _ p.0 _ p.1 p.3 _ _ _ v.0 v.1 c.nth.ensures)
+    let v = c.loop-f.invariant in
+    (_, there _ _ _ _ p.0 _ p.1 p.3 _ _ _ v.0 v.1 refl)
+
+pub overflow_sub-n : goal.overflow_sub-n
+overflow_sub-n c = omega arith
+
+pub overflow_sub-n-then-n-at : goal.overflow_sub-n-then-n-at
+overflow_sub-n-then-n-at c = omega arith
 
 pub copy-requires : goal.copy-requires
 copy-requires c =
     let p = c.requires in
-    let v = c.loop-at.invariant in
-    let long = block_long _ _ _ _ p.0 _ p.1 p.3 _ _ _ _ v.0 v.1 c.nth.ensures c.block_of-block.ensures in
+    let v = c.loop-f.invariant in
+    let long = block_long _ _ _ _ p.0 _ p.1 p.3 _ _ _ _ v.0 v.1 refl c.block_of-block.ensures in
     (omega arith, omega arith)
 
-pub overflow_add-at : goal.overflow_add-at
-overflow_add-at c = omega arith
-
-pub overflow_add-i : goal.overflow_add-i
-overflow_add-i c =
+pub returns-then-n-at : goal.returns-then-n-at
+returns-then-n-at c =
     let p = c.requires in
-    let v = c.loop-at.invariant in
-    let few = places_few _ _ _ _ p.0 _ p.1 p.3 _ _ v.0 v.1 in
-    omega arith
+    let v = c.loop-f.invariant in
+    c.copy.ensures
+    ∙ copy_end _ _ _ _ p.0 _ p.1 p.3 _ _ _ _ _ _ v.0 v.1 refl c.block_of-block.ensures v.2 c.if-n-at.true
 
-pub loop-at-smaller : goal.loop-at-smaller
-loop-at-smaller c = omega arith
-
-pub loop-at-preserved : goal.loop-at-preserved
-loop-at-preserved c =
+pub copy-requires-in-loop-f : goal.copy-requires-in-loop-f
+copy-requires-in-loop-f c =
     let p = c.requires in
-    let v = c.loop-at.invariant in
-    let i = c.loop-at.i in
-    let more = add-mul i 1 c.args.size in
-    let copied = c.copy.ensures in (
+    let v = c.loop-f.invariant in
+    let long = block_long _ _ _ _ p.0 _ p.1 p.3 _ _ _ _ v.0 v.1 refl c.block_of-block.ensures in
+    (omega arith, omega arith)
+
+pub loop-f-preserved : goal.loop-f-preserved
+loop-f-preserved c =
+    let p = c.requires in
+    let v = c.loop-f.invariant in
+    let more = add-mul c.loop-f.f-index 1 c.args.size in
+    let copied = c.copy-in-loop-f.ensures in (
       omega arith,
       omega arith,
-      copied ∙ copy_turn _ _ _ _ p.0 _ p.1 p.3 _ _ _ _ _ _ v.0 v.1 c.nth.ensures c.block_of-block.ensures v.2,
+      copied ∙ copy_turn _ _ _ _ p.0 _ p.1 p.3 _ _ _ _ _ _ v.0 v.1 refl c.block_of-block.ensures v.2,
       ap length copied ∙ length-patch _ _ _ ∙ v.3,
     )
-
-pub block_of-last-requires : goal.block_of-last-requires
-block_of-last-requires c =
-    let p = c.requires in
-    let v = c.loop-at.invariant in
-    (_, there _ _ _ _ p.0 _ p.1 p.3 _ _ _ v.0 v.1 c.nth-2.ensures)
-
-pub overflow_sub-n-2 : goal.overflow_sub-n-2
-overflow_sub-n-2 c = omega arith
-
-pub copy-requires-2 : goal.copy-requires-2
-copy-requires-2 c =
-    let p = c.requires in
-    let v = c.loop-at.invariant in
-    let long = block_long _ _ _ _ p.0 _ p.1 p.3 _ _ _ _ v.0 v.1 c.nth-2.ensures c.block_of-last.ensures in
-    (omega arith, omega arith)
 
 pub returns : goal.returns
 returns c =
     let p = c.requires in
-    let v = c.loop-at.invariant in
-    c.copy-2.ensures
-    ∙ copy_end _ _ _ _ p.0 _ p.1 p.3 _ _ _ _ _ _ v.0 v.1 c.nth-2.ensures c.block_of-last.ensures v.2 (omega arith)
+    let v = c.loop-f.invariant in
+    let few = places_few _ _ _ _ p.0 _ p.1 p.3 _ _ v.0 v.1 in
+    absurd (omega arith)

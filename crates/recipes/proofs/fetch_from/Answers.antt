@@ -1,7 +1,6 @@
 -- `fetch_from` answers what a fetch does, on every disk whose window it was lent: refused by 1 to 7 and 19, by the first block or by the output's
 -- length, or the record copied.
-use Rattle.std.proofs.Common.{sym, ap, ◌∙◌, arith}
-use Rattle.recipes.specs.Reach.{held_in}
+use Rattle.std.proofs.Common.{sym, refl, ◌∙◌, arith}
 use Rattle.recipes.proofs.Fetching.{fetch_stopped, window_wrong, size_between, record_between, reachable, there, block_long, fetch_own, fetch_nine, fetch_done}
 use Rattle.recipes.proofs.fetch_from.Goals as goal
 
@@ -26,39 +25,39 @@ pub block_of-first-requires : goal.block_of-first-requires
 block_of-first-requires c =
     let s = size_between _ _ _ _ c.find-p.ensures c.if-p-ne0.false in
     let r = reachable _ _ _ _ c.find-p.ensures c.if-p-ne0.false _ c.if-four-size.false in
-    (_, there _ _ _ _ r 1 s.0 (omega arith) 0 0 _ (omega arith) (omega arith) c.nth.ensures)
+    (_, there _ _ _ _ r 1 s.0 (omega arith) 0 0 _ (omega arith) (omega arith) refl)
 
 pub block_refusal-own-requires : goal.block_refusal-own-requires
 block_refusal-own-requires c =
     let s = size_between _ _ _ _ c.find-p.ensures c.if-p-ne0.false in
     let r = reachable _ _ _ _ c.find-p.ensures c.if-p-ne0.false _ c.if-four-size.false in
-    omega (arith, s.0, block_long _ _ _ _ r 1 s.0 (omega arith) 0 0 _ _ (omega arith) (omega arith) c.nth.ensures c.block_of-first.ensures)
+    omega (arith, s.0, block_long _ _ _ _ r 1 s.0 (omega arith) 0 0 _ _ (omega arith) (omega arith) refl c.block_of-first.ensures)
 
 pub returns-then-own-ne0-clause-answer : goal.returns-then-own-ne0-clause-answer
 returns-then-own-ne0-clause-answer c = λ d win.
-    let ef = c.block_of-first.ensures ∙ ap (held_in c.args.card.now c.args.four.now 0) c.nth.ensures in
+    let ef = c.block_of-first.ensures in
     (fetch_own _ _ _ _ c.find-p.ensures c.if-p-ne0.false _ c.if-four-size.false d win _ ef c.args.out.now _ c.block_refusal-own.ensures c.if-own-ne0.true).0
 
 pub returns-then-own-ne0-clause-output : goal.returns-then-own-ne0-clause-output
 returns-then-own-ne0-clause-output c = λ d win.
-    let ef = c.block_of-first.ensures ∙ ap (held_in c.args.card.now c.args.four.now 0) c.nth.ensures in
+    let ef = c.block_of-first.ensures in
     (fetch_own _ _ _ _ c.find-p.ensures c.if-p-ne0.false _ c.if-four-size.false d win _ ef c.args.out.now _ c.block_refusal-own.ensures c.if-own-ne0.true).1
 
 pub returns-then-out-ne1528-clause-answer : goal.returns-then-out-ne1528-clause-answer
 returns-then-out-ne1528-clause-answer c = λ d win.
-    let ef = c.block_of-first.ensures ∙ ap (held_in c.args.card.now c.args.four.now 0) c.nth.ensures in
+    let ef = c.block_of-first.ensures in
     (fetch_nine _ _ _ _ c.find-p.ensures c.if-p-ne0.false _ c.if-four-size.false d win _ ef c.args.out.now (sym c.block_refusal-own.ensures ∙ c.if-own-ne0.false) c.if-out-ne1528.true).0
 
 pub returns-then-out-ne1528-clause-output : goal.returns-then-out-ne1528-clause-output
 returns-then-out-ne1528-clause-output c = λ d win.
-    let ef = c.block_of-first.ensures ∙ ap (held_in c.args.card.now c.args.four.now 0) c.nth.ensures in
+    let ef = c.block_of-first.ensures in
     (fetch_nine _ _ _ _ c.find-p.ensures c.if-p-ne0.false _ c.if-four-size.false d win _ ef c.args.out.now (sym c.block_refusal-own.ensures ∙ c.if-own-ne0.false) c.if-out-ne1528.true).1
 
 pub length_in-n-requires : goal.length_in-n-requires
 length_in-n-requires c =
     let s = size_between _ _ _ _ c.find-p.ensures c.if-p-ne0.false in
     let r = reachable _ _ _ _ c.find-p.ensures c.if-p-ne0.false _ c.if-four-size.false in
-    omega (arith, s.0, block_long _ _ _ _ r 1 s.0 (omega arith) 0 0 _ _ (omega arith) (omega arith) c.nth.ensures c.block_of-first.ensures)
+    omega (arith, s.0, block_long _ _ _ _ r 1 s.0 (omega arith) 0 0 _ _ (omega arith) (omega arith) refl c.block_of-first.ensures)
 
 pub copy_record-requires : goal.copy_record-requires
 copy_record-requires c =
@@ -68,12 +67,12 @@ copy_record-requires c =
 
 pub returns-clause-answer : goal.returns-clause-answer
 returns-clause-answer c = λ d win.
-    let ef = c.block_of-first.ensures ∙ ap (held_in c.args.card.now c.args.four.now 0) c.nth.ensures in
+    let ef = c.block_of-first.ensures in
     (fetch_done _ _ _ _ c.find-p.ensures c.if-p-ne0.false _ c.if-four-size.false d win _ ef c.args.out.now _ _
     (sym c.block_refusal-own.ensures ∙ c.if-own-ne0.false) c.if-out-ne1528.false c.length_in-n.ensures c.copy_record.ensures).0
 
 pub returns-clause-output : goal.returns-clause-output
 returns-clause-output c = λ d win.
-    let ef = c.block_of-first.ensures ∙ ap (held_in c.args.card.now c.args.four.now 0) c.nth.ensures in
+    let ef = c.block_of-first.ensures in
     (fetch_done _ _ _ _ c.find-p.ensures c.if-p-ne0.false _ c.if-four-size.false d win _ ef c.args.out.now _ _
     (sym c.block_refusal-own.ensures ∙ c.if-own-ne0.false) c.if-out-ne1528.false c.length_in-n.ensures c.copy_record.ensures).1
