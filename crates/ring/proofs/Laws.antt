@@ -303,13 +303,6 @@ pub window_number_misfits : (g : Geometry) (c : List ℕ) (j r : ℕ) → r ≡ 
 unfolding window_number_fits
 window_number_misfits g c j r e h = le-ltb _ _ (rw e at h)
 
-pub number_test : (g : Geometry) (c : List ℕ) (j r : ℕ) → r ≡ window_number g c j → ltb r g.disk ≡ window_number_fits g c j
-unfolding window_number_fits
-number_test g c j r e = ap (λ (x : ℕ). ltb x g.disk) e
-
-pub window_test : (g : Geometry) (c : List ℕ) (n : ℕ) (t : Bool) → t ≡ list_all (window_number_fits g c) (range_with_len 0 n) → t ≡ all_below (window_number_fits g c) n
-window_test g c n t e = e ∙ all_in_range (window_number_fits g c) n
-
 pub has_test : (g : Geometry) (c : List ℕ) (b j r : ℕ) → r ≡ window_number g c j → eqb r b ≡ window_has g c b j
 unfolding window_has
 has_test g c b j r e = ap (λ (x : ℕ). eqb x b) e
