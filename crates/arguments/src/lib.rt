@@ -56,7 +56,7 @@ pub fn numbers(env: &impl Env, end: usize) -> ArgumentList
             return ArgumentList {
                 all: false,
                 count: 0,
-                list: list,
+                list,
             };
         };
         i += 1;
@@ -68,6 +68,6 @@ pub fn numbers(env: &impl Env, end: usize) -> ArgumentList
     ArgumentList {
         all: true,
         count: kept,
-        list: list,
+        list,
     }
 }

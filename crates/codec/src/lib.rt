@@ -118,7 +118,7 @@ pub fn entry_at(s: &[u8], at: usize) -> Entry
     let current = get(s, at + 12, 4);
     Entry {
         flags: s[at],
-        number: number,
+        number,
         previous: previous as u32,
         current: current as u32,
     }
@@ -170,12 +170,12 @@ pub fn write_entry(e: Entry, version: u64, n: u64, d: u64) -> Encoded
         put_entry(&mut bytes, 0, e);
         Encoded {
             outcome: Outcome::Done,
-            bytes: bytes,
+            bytes,
         }
     } else {
         Encoded {
             outcome: Outcome::Refused(refusal),
-            bytes: bytes,
+            bytes,
         }
     }
 }

@@ -41,10 +41,10 @@ pub fn format(k: u64, slots: u64, blocks: u64, disk: u64, card: &mut [u8]) -> Ou
     ensures card { card.new ≡ after_format 2 (geometry k slots blocks disk) card.old }
 {
     let g = Geometry {
-        k: k,
-        slots: slots,
-        blocks: blocks,
-        disk: disk,
+        k,
+        slots,
+        blocks,
+        disk,
     };
     if good_geometry(g) {
         if card.len() as u64 == card_length(g) {

@@ -113,7 +113,7 @@ fn at_place(kind: u32, offset: usize, length: usize) -> TincaPlace
     ensures { result ≡ record { kind = kind; refusal = 0; offset = offset; length = length } }
 {
     TincaPlace {
-        kind: kind,
+        kind,
         refusal: 0,
         offset: offset as u64,
         length: length as u64,
@@ -125,7 +125,7 @@ fn no_place(refusal: u32) -> TincaPlace
 {
     TincaPlace {
         kind: 2,
-        refusal: refusal,
+        refusal,
         offset: 0,
         length: 0,
     }
@@ -146,8 +146,7 @@ fn told(s: State) -> TincaState
     ensures { result ≡ plain_state (Reported.Is s) }
 {
     let g = s.geometry;
-    let c = s.condition;
-    match c {
+    match s.condition {
         Condition::Settled { used, modified } => TincaState {
             kind: 0,
             refusal: 0,
@@ -176,7 +175,7 @@ fn untold(refusal: u32) -> TincaState
 {
     TincaState {
         kind: 2,
-        refusal: refusal,
+        refusal,
         k: 0,
         slots: 0,
         blocks: 0,
@@ -199,10 +198,10 @@ fn entry_told(kind: u32, refusal: u32, block: u64, modified: u64) -> TincaEntry
     ensures { result ≡ record { kind = kind; refusal = refusal; block = block; modified = modified } }
 {
     TincaEntry {
-        kind: kind,
-        refusal: refusal,
-        block: block,
-        modified: modified,
+        kind,
+        refusal,
+        block,
+        modified,
     }
 }
 
@@ -316,16 +315,14 @@ pub fn lent_record(words: &[u64]) -> Pending
 pub fn put_record(words: &mut [u64], a: Answer, p: Pending)
     ensures { words.new ≡ record_after a p words.old }
 {
-    match a {
-        Answer::Done(_) => put_words(
+    if let Answer::Done(_) = a {
+        put_words(
             words,
             Map {
                 low: p.tail,
                 high: p.count,
             },
-        ),
-        Answer::Cut => {}
-        Answer::Refused(_) => {}
+        );
     }
 }
 
@@ -334,14 +331,8 @@ pub fn handed(words: &mut [u64], s: Stored) -> TincaAnswer
     ensures answer { result ≡ plain_answer s.answer }
     ensures words { words.new ≡ words_after s.answer s.map words.old }
 {
-    let m = s.map;
-    let a = s.answer;
-    match a {
-        Answer::Done(_) => {
-            put_words(words, m);
-            answer(a)
-        }
-        Answer::Cut => answer(a),
-        Answer::Refused(_) => answer(a),
+    if let Answer::Done(_) = s.answer {
+        put_words(words, s.map);
     }
+    answer(s.answer)
 }

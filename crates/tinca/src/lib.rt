@@ -47,10 +47,7 @@ pub extern "C" fn tinca_make_map(card: &[u8]) -> TincaMap
 pub extern "C" fn tinca_free_count(low: u64, high: u64) -> u64
     ensures { result ≡ free_count (record { low = low; high = high }) }
 {
-    freemap::free_count(Map {
-        low: low,
-        high: high,
-    })
+    freemap::free_count(Map { low, high })
 }
 
 #[unsafe(no_mangle)]
