@@ -2,7 +2,7 @@
 // on the card so left.
 #![tactic(auto)]
 
-ghost use Rattle.std.specs.Prelude.{◌≡◌, true, List, ℕ, ◌+◌, ◌-◌, ◌≤◌, ◌<◌, length, get_or};
+ghost use Rattle.std.specs.Prelude.{◌≡◌, true, List, ℕ, ◌+◌, ◌≤◌, ◌<◌, length, get_or};
 ghost use Rattle.protocol.specs.Layout.{geometry_of};
 ghost use Rattle.protocol.specs.Check.{fit_refusal};
 ghost use Rattle.protocol.specs.Commit.{numbers_fit};
