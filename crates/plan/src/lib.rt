@@ -7,7 +7,7 @@ ghost use Rattle.protocol.specs.Layout.{good_geometry, block_size};
 ghost use Rattle.protocol.specs.Entry.{is_modified};
 ghost use Rattle.protocol.specs.Search.{unused_at, search_start, unused_entries};
 ghost use Rattle.protocol.specs.Map.{map_by, is_marked, free_count};
-ghost use Rattle.protocol.specs.Commit.{numbers_fit, new_number, numbers_apart, room_for};
+ghost use Rattle.protocol.specs.Commit.{numbers_fit, new_number, numbers_apart};
 ghost use Rattle.ring.specs.Fitted.{Fitted, Framed};
 ghost use Rattle.checks.specs.Keys.{NONE, Lists};
 ghost use Rattle.checks.specs.Chain.{Blank};

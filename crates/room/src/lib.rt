@@ -2,7 +2,7 @@
 // on the card so left.
 #![tactic(auto)]
 
-ghost use Rattle.std.specs.Prelude.{◌≡◌, true, List, ℕ, ◌+◌, ◌-◌, ◌≤◌, ◌<◌, length, get_or};
+ghost use Rattle.std.specs.Prelude.{◌≡◌, true, List, ℕ, ◌+◌, ◌≤◌, ◌<◌, length, get_or};
 ghost use Rattle.protocol.specs.Layout.{geometry_of};
 ghost use Rattle.protocol.specs.Check.{fit_refusal};
 ghost use Rattle.protocol.specs.Commit.{numbers_fit};
@@ -84,17 +84,6 @@ fn gather(
     found
 }
 
-// How many blocks are missing for n numbers.
-fn lacking(n: usize, free: u64) -> usize
-    ensures { result ≡ n - free }
-{
-    if free < n as u64 {
-        (n as u64 - free) as usize
-    } else {
-        0
-    }
-}
-
 // What a commit's victims come to: 14, or how many they are.
 #[derive(Clone, Copy)]
 pub struct Selection {
@@ -124,7 +113,7 @@ fn choose(
         };
     }
     plan::find_homes(x.geometry, card, index, numbers, entries, previous);
-    let missing = lacking(n, x.free);
+    let missing = n.saturating_sub(x.free as usize);
     let marks = recency::marks_of(entries, n);
     let found = gather(x.geometry, card, table, &marks, missing, victims);
     if found < missing {

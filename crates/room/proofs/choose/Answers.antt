@@ -16,11 +16,11 @@ gather-found-requires c =
 pub returns-then-found-missing : goal.returns-then-found-missing
 returns-then-found-missing c =
     let p = c.requires in
-    chosen_few _ _ _ _ _ _ p.0 p.1 p.2.1 _ _ _ _ _ c.find_homes.ensures _ c.marks_of-marks.ensures _ _ c.lacking-missing.ensures
+    chosen_few _ _ _ _ _ _ p.0 p.1 p.2.1 _ _ _ _ _ c.find_homes.ensures _ c.marks_of-marks.ensures _ _ c.saturating_sub-missing.ensures
     c.gather-found.ensures c.if-found-missing.true
 
 pub returns : goal.returns
 returns c =
     let p = c.requires in
-    chosen _ _ _ _ _ _ p.0 p.1 p.2.1 _ _ _ _ _ c.find_homes.ensures _ c.marks_of-marks.ensures _ _ c.lacking-missing.ensures
+    chosen _ _ _ _ _ _ p.0 p.1 p.2.1 _ _ _ _ _ c.find_homes.ensures _ c.marks_of-marks.ensures _ _ c.saturating_sub-missing.ensures
     c.gather-found.ensures c.if-found-missing.false
