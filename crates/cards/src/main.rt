@@ -2,7 +2,7 @@
 // Blocks of 512 bytes, eight slots, four data blocks, sixteen disk blocks; entries begin at byte 192, data blocks at 256.
 #![tactic(auto)]
 
-ghost use Rattle.std.specs.Prelude.{◌≤◌, ◌<◌};
+ghost use Rattle.std.specs.Prelude.{◌<◌};
 
 use std::io;
 
@@ -59,11 +59,11 @@ fn over(rt: &impl Print, disk: &[u8]) -> io::Result<()> {
 }
 
 // One byte of a sound card changed.
-fn damaged(rt: &impl Print, name: &str, at: usize, x: u8, disk: &[u8]) -> io::Result<()>
-    requires { at < 2304 }
-{
+fn damaged(rt: &impl Print, name: &str, at: usize, x: u8, disk: &[u8]) -> io::Result<()> {
     let mut card = holding(0x82);
-    card[at] = x;
+    if let Some(byte) = card.get_mut(at) {
+        *byte = x;
+    }
     show(rt, name, &card, disk)
 }
 
@@ -84,11 +84,10 @@ fn windowed(rt: &impl Print, name: &str, number: u16, disk: &[u8]) -> io::Result
     show(rt, name, &card, disk)
 }
 
-// The first n bytes of a sound card.
-fn short(rt: &impl Print, name: &str, n: usize, disk: &[u8]) -> io::Result<()>
-    requires { n ≤ 2304 }
-{
-    show(rt, name, &holding(0x82)[..n], disk)
+// The first n bytes of a sound card, or all where it has fewer.
+fn short(rt: &impl Print, name: &str, n: usize, disk: &[u8]) -> io::Result<()> {
+    let card = holding(0x82);
+    show(rt, name, card.get(..n).unwrap_or(&card), disk)
 }
 
 // A sound card over a disk that lacks a byte.
