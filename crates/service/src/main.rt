@@ -23,12 +23,14 @@ fn usage(rt: &HostRuntime) {
 // Whether the command has as many arguments as it takes and they can be read; it then does its work.
 fn run(rt: &HostRuntime, word: Word, count: usize) -> bool {
     match word {
-        Word::Show => (count == 3) && words::show(rt),
-        Word::Block => (count == 5) && words::block(rt),
-        Word::Preview => (3 <= count) && words::preview(rt, count),
-        Word::Recover => (count == 3 || count == 4) && words::update(rt, count, files::repair),
-        Word::Upgrade => (count == 3 || count == 4) && words::update(rt, count, files::renew),
-        Word::Format => (count == 7) && words::format(rt),
+        Word::Show => (count == 3) && words::show(rt).is_some(),
+        Word::Block => (count == 5) && words::block(rt).is_some(),
+        Word::Preview => (3 <= count) && words::preview(rt, count).is_some(),
+        Word::Recover => (count == 3 || count == 4)
+            && words::update(rt, count, files::repair).is_some(),
+        Word::Upgrade => (count == 3 || count == 4)
+            && words::update(rt, count, files::renew).is_some(),
+        Word::Format => (count == 7) && words::format(rt).is_some(),
         Word::Other => false,
     }
 }

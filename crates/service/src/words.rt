@@ -1,4 +1,4 @@
-// The program's arguments. Each command answers whether its arguments could be read.
+// The program's arguments. Each command answers nothing where its arguments could not be read.
 ghost use Rattle.std.specs.Prelude.{◌≤◌, length, IfSome};
 
 use crate::files;
@@ -54,45 +54,43 @@ fn take(rt: &HostRuntime, i: usize, what: &[u8], buf: &mut [u8]) -> Option<usize
     }
 }
 
-pub fn show(rt: &HostRuntime) -> bool {
+pub fn show(rt: &HostRuntime) -> Option<()> {
     let mut path = [0u8; ROOM];
     if let Some(n) = take(rt, 2, b"CARD", &mut path) {
         files::show(rt, &path[..n]);
     }
-    true
+    Some(())
 }
 
-pub fn block(rt: &HostRuntime) -> bool {
+pub fn block(rt: &HostRuntime) -> Option<()> {
     let mut card = [0u8; ROOM];
     let mut disk = [0u8; ROOM];
-    let Some(b) = number(rt, 4) else {
-        return false;
-    };
+    let b = number(rt, 4)?;
     let Some(c) = take(rt, 2, b"CARD", &mut card) else {
-        return true;
+        return Some(());
     };
     if let Some(d) = take(rt, 3, b"DISK", &mut disk) {
         files::block(rt, &card[..c], &disk[..d], b);
     }
-    true
+    Some(())
 }
 
-pub fn preview(rt: &HostRuntime, count: usize) -> bool {
+pub fn preview(rt: &HostRuntime, count: usize) -> Option<()> {
     let s = arguments::numbers(rt, count);
     if !s.all {
-        return false;
+        return None;
     }
     let mut path = [0u8; ROOM];
     if let Some(n) = take(rt, 2, b"CARD", &mut path) {
         outlook::preview(rt, &path[..n], &s.list[..s.count]);
     }
-    true
+    Some(())
 }
 
 // Without an allowance a recovery or an upgrade is made in full.
 fn allowance(rt: &HostRuntime, count: usize) -> Option<u64> {
     if count == 3 {
-        return Some(0xFFFF_FFFF_FFFF_FFFF);
+        return Some(u64::MAX);
     }
     number(rt, 3)
 }
@@ -102,41 +100,27 @@ pub fn update<F: FnOnce(&HostRuntime, &[u8], &mut File, &mut [u8], u64)>(
     rt: &HostRuntime,
     count: usize,
     change: F,
-) -> bool
+) -> Option<()>
     requires { F.IsAlwaysCallable change }
 {
-    let Some(a) = allowance(rt, count) else {
-        return false;
-    };
+    let a = allowance(rt, count)?;
     let mut path = [0u8; ROOM];
     if let Some(n) = take(rt, 2, b"CARD", &mut path) {
         files::update(rt, &path[..n], change, a);
     }
-    true
+    Some(())
 }
 
-pub fn format(rt: &HostRuntime) -> bool {
-    let Some(k) = number(rt, 3) else {
-        return false;
-    };
-    let Some(slots) = number(rt, 4) else {
-        return false;
-    };
-    let Some(blocks) = number(rt, 5) else {
-        return false;
-    };
-    let Some(disk) = number(rt, 6) else {
-        return false;
+pub fn format(rt: &HostRuntime) -> Option<()> {
+    let g = Geometry {
+        k: number(rt, 3)?,
+        slots: number(rt, 4)?,
+        blocks: number(rt, 5)?,
+        disk: number(rt, 6)?,
     };
     let mut path = [0u8; ROOM];
-    let g = Geometry {
-        k,
-        slots,
-        blocks,
-        disk,
-    };
     if let Some(n) = take(rt, 2, b"CARD", &mut path) {
         files::format(rt, &path[..n], g);
     }
-    true
+    Some(())
 }
