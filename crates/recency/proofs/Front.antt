@@ -63,28 +63,23 @@ module _ (x : ℕ) (t : List ℕ) where
     next_is : set s i carry ≡ shifted x t (suc i)
     next_is = (λ k. set (h.table k) i (h.carried k)) ∙ shift_set i (omega (arith, h.long))
 
-    -- what is put there, and what is taken up
-    pub front_turn : (new old : ℕ) → new ≡ carry → old ≡ get_or s i 0 → (old ≡ x → ⊥) → Shifting x t (set s i new) old (i + 1)
-    front_turn new old p e n =
-        let d : get_or s i 0 ≡ x → ⊥ = λ q. n (e ∙ q) in
-        rw (p, e, add-one) (record {
-          long = length-set s i carry ∙ h.long;
-          table = next_is;
-          carried = old_is;
-          passed =
-              λ k b e.
-              ⊎_elim
-              (λ (q : k ≡ i). d (old_is ∙ ap (λ (j : ℕ). get_or t j 0) (sym q) ∙ e))
-              (λ (b : k < i). h.passed k b e)
-              (last_or_before k i b);
-        })
+    pub front_turn : (get_or s i 0 ≡ x → ⊥) → Shifting x t (set s i carry) (get_or s i 0) (i + 1)
+    front_turn d = rw add-one (record {
+      long = length-set s i carry ∙ h.long;
+      table = next_is;
+      carried = old_is;
+      passed =
+          λ k b e.
+          ⊎_elim
+          (λ (q : k ≡ i). d (old_is ∙ ap (λ (j : ℕ). get_or t j 0) (sym q) ∙ e))
+          (λ (b : k < i). h.passed k b e)
+          (last_or_before k i b);
+    })
 
-    pub front_found : (new old : ℕ) → new ≡ carry → old ≡ get_or s i 0 → is_arranged t ≡ true → old ≡ x → set s i new ≡ to_front x t
+    pub front_found : is_arranged t ≡ true → get_or s i 0 ≡ x → set s i carry ≡ to_front x t
     unfolding shifted to_front
-    front_found new old p q a e =
-        ap (set s i) p
-        ∙ next_is
-        ∙ ap (λ (r : List ℕ). x ∷ r) (sym (without_at x t i (arranged_apart t a) (omega (arith, h.long)) (sym (q ∙ old_is) ∙ e)))
+    front_found a e =
+        next_is ∙ ap (λ (r : List ℕ). x ∷ r) (sym (without_at x t i (arranged_apart t a) (omega (arith, h.long)) (sym old_is ∙ e)))
 
   pub front_missed : (s : List ℕ) (carry i : ℕ) → Shifting x t s carry i → length s ≤ i → is_arranged t ≡ true → x < 128 → s ≡ to_front x t
   front_missed s carry i h l a b =

@@ -3,7 +3,7 @@ use Prim.Native.Nat.{ℕ, zero, suc, ◌+◌, ◌*◌, ◌-◌, ◌≤◌, ◌<�
 use mathlib.Core.Path.{◌≡◌, refl, sym, ap, ◌∙◌}
 use mathlib.Core.List.{List}
 use mathlib.Core.Logic.{⊎_elim}
-use mathlib.Core.Bool.{Bool, true, false, not, ◌&&◌, ◌||◌, and_assoc, or_assoc}
+use mathlib.Core.Bool.{Bool, true, false, not, ◌&&◌, ◌||◌, or_assoc}
 use native.Mathlib.Nat.{zero-add, add-zero, add-suc}
 use native.Mathlib.Numerals.{add-one}
 use native.Mathlib.Omega.{arith}
@@ -24,8 +24,8 @@ use Rattle.protocol.specs.Check.{refuse, header_fits, card_fits, disk_fits, wind
 use Rattle.ring.specs.declared.Window.{Window}
 use Rattle.ring.specs.declared.Fit.{Fit}
 use Rattle.ring.specs.Fitted.{Fitted, Placed, WindowOf, Framed, Opened}
-use Rattle.protocol.proofs.Below.{bool_same, and_true, or_none, and_left, and_right, and_both, and_fails, below_or_above, all_cong, any_cong}
-use Rattle.std.specs.List.{list_all, list_any, range_with_len}
+use Rattle.protocol.proofs.Below.{bool_same, or_none, and_left, and_right, and_both, and_fails, below_or_above, any_cong}
+use Rattle.std.specs.List.{list_any, range_with_len}
 use Rattle.protocol.proofs.Checks.{Limits, limits, refuse_passed, refuse_failed, or_else_first, or_else_next, or_else_none, refuse_none}
 
 -- ---- the geometry
@@ -261,11 +261,6 @@ window_at g c w j q r h e n =
     n ∙ ap (λ (x : ℕ). number_at c (128 + 8 * x) 8) (e ∙ ap (λ (t : ℕ). around g.slots t j) h.tail)
 
 -- a test of the first index, and then of the others
-all_first : (q : ℕ → Bool) (n : ℕ) → all_below q (suc n) ≡ q 0 && all_below (λ i. q (suc i)) n
-unfolding all_below
-all_first q zero = sym (and_true (q 0))
-all_first q (suc n) = ap (λ (b : Bool). b && q (suc n)) (all_first q n) ∙ and_assoc (q 0) (all_below (λ i. q (suc i)) n) (q (suc n))
-
 any_first : (q : ℕ → Bool) (n : ℕ) → any_below q (suc n) ≡ q 0 || any_below (λ i. q (suc i)) n
 unfolding any_below
 any_first q zero = sym (or_none (q 0))
@@ -273,14 +268,6 @@ any_first q (suc n) = ap (λ (b : Bool). b || q (suc n)) (any_first q n) ∙ or_
 
 -- a test of the numbers from a on is one of the indices
 module _ (p : ℕ → Bool) where
-  all_from : (a n : ℕ) → list_all p (range_with_len a n) ≡ all_below (λ i. p (a + i)) n
-  unfolding all_below
-  all_from a zero = refl
-  all_from a (suc n) =
-      (λ t. p (sym (add-zero a) t) && all_from (a + 1) n t)
-      ∙ ap (λ (b : Bool). p (a + 0) && b) (all_cong (λ i. p (a + 1 + i)) (λ i. p (a + suc i)) n (λ i l. ap p (omega arith)))
-      ∙ sym (all_first (λ i. p (a + i)) n)
-
   any_from : (a n : ℕ) → list_any p (range_with_len a n) ≡ any_below (λ i. p (a + i)) n
   unfolding any_below
   any_from a zero = refl
@@ -288,9 +275,6 @@ module _ (p : ℕ → Bool) where
       (λ t. p (sym (add-zero a) t) || any_from (a + 1) n t)
       ∙ ap (λ (b : Bool). p (a + 0) || b) (any_cong (λ i. p (a + 1 + i)) (λ i. p (a + suc i)) n (λ i l. ap p (omega arith)))
       ∙ sym (any_first (λ i. p (a + i)) n)
-
-  all_in_range : (n : ℕ) → list_all p (range_with_len 0 n) ≡ all_below p n
-  all_in_range n = all_from 0 n ∙ all_cong (λ i. p (0 + i)) p n (λ i l. ap p (zero-add i))
 
   any_in_range : (n : ℕ) → list_any p (range_with_len 0 n) ≡ any_below p n
   any_in_range n = any_from 0 n ∙ any_cong (λ i. p (0 + i)) p n (λ i l. ap p (zero-add i))

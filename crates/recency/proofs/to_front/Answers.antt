@@ -3,14 +3,14 @@ use Rattle.recency.proofs.Front.{front_start, front_turn, front_found, front_mis
 use borrow.Author.Rules.{rules}
 use Rattle.recency.proofs.to_front.Goals as goal
 
-pub loop-place-init : goal.loop-place-init
-loop-place-init c = search (front_start, rules)
+pub loop-at-init : goal.loop-at-init
+loop-at-init c = (search (front_start, rules), search rules)
 
-pub returns-then-carry-x : goal.returns-then-carry-x
-returns-then-carry-x c = search (front_found, rules)
+pub returns-then-old-x : goal.returns-then-old-x
+returns-then-old-x c = search (front_found, rules)
 
-pub loop-place-preserved : goal.loop-place-preserved
-loop-place-preserved c = search (front_turn, rules)
+pub loop-at-preserved : goal.loop-at-preserved
+loop-at-preserved c = (search (front_turn, rules), search rules)
 
 pub returns : goal.returns
 returns c = search (front_missed, rules)
