@@ -1,19 +1,9 @@
 -- `touch_found` moves the entry of a block that lay on the card, and else leaves the table.
-use native.Mathlib.Omega.{arith}
 use mathlib.Core.Path.{sym, ap, ◌∙◌}
 use Rattle.lookup.specs.declared.Found.{Found}
 use Rattle.lookup.specs.Place.{touched_by}
 use Rattle.lookup.proofs.Recent.{touched_else}
 use Rattle.lookup.proofs.touch_found.Goals as goal
-
-pub overflow_cast-i : goal.overflow_cast-i
-overflow_cast-i c =
-    let h = c.requires.1 _ _ _ c.in-Card.is in
-    record { fits = omega arith }
-
-pub to_front-requires : goal.to_front-requires
-to_front-requires c =
-    let p = c.requires in (p.0, p.1 _ _ _ c.in-Card.is)
 
 pub returns-in-Card : goal.returns-in-Card
 unfolding touched_by

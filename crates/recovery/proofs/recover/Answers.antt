@@ -1,6 +1,6 @@
 -- `recover` answers its definition, leaves the card as defined and hands on the map, refused, cut or done: one law for each way.
 use borrow.Author.Rules.{rules}
-use Rattle.recovery.proofs.Passed.{refused_recovery, refused_map, cut_recovery, done_recovery, examined_fitted, examined_window, examined_entries}
+use Rattle.recovery.proofs.Passed.{refused_recovery, refused_map, cut_recovery, done_recovery}
 use mathlib.Core.Bool.{not}
 use Rattle.std.proofs.Common.{ap}
 use Rattle.recovery.proofs.recover.Goals as goal
@@ -10,9 +10,6 @@ returns-then-s-ne0 c = search (refused_recovery, rules)
 
 pub returns-then-not-same : goal.returns-then-not-same
 returns-then-not-same c = search (refused_map, rules)
-
-pub make_list-r-requires : goal.make_list-r-requires
-make_list-r-requires c = search (examined_fitted, examined_window, examined_entries, rules)
 
 pub returns-then-allowance-count : goal.returns-then-allowance-count
 returns-then-allowance-count c =
