@@ -20,28 +20,12 @@ use Rattle.protocol.proofs.Loaded.{cached_entry}
 use Rattle.protocol.proofs.Passed.{first_zero}
 use Rattle.ring.proofs.Laws.{fit_fitted}
 use Rattle.lookup.specs.declared.Found.{Found}
-use Rattle.lookup.specs.declared.Found.TheVariants.{Refused, Outside, Card, Disk}
+use Rattle.lookup.specs.declared.Found.TheVariants.{Refused, Card, Disk}
 use Rattle.lookup.specs.Place.{place_in, found_by, found_at, fetched_by, fetched_at, recent_at, touched_by, untabled}
 
 -- what a read with the table promises: its answer, its output and the table
 abbrev pub Used : List ℕ → List ℕ → ℕ → List ℕ → List ℕ → List ℕ → List ℕ → Found → Type 0
 Used c d b t out t' out' r = (r ≡ recent_at c d t out b) × ((out' ≡ recent_output c d t out b) × (t' ≡ recent_table c d t out b))
-
--- the table after what did not lie on the card
-pub touched_else : (f : Found) (t : List ℕ) → ((x y z : ℕ) → f ≡ Card x y z → ⊥) → t ≡ touched_by f t
-unfolding touched_by
-touched_else (Refused r) t p = refl
-touched_else (Outside n) t p = refl
-touched_else (Card x y z) t p = absurd (p x y z refl)
-touched_else (Disk x y) t p = refl
-
--- 16 for what was not refused by another number
-pub untabled_else : (f : Found) → ((r : ℕ) → f ≡ Refused r → ⊥) → Refused 16 ≡ untabled f
-unfolding untabled
-untabled_else (Refused r) p = absurd (p r refl)
-untabled_else (Outside n) p = refl
-untabled_else (Card x y z) p = refl
-untabled_else (Disk x y) p = refl
 
 -- the table after a fetch, by its refusal and by whether the block is cached
 touched : (r : ℕ) (c : List ℕ) (b : ℕ) (t : List ℕ)

@@ -160,6 +160,7 @@ pub fn read(card: &[u8], disk: &[u8], b: u64, out: &mut [u8]) -> Held
 }
 
 // The entry of a block that was fetched from the card, moved to the front of the table.
+#[tactic(auto, unfolding(crate::specs::Place::touched_by))]
 fn touch_found(f: Found, table: &mut [u8])
     requires { (is_arranged table.old ≡ true) × ((at n i : ℕ) → f ≡ Found.Card at n i → i < 128) }
     ensures { table.new ≡ touched_by f table.old }
@@ -170,6 +171,7 @@ fn touch_found(f: Found, table: &mut [u8])
 }
 
 // 16, unless one of 1 to 7 was given.
+#[tactic(auto, unfolding(crate::specs::Place::untabled))]
 fn refuse_table(f: Found) -> Found
     ensures { result ≡ untabled f }
 {

@@ -407,9 +407,6 @@ place_fits g c f = omega (arith, fitted_blocks g c f)
 pub step_fits : (g : Geometry) (c : List ℕ) (at n : ℕ) → Fitted g c → n ≤ at → at ≤ g.blocks → Fits w64 (n + 1)
 step_fits g c at n f h k = omega (arith, fitted_blocks g c f)
 
-pub count_fits_lem : (g : Geometry) (c : List ℕ) (i m k : ℕ) → Fitted g c → i < g.blocks + 1 → m ≤ i → k ≤ 1 → Fits w64 (m + k)
-count_fits_lem g c i m k f l h z = omega (arith, fitted_blocks g c f)
-
 -- ---- a step as a run: one law for each of its three forms
 
 pub run_nothing : (g : Geometry) (i : ℕ) (u : Step) → u ≡ Nothing → NoRun ≡ step_run g i u

@@ -9,9 +9,5 @@ returns-then-v-ne0 c = search (sought_refused, rules)
 pub returns-then-g-b : goal.returns-then-g-b
 returns-then-g-b c = search (sought_outside, rules)
 
-pub locate-requires : goal.locate-requires
-locate-requires c =
-    ((c.examine-v.ensures.known c.if-v-ne0.false).indexed, search rules)
-
 pub returns : goal.returns
 returns c = search (sought_place, rules)

@@ -6,9 +6,6 @@ use Rattle.lookup.proofs.state.Goals as goal
 pub returns-then-fit-ne0 : goal.returns-then-fit-ne0
 returns-then-fit-ne0 c = search (state_unfit, rules)
 
-pub inspect-v-requires : goal.inspect-v-requires
-inspect-v-requires c = (c.fit_of-fit.ensures.framed c.if-fit-ne0.false, search rules)
-
 pub returns-then-v-ne0 : goal.returns-then-v-ne0
 returns-then-v-ne0 c = search (state_damaged, rules)
 

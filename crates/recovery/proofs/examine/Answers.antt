@@ -1,13 +1,10 @@
 -- `examine` answers the lowest refusal that holds, and of a card that has none what the list starts from, with its map.
 use borrow.Author.Rules.{rules}
-use Rattle.recovery.proofs.Passed.{fit_refuses, fit_framed, damage_refuses, damage_passes, damage_placed}
+use Rattle.recovery.proofs.Passed.{fit_refuses, damage_refuses, damage_passes, damage_placed}
 use Rattle.recovery.proofs.examine.Goals as goal
 
 pub returns-then-f-ne0 : goal.returns-then-f-ne0
 returns-then-f-ne0 c = search (fit_refuses, rules)
-
-pub inspect-v-requires : goal.inspect-v-requires
-inspect-v-requires c = search (fit_framed, rules)
 
 pub returns-then-v-ne0 : goal.returns-then-v-ne0
 returns-then-v-ne0 c = search (damage_refuses, rules)

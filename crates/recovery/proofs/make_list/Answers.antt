@@ -2,9 +2,8 @@
 -- and the entries ahead as they stood, and the blocks that the entries passed give up and take are noted.
 use borrow.Author.Rules.{rules}
 use Rattle.std.proofs.Common.{arith}
-use Rattle.stores.proofs.Laws.{did_length}
 use Rattle.recovery.proofs.Moving.{noted_none, good_stays, noted_next, noted_last}
-use Rattle.recovery.proofs.Turns.{turn_first, turn_next, turn_last, fitted_stays, window_stays, place_fits, count_fits_lem}
+use Rattle.recovery.proofs.Turns.{turn_first, turn_next, turn_last, fitted_stays, window_stays, place_fits}
 use Rattle.recovery.proofs.make_list.Goals as goal
 
 pub overflow_add-i-end : goal.overflow_add-i-end
@@ -25,12 +24,6 @@ note_step-moved-requires c =
       good_stays _ _ _ _ _ _ _ x (omega arith) _ c.requires.1 c.requires.2,
     )
 
-pub make_step-p-requires : goal.make_step-p-requires
-make_step-p-requires c = search (fitted_stays, rules)
-
-pub overflow_add-count : goal.overflow_add-count
-overflow_add-count c = search (count_fits_lem, rules)
-
 pub loop-i-preserved : goal.loop-i-preserved
 loop-i-preserved c =
     let x = c.loop-i.invariant.0 in (
@@ -39,9 +32,6 @@ loop-i-preserved c =
       noted_next _ _ _ _ _ _ _ x (omega arith) _ c.requires.1 c.requires.2 c.requires.0 _ c.step_at-u.ensures _ _ c.loop-i.invariant.2
           c.note_step-moved.ensures,
     )
-
-pub shape_of-card : goal.shape_of-card
-shape_of-card c = search (did_length, rules)
 
 pub returns : goal.returns
 returns c = search (turn_last, noted_last, rules)

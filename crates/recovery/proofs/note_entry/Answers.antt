@@ -6,8 +6,5 @@ use Rattle.recovery.proofs.note_entry.Goals as goal
 pub returns-then-e-eq-FRESH : goal.returns-then-e-eq-FRESH
 returns-then-e-eq-FRESH c = search (note_fresh, rules)
 
-pub with-requires : goal.with-requires
-with-requires c = c.requires.1 c.if-e-eq-FRESH.false
-
 pub returns : goal.returns
 returns c = search (note_saved, rules)

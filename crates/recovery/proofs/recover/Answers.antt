@@ -2,7 +2,7 @@
 use mathlib.Core.Path.{sym, ◌∙◌}
 use Rattle.protocol.proofs.Maps.{maps_alike}
 use borrow.Author.Rules.{rules}
-use Rattle.recovery.proofs.Passed.{refused_recovery, refused_map, cut_recovery, done_recovery, examined_fitted, examined_window, examined_entries}
+use Rattle.recovery.proofs.Passed.{refused_recovery, refused_map, cut_recovery, done_recovery}
 use mathlib.Core.Bool.{not}
 use Rattle.std.proofs.Common.{ap}
 use Rattle.recovery.proofs.recover.Goals as goal
@@ -13,9 +13,6 @@ returns-then-s-ne0 c = search (refused_recovery, rules)
 pub returns-then-ne : goal.returns-then-ne
 returns-then-ne c =
     refused_map _ _ _ _ c.examine-s.ensures c.if-s-ne0.false _ (maps_alike _ _) (sym c.ne.ensures ∙ c.if-ne.true)
-
-pub make_list-r-requires : goal.make_list-r-requires
-make_list-r-requires c = search (examined_fitted, examined_window, examined_entries, rules)
 
 pub returns-then-allowance-count : goal.returns-then-allowance-count
 returns-then-allowance-count c =

@@ -5,9 +5,6 @@ use Rattle.protocol.specs.Recency.{to_front, turned}
 use Rattle.transfer.proofs.Moving.{turned_else}
 use Rattle.transfer.proofs.touch_done.Goals as goal
 
-pub to_front-requires : goal.to_front-requires
-to_front-requires c = c.requires
-
 pub returns-in-Done : goal.returns-in-Done
 unfolding turned
 returns-in-Done c =
