@@ -9,5 +9,5 @@ use lib.ListN.{length}
 pub kept_fits : (n : ℕ) (xs : List ℕ) → n ≤ 256 → length xs ≡ 256 → n ≤ length xs
 kept_fits n xs h l = omega arith
 
-pub kept_all : (end i n : ℕ) → i - 3 ≤ end - 3 → end ≤ i → n ≡ min (i - 3) 256 → true ≡ true → n ≡ min (end - 3) 256
-kept_all end i n h l e t = let q : i - 3 ≡ end - 3 = omega arith in e ∙ ap (λ (k : ℕ). min k 256) q
+pub kept_all : (end i n : ℕ) → i - 3 ≤ end - 3 → end ≤ i → n ≡ min (i - 3) 256 → n ≡ min (end - 3) 256
+kept_all end i n h l e = let q : i - 3 ≡ end - 3 = omega arith in e ∙ ap (λ (k : ℕ). min k 256) q

@@ -1,7 +1,7 @@
 // The program's arguments as numbers, how many there are, and whether one came whole.
 #![tactic(auto)]
 
-ghost use Rattle.std.specs.Prelude.{◌≡◌, true, ◌-◌, ◌≤◌, min, length, take};
+ghost use Rattle.std.specs.Prelude.{◌≡◌, ◌-◌, ◌≤◌, min, length, take, IfSome};
 
 use std::env::FillError;
 use std::rt::Env;
@@ -35,39 +35,26 @@ pub fn is_whole(err: &impl Print, what: &[u8], read: Result<usize, FillError>) -
     false
 }
 
-// The numbers given for a save, and whether every argument is one.
+// The numbers given for a save.
 #[derive(Clone, Copy)]
 pub struct ArgumentList {
-    pub all: bool,
     pub count: usize,
     pub list: [u64; 256],
 }
 
-// The numbers from argument 3 up to `end`. The first 256 are kept: no card takes a save of more than 255, and one that refuses 256 for their
-// count refuses more of them with the same number.
-pub fn numbers(env: &impl Env, end: usize) -> ArgumentList
-    ensures { (result.count ≤ 256) × (result.count ≤ length result.list) × (result.count ≡ length (take result.count result.list)) × (result.all ≡ true → result.count ≡ min (end - 3) 256) }
+// The numbers from argument 3 up to `end`, where each of them is one. The first 256 are kept: no card takes a save of more than 255, and one that
+// refuses 256 for their count refuses more of them with the same number.
+pub fn numbers(env: &impl Env, end: usize) -> Option<ArgumentList>
+    ensures { IfSome result (λ s. (s.count ≤ 256) × (s.count ≤ length s.list) × (s.count ≡ length (take s.count s.list)) × (s.count ≡ min (end - 3) 256)) }
 {
     let mut list = [0u64; 256];
-    let mut kept: usize = 0;
-    let mut i: usize = 3;
-    while i < end {
-        let Some(b) = number(env, i) else {
-            return ArgumentList {
-                all: false,
-                count: 0,
-                list,
-            };
-        };
-        i += 1;
+    let mut kept = 0;
+    for i in 3..end {
+        let b = number(env, i)?;
         if kept < 256 {
             list[kept] = b;
             kept += 1;
         }
     }
-    ArgumentList {
-        all: true,
-        count: kept,
-        list,
-    }
+    Some(ArgumentList { count: kept, list })
 }

@@ -76,10 +76,7 @@ pub fn block(rt: &HostRuntime) -> Option<()> {
 }
 
 pub fn preview(rt: &HostRuntime, count: usize) -> Option<()> {
-    let s = arguments::numbers(rt, count);
-    if !s.all {
-        return None;
-    }
+    let s = arguments::numbers(rt, count)?;
     let mut path = [0u8; ROOM];
     if let Some(n) = take(rt, 2, b"CARD", &mut path) {
         outlook::preview(rt, &path[..n], &s.list[..s.count]);
