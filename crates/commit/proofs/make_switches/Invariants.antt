@@ -6,7 +6,7 @@ use lib.ListN.{length}
 use Rattle.protocol.specs.Below.{each_below}
 use Rattle.protocol.specs.Store.{Medium}
 use Rattle.stores.specs.Did.{Did}
-use Rattle.commit.specs.Making.{plan_by, planned_switch}
+use Rattle.commit.specs.Making.{planned_switch}
 use Rattle.commit.proofs.make_switches.Given as goal
 
 abbrev pub invariant-loop-i : goal.invariant-loop-i
