@@ -4,7 +4,7 @@
 ghost use Rattle.std.specs.Prelude.{◌≡◌, ◌≤◌, length, take, IfSome};
 ghost use Rattle.std.specs.Result.{result_ok};
 
-use listing::{count, fail, say};
+use listing::{Grouped, fail, say};
 use std::fs::{File, OpenOptions};
 use std::io;
 
@@ -81,9 +81,10 @@ pub fn is_long_enough(rt: &HostRuntime, path: &[u8], n: usize) -> bool {
     }
     err(rt, path);
     if n < 2304 {
-        err(rt, b": ");
-        count(&rt.stderr(), n as u64, 0);
-        err(rt, b" bytes, and the smallest card has 2,304\n");
+        let _ = println!(&rt.stderr();
+            ": {} bytes, and the smallest card has 2,304",
+            Grouped(n as u64)
+        );
     } else {
         err(
             rt,

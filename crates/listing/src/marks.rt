@@ -1,6 +1,9 @@
 // Text and numbers, in columns.
 ghost use Rattle.std.specs.Prelude.{◌≡◌, ◌-◌, ◌≤◌, min};
 
+use std::fmt;
+use std::fmt::Write;
+
 // What cannot be printed is let go: a recovery is not kept from its stores by a report that nobody can read.
 pub fn say(out: &impl Print, s: &[u8]) {
     let _ = out.write_all(s);
@@ -21,6 +24,20 @@ fn column(out: &impl Print, field: [u8; 26], width: usize) {
 // A count or a length, as 65,536.
 pub fn count(out: &impl Print, n: u64, width: usize) {
     column(out, text::number(n), width);
+}
+
+// The same in a sentence.
+#[derive(Clone, Copy)]
+pub struct Grouped(pub u64);
+
+impl fmt::Display for Grouped {
+    fn fmt<W: Write>(&self, f: &mut fmt::Formatter<W>) -> fmt::Result {
+        let field = text::number(self.0);
+        for mark in &field[start(text::blank(&field), 0)..26] {
+            f.write_char(char::from(*mark))?;
+        }
+        Ok(())
+    }
 }
 
 // A block number, a place or a position, as 1001.

@@ -5,7 +5,7 @@ ghost use Rattle.std.specs.Prelude.{◌≤◌, length};
 ghost use Rattle.outlook.specs.Foreseen.{Foreseen};
 
 use cardfile::{fetch, is_long_enough, refuse};
-use listing::{count, plain, say};
+use listing::{Grouped, plain, say};
 use plan::{Plan, Saving};
 use protocol::Mapped;
 
@@ -30,14 +30,9 @@ pub fn foresee(card: &[u8], numbers: &[u64]) -> Saving
 
 // "save of 2 blocks", and the names of the columns.
 fn heading(out: &impl Print, n: usize) {
-    say(out, b"save of ");
-    count(out, n as u64, 0);
-    if n == 1 {
-        say(out, b" block\n");
-    } else {
-        say(out, b" blocks\n");
-    }
-    say(out, b"  number  data block  entry  replaces\n");
+    let blocks = if n == 1 { "block" } else { "blocks" };
+    let _ = println!(out; "save of {} {blocks}", Grouped(n as u64));
+    let _ = println!(out; "  number  data block  entry  replaces");
 }
 
 // The previous data block has 128 added where it is modified, and is 256 for FRESH.
@@ -64,9 +59,7 @@ fn rows(out: &impl Print, numbers: &[u64], p: Plan)
 
 // The count of the save's stores.
 fn total(out: &impl Print, m: u64) {
-    say(out, b"stores ");
-    count(out, m, 0);
-    say(out, b"\n");
+    let _ = println!(out; "stores {}", Grouped(m));
 }
 
 // The save on a card that was read, or why it is refused.

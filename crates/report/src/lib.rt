@@ -3,7 +3,7 @@
 #![tactic(auto)]
 
 use faults::Fault;
-use listing::{count, entry, plain, say};
+use listing::{Grouped, count, entry, plain, say};
 use protocol::{Condition, Entry, FRESH, Reported};
 use sentence::fault;
 use survey::Line;
@@ -153,19 +153,20 @@ fn all<F: Fn(u64) -> Option<bool>>(show: F) -> bool
 fn told(out: &impl Print, c: Condition) {
     match c {
         Condition::Settled { used, modified } => {
-            say(out, b"settled, entries in use ");
-            count(out, used, 0);
-            say(out, b", modified ");
-            count(out, modified, 0);
+            let _ = println!(out;
+                "settled, entries in use {}, modified {}",
+                Grouped(used),
+                Grouped(modified)
+            );
         }
         Condition::Unsettled { undoable, window } => {
-            say(out, b"unsettled, undoable entries ");
-            count(out, undoable, 0);
-            say(out, b", slots in the window ");
-            count(out, window, 0);
+            let _ = println!(out;
+                "unsettled, undoable entries {}, slots in the window {}",
+                Grouped(undoable),
+                Grouped(window)
+            );
         }
     }
-    say(out, b"\n");
 }
 
 // Why the card's state is not told: it is an earlier version's, which is only recovered and upgraded, or it is refused.
@@ -232,9 +233,7 @@ fn is_sound(card: &[u8]) -> bool {
 // The length behind the name. Of a file longer than any card no more is read.
 fn title(out: &impl Print, n: usize) {
     if n <= 528512 {
-        say(out, b": ");
-        count(out, n as u64, 0);
-        say(out, b" bytes\n");
+        let _ = println!(out; ": {} bytes", Grouped(n as u64));
     } else {
         say(out, b": more than 528,512 bytes\n");
     }

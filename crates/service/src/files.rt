@@ -4,7 +4,7 @@ ghost use Rattle.std.specs.Prelude.{◌≤◌, ◌<◌};
 use cardfile::{err, fetch, is_long_enough, load, open, open_update, refuse};
 use faults::Fault;
 use image::Repair;
-use listing::{count, fail, say};
+use listing::{Grouped, fail, say};
 use lookup::Found;
 use protocol::{Geometry, Outcome};
 use std::fs::File;
@@ -16,11 +16,11 @@ use std::os::unix::fs::FileExt;
 fn match_header(rt: &HostRuntime, path: &[u8], card: &[u8]) {
     if let Fault::Length(long) = faults::fault_of(card, 1, 2) {
         err(rt, path);
-        err(rt, b": ");
-        count(&rt.stderr(), card.len() as u64, 0);
-        err(rt, b" bytes, and its header asks for ");
-        count(&rt.stderr(), long, 0);
-        err(rt, b"\n");
+        let _ = println!(&rt.stderr();
+            ": {} bytes, and its header asks for {}",
+            Grouped(card.len() as u64),
+            Grouped(long)
+        );
     }
 }
 
@@ -36,14 +36,11 @@ pub fn show(rt: &HostRuntime, path: &[u8]) {
 }
 
 // "block 3, held by the card from byte 256 on"
-fn held(rt: &HostRuntime, b: u64, by: &[u8], at: usize) {
-    say(rt, b"block ");
-    listing::plain(rt, b, 0);
-    say(rt, b", held by the ");
-    say(rt, by);
-    say(rt, b" from byte ");
-    count(rt, at as u64, 0);
-    say(rt, b" on\n");
+fn held(rt: &HostRuntime, b: u64, by: &str, at: usize) {
+    let _ = println!(rt;
+        "block {b}, held by the {by} from byte {} on",
+        Grouped(at as u64)
+    );
 }
 
 // Why a block could not be read: an error, or the file has become shorter.
@@ -65,7 +62,7 @@ fn from_disk(rt: &HostRuntime, path: &[u8], file: &File, b: u64, at: usize, size
     let bytes = &mut room[..size];
     match file.read_at(bytes, at as u64) {
         Ok(n) if n == size => {
-            held(rt, b, b"disk", at);
+            held(rt, b, "disk", at);
             listing::block(rt, bytes);
         }
         got => unread(rt, path, got),
@@ -87,7 +84,7 @@ fn find(rt: &HostRuntime, name: &[u8], card: &[u8], path: &[u8], file: &File, lo
         Found::Refused(r) => refuse_pair(rt, name, path, card, r),
         Found::Outside(_) => refuse(rt, name, card, 2, 2, 10),
         Found::Card(at, size, _) => {
-            held(rt, b, b"card", at);
+            held(rt, b, "card", at);
             listing::block(rt, &card[at..at + size]);
         }
         Found::Disk(at, size) => from_disk(rt, path, file, b, at, size),
@@ -124,16 +121,18 @@ fn told(rt: &HostRuntime, path: &[u8], r: Repair) {
             b": a store could not be written and made durable, and half of it may be in the file: recover a copy made before\n",
         );
     }
-    count(rt, r.made, 0);
-    say(rt, b" of ");
-    count(rt, r.count, 0);
-    if r.failed {
-        say(rt, b" stores made: failed\n");
+    let end = if r.failed {
+        "failed"
     } else if r.made < r.count {
-        say(rt, b" stores made: cut\n");
+        "cut"
     } else {
-        say(rt, b" stores made: done\n");
-    }
+        "done"
+    };
+    let _ = println!(rt;
+        "{} of {} stores made: {end}",
+        Grouped(r.made),
+        Grouped(r.count)
+    );
 }
 
 // The condition of the card as the file now has it, if it can be read whole.
@@ -195,9 +194,7 @@ pub fn update<F: FnOnce(&HostRuntime, &[u8], &mut File, &mut [u8], u64)>(
 
 fn made(rt: &HostRuntime, path: &[u8], n: usize) {
     say(rt, path);
-    say(rt, b": made, ");
-    count(rt, n as u64, 0);
-    say(rt, b" bytes\n");
+    let _ = println!(rt; ": made, {} bytes", Grouped(n as u64));
 }
 
 // Formats the card and makes its file.
