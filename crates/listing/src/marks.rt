@@ -16,6 +16,7 @@ fn start(blank: usize, width: usize) -> usize
     blank.min(26usize.saturating_sub(width))
 }
 
+// A column is cut from a field of `text`, whose marks have definitions, proofs and edits; a width in a format would have none.
 fn column(out: &impl Print, field: [u8; 26], width: usize) {
     let from = start(text::blank(&field), width);
     say(out, &field[from..26]);
