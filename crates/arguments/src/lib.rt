@@ -35,7 +35,7 @@ pub fn is_whole(err: &impl Print, what: &[u8], read: Result<usize, FillError>) -
     false
 }
 
-// The numbers given for a save.
+// The numbers given for a save, in a row of fixed length, since nothing here takes a heap.
 #[derive(Clone, Copy)]
 pub struct ArgumentList {
     pub count: usize,

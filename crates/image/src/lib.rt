@@ -74,7 +74,8 @@ pub fn create(files: &impl Files, path: &[u8], card: &[u8]) -> io::Result<()> {
     made
 }
 
-// How far the stores have come: how many the list has so far, how many of them are made, and whether a write to the file failed.
+// How far the stores have come: how many the list has so far, how many of them are made, and whether a write to the file failed: a flag and no error in
+// their place, since both counts are told of a failed list too (`Walked`, `Repaired`).
 #[derive(Clone, Copy)]
 pub struct Walk {
     pub count: u64,
