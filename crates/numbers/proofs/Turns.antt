@@ -9,7 +9,7 @@ use Prim.Native.Nat.{ℕ, zero, suc, ◌+◌, ◌*◌, ◌-◌, ◌/◌, ◌%◌
 use native.Mathlib.Nat.{pow-suc, pow-le-pow_right, zero-lt-suc, div-div-eq-div-mul, div-one}
 use native.Mathlib.Numerals.{add-one}
 use native.Mathlib.Omega.{arith}
-use lib.ListN.{replicate, length-replicate, length, get_or, take, drop, set}
+use lib.ListN.{replicate, length-replicate, get_or-replicate, length, get_or, take, drop, set}
 use lib.Seq.{drop-drop, ext_get_or}
 use Rattle.numbers.specs.Bytes.{be_from, be, bytes_be, part, number_at, patch}
 use Rattle.numbers.specs.Post.{Number}
@@ -140,6 +140,12 @@ copy_back d place src to from n i h k long l same =
     ext_get_or 0 place (part src from n) (as_many ∙ sym (length_part src from n k))
     (λ j m. same j (omega arith) ∙ ap (λ (r : List ℕ). get_or r j 0) bytes) in
     ap (put_mid to (to + n - to) d) is ∙ part_back d (part src from n) to n (length_part src from n k) h
+
+-- a row whose first places are v, all of them passed
+pub filled : (ys : List ℕ) (n i v : ℕ) → length ys ≡ n → n ≤ i → ((k : ℕ) → k < i → get_or ys k 0 ≡ v) → ys ≡ replicate n v
+filled ys n i v e h same =
+    ext_get_or 0 ys (replicate n v) (e ∙ sym (length-replicate n v))
+    (λ k l. same k (omega arith) ∙ sym (get_or-replicate n k v 0 (omega arith)))
 
 pub fill_back : (d last : List ℕ) (at n v : ℕ) → at + n ≤ length d → last ≡ replicate (length (mid_of at (at + n - at) d)) v
     → put_mid at (at + n - at) d last ≡ patch d at (replicate n v)

@@ -15,3 +15,6 @@ make_save-requires c =
 pub returns-clause-saved : goal.returns-clause-saved
 returns-clause-saved c =
     save-made _ _ _ _ _ _ _ _ _ c.requires _ _ _ _ _ _ c.count_of-count.ensures c.make_save.ensures.made
+
+pub returns-clause-blocks : goal.returns-clause-blocks
+returns-clause-blocks c = c.make_save.ensures.made.planned.blocks
