@@ -47,9 +47,9 @@ impl fmt::Display for Grouped {
 
 // A block number, a place, a position or a refusal's number in a sentence.
 #[derive(Clone, Copy)]
-pub struct Plain(pub u64);
+pub struct Ungrouped(pub u64);
 
-impl fmt::Display for Plain {
+impl fmt::Display for Ungrouped {
     fn fmt<W: Write>(&self, f: &mut fmt::Formatter<W>) -> fmt::Result {
         write_marks(f, &text::plain(self.0))
     }

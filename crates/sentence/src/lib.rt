@@ -2,7 +2,7 @@
 #![tactic(auto)]
 
 use faults::Fault;
-use listing::{Grouped, Plain};
+use listing::{Grouped, Ungrouped};
 use std::fmt;
 
 // Document 01's "Who can cause a refusal".
@@ -36,19 +36,19 @@ impl fmt::Display for OfEntries {
             Fault::Flags(i) => write!(
                 f,
                 "the flag byte of entry {} is not 80, 82 or 83, nor with version 2 86 or 87",
-                Plain(i)
+                Ungrouped(i)
             ),
-            Fault::NotZero(i) => write!(f, "entry {} has flag byte 00 and is not all zero", Plain(i)),
-            Fault::Number(i) => write!(f, "the number of entry {} is not below D", Plain(i)),
-            Fault::Current(i) => write!(f, "the current block of entry {} is not below N", Plain(i)),
+            Fault::NotZero(i) => write!(f, "entry {} has flag byte 00 and is not all zero", Ungrouped(i)),
+            Fault::Number(i) => write!(f, "the number of entry {} is not below D", Ungrouped(i)),
+            Fault::Current(i) => write!(f, "the current block of entry {} is not below N", Ungrouped(i)),
             Fault::Previous(i) => write!(
                 f,
                 "the previous block of entry {} is neither below N nor FRESH",
-                Plain(i)
+                Ungrouped(i)
             ),
-            Fault::SameNumber(i, j) => write!(f, "entries {} and {} have equal numbers", Plain(j), Plain(i)),
-            Fault::SameCurrent(i, j) => write!(f, "entries {} and {} have equal current blocks", Plain(j), Plain(i)),
-            Fault::SameSettled(i, j) => write!(f, "entries {} and {} have equal settled blocks", Plain(j), Plain(i)),
+            Fault::SameNumber(i, j) => write!(f, "entries {} and {} have equal numbers", Ungrouped(j), Ungrouped(i)),
+            Fault::SameCurrent(i, j) => write!(f, "entries {} and {} have equal current blocks", Ungrouped(j), Ungrouped(i)),
+            Fault::SameSettled(i, j) => write!(f, "entries {} and {} have equal settled blocks", Ungrouped(j), Ungrouped(i)),
             _ => Ok(()),
         }
     }
@@ -79,7 +79,7 @@ impl fmt::Display for Told {
             Fault::WindowNumber(p) => write!(
                 f,
                 "the number in slot {}, in the window, is not below D",
-                Plain(p)
+                Ungrouped(p)
             ),
             fault => write!(f, "{}", OfEntries(fault)),
         }
@@ -90,7 +90,7 @@ impl fmt::Display for Told {
 pub fn fault(out: &impl Print, number: u8, fault: Fault, low: u64, high: u64) {
     let _ = println!(out;
         "refused with {}: {}. Cause: {}.",
-        Plain(u64::from(number)),
+        Ungrouped(u64::from(number)),
         Told { fault, low, high },
         cause(number)
     );
@@ -112,7 +112,7 @@ fn unmet(number: u8) -> &'static str {
 pub fn refusal(out: &impl Print, number: u8) {
     let _ = println!(out;
         "refused with {}: {}. Cause: {}.",
-        Plain(u64::from(number)),
+        Ungrouped(u64::from(number)),
         unmet(number),
         cause(number)
     );
