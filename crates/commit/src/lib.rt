@@ -313,9 +313,10 @@ pub fn save(
 {
     let count = plan::count_of(g, numbers.len());
     plan.blocks = [0; 128];
-    make_save(
+    let made = make_save(
         g, card, head, head, map, numbers, data, plan, choice, count, allowance, true,
-    )
+    );
+    made
 }
 
 // Saves the blocks `numbers`, with their bytes side by side in `data`, as one commit. `allowance` stores still happen. Refused before any
