@@ -1,6 +1,6 @@
 -- `make_chosen` makes the chosen units. The invariant: those of the units passed are made.
 use Prim.Native.Nat.{ℕ, ◌<◌}
-use mathlib.Core.Path.{◌≡◌, sym, ◌∙◌}
+use mathlib.Core.Path.{◌≡◌, ◌∙◌}
 use native.Mathlib.Omega.{arith}
 use lib.ListN.{get_or, take, length-take}
 use lib.Seq.{get_or-take}
