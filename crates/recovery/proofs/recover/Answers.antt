@@ -6,8 +6,6 @@ use Rattle.protocol.specs.declared.Answer.TheVariants.{Refused}
 use Rattle.protocol.proofs.Maps.{maps_alike}
 use Rattle.recovery.specs.Went.{Recovered}
 use Rattle.recovery.proofs.Passed.{refused_recovery, refused_map, cut_recovery, done_recovery}
-use mathlib.Core.Bool.{not}
-use Rattle.std.proofs.Common.{ap}
 use Rattle.recovery.proofs.recover.Goals as goal
 
 pub returns-then-s-ne0 : goal.returns-then-s-ne0
