@@ -38,17 +38,40 @@ impl fmt::Display for OfEntries {
                 "the flag byte of entry {} is not 80, 82 or 83, nor with version 2 86 or 87",
                 Ungrouped(i)
             ),
-            Fault::NotZero(i) => write!(f, "entry {} has flag byte 00 and is not all zero", Ungrouped(i)),
+            Fault::NotZero(i) => write!(
+                f,
+                "entry {} has flag byte 00 and is not all zero",
+                Ungrouped(i)
+            ),
             Fault::Number(i) => write!(f, "the number of entry {} is not below D", Ungrouped(i)),
-            Fault::Current(i) => write!(f, "the current block of entry {} is not below N", Ungrouped(i)),
+            Fault::Current(i) => write!(
+                f,
+                "the current block of entry {} is not below N",
+                Ungrouped(i)
+            ),
             Fault::Previous(i) => write!(
                 f,
                 "the previous block of entry {} is neither below N nor FRESH",
                 Ungrouped(i)
             ),
-            Fault::SameNumber(i, j) => write!(f, "entries {} and {} have equal numbers", Ungrouped(j), Ungrouped(i)),
-            Fault::SameCurrent(i, j) => write!(f, "entries {} and {} have equal current blocks", Ungrouped(j), Ungrouped(i)),
-            Fault::SameSettled(i, j) => write!(f, "entries {} and {} have equal settled blocks", Ungrouped(j), Ungrouped(i)),
+            Fault::SameNumber(i, j) => write!(
+                f,
+                "entries {} and {} have equal numbers",
+                Ungrouped(j),
+                Ungrouped(i)
+            ),
+            Fault::SameCurrent(i, j) => write!(
+                f,
+                "entries {} and {} have equal current blocks",
+                Ungrouped(j),
+                Ungrouped(i)
+            ),
+            Fault::SameSettled(i, j) => write!(
+                f,
+                "entries {} and {} have equal settled blocks",
+                Ungrouped(j),
+                Ungrouped(i)
+            ),
             _ => Ok(()),
         }
     }

@@ -19,11 +19,10 @@ overflow_add-modified c =
     count_fits _ _ _ _ _ _ c.from-modified.ensures c.loop-i.invariant.1 (omega (arith, c.loop-i-test.true)) (fitted_blocks _ _ c.requires)
 
 pub loop-i-preserved : goal.loop-i-preserved
-loop-i-preserved c =
-    (
-      count_more _ _ _ _ _ c.from-used.ensures c.is_used.ensures c.loop-i.invariant.0,
-      count_more _ _ _ _ _ c.from-modified.ensures c.is_modified.ensures c.loop-i.invariant.1,
-    )
+loop-i-preserved c = (
+  count_more _ _ _ _ _ c.from-used.ensures c.is_used.ensures c.loop-i.invariant.0,
+  count_more _ _ _ _ _ c.from-modified.ensures c.is_modified.ensures c.loop-i.invariant.1,
+)
 
 pub returns-clause-used : goal.returns-clause-used
 returns-clause-used c = count_end _ _ _ _ c.loop-i.invariant.0 (omega arith) (omega arith)
