@@ -6,7 +6,9 @@ ghost use Rattle.protocol.specs.Below.{each_below, around};
 ghost use Rattle.protocol.specs.Layout.{good_geometry, block_size, slot_place, entry_place, block_place};
 ghost use Rattle.protocol.specs.Entry.{entry_of, log_flags, switched};
 ghost use Rattle.protocol.specs.Store.{Medium, single, slot_store, head_store};
+ghost use Rattle.protocol.specs.Commit.{new_block};
 ghost use Rattle.ring.specs.Fitted.{Fitted};
+ghost use Rattle.checks.specs.Keys.{Lists};
 ghost use Rattle.stores.specs.Did.{Did};
 ghost use Rattle.plan.specs.Planned.{previous_of, over_of};
 ghost use Rattle.commit.specs.Making.{step_runs, plan_by, planned_block, planned_switch, planned_end, part_runs, block_run, switch_run, run_at, Named, Ready, Makable, Made};
@@ -307,12 +309,14 @@ pub fn save(
     requires { Savable g card.old head map numbers.now «data».now choice.now plan.old.entries plan.old.previous }
     ensures saved { Saved card.old map numbers.now «data».now choice.now allowance result card.new plan.new.entries }
     ensures previous { plan.new.previous ≡ plan.old.previous }
+    ensures blocks { Lists (new_block g card.old) plan.new.blocks (length numbers.now) }
 {
-    plan.blocks = [0; 128];
     let count = plan::count_of(g, numbers.len());
-    make_save(
+    plan.blocks = [0; 128];
+    let made = make_save(
         g, card, head, head, map, numbers, data, plan, choice, count, allowance, true,
-    )
+    );
+    made
 }
 
 // Saves the blocks `numbers`, with their bytes side by side in `data`, as one commit. `allowance` stores still happen. Refused before any

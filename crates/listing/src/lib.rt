@@ -7,4 +7,4 @@ mod marks;
 
 pub use failure::fail;
 pub use list::{block, stores, version};
-pub use marks::{Grouped, count, entry, plain, say};
+pub use marks::{Grouped, Ungrouped, count, entry, plain, say};

@@ -27,17 +27,31 @@ pub fn count(out: &impl Print, n: u64, width: usize) {
     column(out, text::number(n), width);
 }
 
-// The same in a sentence.
+// What a field says in a sentence: its marks from the first that is no blank.
+fn write_marks<W: Write>(f: &mut fmt::Formatter<W>, field: &[u8; 26]) -> fmt::Result {
+    for mark in &field[start(text::blank(field), 0)..26] {
+        f.write_char(char::from(*mark))?;
+    }
+    Ok(())
+}
+
+// A count in a sentence.
 #[derive(Clone, Copy)]
 pub struct Grouped(pub u64);
 
 impl fmt::Display for Grouped {
     fn fmt<W: Write>(&self, f: &mut fmt::Formatter<W>) -> fmt::Result {
-        let field = text::number(self.0);
-        for mark in &field[start(text::blank(&field), 0)..26] {
-            f.write_char(char::from(*mark))?;
-        }
-        Ok(())
+        write_marks(f, &text::number(self.0))
+    }
+}
+
+// A block number, a place, a position or a refusal's number in a sentence.
+#[derive(Clone, Copy)]
+pub struct Ungrouped(pub u64);
+
+impl fmt::Display for Ungrouped {
+    fn fmt<W: Write>(&self, f: &mut fmt::Formatter<W>) -> fmt::Result {
+        write_marks(f, &text::plain(self.0))
     }
 }
 

@@ -1,5 +1,7 @@
 -- What state counts, entry by entry, and the condition that it comes to. Assumes nothing.
-use Prim.Native.Nat.{ℕ, zero, suc, ◌+◌}
+use mir.Syntax.{w64}
+use mir.Val.{Fits, bool_byte}
+use Prim.Native.Nat.{ℕ, zero, suc, ◌+◌, ◌≤◌, ◌<◌}
 use mathlib.Core.List.{List, [], ◌∷◌, ◌++◌}
 use lib.ListN.{length}
 use Rattle.std.specs.List.{range_with_len, filter}
@@ -19,7 +21,7 @@ use Rattle.protocol.specs.Layout.{geometry_of}
 use Rattle.protocol.specs.Ring.{head_of, tail_of, used_at, undoable_at, window_of, is_settled}
 use Rattle.protocol.specs.Check.{refuse, ring_fits, fit_refusal, damage_refusal}
 use Rattle.protocol.specs.Read.{modified_at, condition_of, state_refusal, state_of}
-use Rattle.protocol.proofs.Below.{and_left, and_right}
+use Rattle.protocol.proofs.Below.{and_left, and_right, count_hit, count_miss, count_le}
 use Rattle.protocol.proofs.Checks.{or_else_first, or_else_next}
 use Rattle.protocol.proofs.Passed.{first_zero, passed}
 use Rattle.ring.specs.declared.Fit.{Fit}
@@ -49,6 +51,23 @@ count_range p (suc n) =
     last : (b : Bool) (k : ℕ) → k + length (cond b (n ∷ []) []) ≡ cond b (suc k) k
     last true k = omega arith
     last false k = omega arith
+
+-- ---- the count in a loop: one more where the byte is 1
+
+byte_most : (b : Bool) → bool_byte b ≤ 1
+byte_most true = omega arith
+byte_most false = omega arith
+
+pub count_more : (p : ℕ → Bool) (i total b : ℕ) (hit : Bool) → b ≡ bool_byte hit → hit ≡ p i → total ≡ count_below p i
+    → total + b ≡ count_below p (i + 1)
+count_more p i total b true e q h = let one : b ≡ 1 = e in omega (arith, count_hit p i (sym q))
+count_more p i total b false e q h = let none : b ≡ 0 = e in omega (arith, count_miss p i (sym q))
+
+pub count_fits : (p : ℕ → Bool) (i n total b : ℕ) (hit : Bool) → b ≡ bool_byte hit → total ≡ count_below p i → i < n → n ≤ 128 → Fits w64 (total + b)
+count_fits p i n total b hit e h l k = record { fits = omega (arith, count_le p i, byte_most hit) }
+
+pub count_end : (p : ℕ → Bool) (i n total : ℕ) → total ≡ count_below p i → n ≤ i → i ≤ n → total ≡ count_below p n
+count_end p i n total h a b = let e : i ≡ n = omega arith in h ∙ ap (count_below p) e
 
 -- ---- the condition
 

@@ -2,6 +2,7 @@
 #![tactic(auto)]
 
 ghost use Rattle.std.specs.Prelude.{◌≡◌, true, List, ℕ, ◌+◌, ◌≤◌, ◌<◌, length};
+ghost use Rattle.protocol.specs.Below.{count_below};
 ghost use Rattle.protocol.specs.Recency.{is_arranged};
 ghost use Rattle.protocol.specs.Read.{held_after, held_by, recent_held, output_after, recent_output, recent_table, looked_at, modified_at, condition_of, state_of};
 ghost use Rattle.lookup.specs.Place.{Copied, place_in, sought_at, found_in, found_at, fetched_by, fetched_at, recent_at, touched_by, untabled};
@@ -221,6 +222,21 @@ fn is_modified(g: Geometry, card: &[u8], i: usize) -> bool
     codec::in_use(e) & codec::is_modified(e)
 }
 
+// How many entries are in use, and how many of these modified. By one walk over the entries: two filters, a walk each, take a quarter more of a call.
+fn counts(g: Geometry, card: &[u8]) -> (u64, u64)
+    requires { Fitted g card.now }
+    ensures used { result.0 ≡ count_below (used_at g card.now) g.blocks }
+    ensures modified { result.1 ≡ count_below (modified_at g card.now) g.blocks }
+{
+    let mut used = 0;
+    let mut modified = 0;
+    for i in 0..g.blocks as usize {
+        used += u64::from(is_used(g, card, i));
+        modified += u64::from(is_modified(g, card, i));
+    }
+    (used, modified)
+}
+
 // Whether entry i is undoable.
 fn is_undoable(g: Geometry, card: &[u8], w: Window, i: usize) -> bool
     requires { Fitted g card.now × WindowOf g card.now w × (i < g.blocks) }
@@ -234,18 +250,15 @@ fn condition(g: Geometry, card: &[u8], settled: bool) -> Condition
     requires { Fitted g card.now × Placed g card.now × (settled ≡ is_settled g card.now) }
     ensures { result ≡ condition_of g card.now }
 {
-    let w = ring::window_of(g, card);
-    let n = g.blocks as usize;
     if settled {
-        Condition::Settled {
-            used: (0..n).filter(|i| is_used(g, card, *i)).count() as u64,
-            modified: (0..n).filter(|i| is_modified(g, card, *i)).count() as u64,
-        }
-    } else {
-        Condition::Unsettled {
-            undoable: (0..n).filter(|i| is_undoable(g, card, w, *i)).count() as u64,
-            window: w.count,
-        }
+        let (used, modified) = counts(g, card);
+        return Condition::Settled { used, modified };
+    }
+    let w = ring::window_of(g, card);
+    let entries = 0..g.blocks as usize;
+    Condition::Unsettled {
+        undoable: entries.filter(|i| is_undoable(g, card, w, *i)).count() as u64,
+        window: w.count,
     }
 }
 

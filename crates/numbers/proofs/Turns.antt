@@ -9,7 +9,7 @@ use Prim.Native.Nat.{ℕ, zero, suc, ◌+◌, ◌*◌, ◌-◌, ◌/◌, ◌%◌
 use native.Mathlib.Nat.{pow-suc, pow-le-pow_right, zero-lt-suc, div-div-eq-div-mul, div-one}
 use native.Mathlib.Numerals.{add-one}
 use native.Mathlib.Omega.{arith}
-use lib.ListN.{replicate, length-replicate, length, get_or, take, drop, set}
+use lib.ListN.{replicate, length-replicate, get_or-replicate, length, get_or, take, drop, set}
 use lib.Seq.{drop-drop, ext_get_or}
 use Rattle.numbers.specs.Bytes.{be_from, be, bytes_be, part, number_at, patch}
 use Rattle.numbers.specs.Post.{Number}
@@ -46,17 +46,22 @@ item_at xs at w i h k =
     let in_part : i < w = omega (arith, ap length is, length_part xs at w k) in
     (in_part, ap (λ (r : List ℕ). get_or r i 0) is ∙ get_d_part xs at w i in_part)
 
--- a number of i bytes leaves room for one more, the next of at most 8
-pub number_fits_lem : (xs : List ℕ) (at w i r : ℕ) → i < length (mid_of at (at + w - at) xs) → at + w ≤ length xs → w ≤ 8
-    → Fits w8 (get_or xs (at + i) 0) → Number xs at i r → Fits w64 (r * 256 + get_or (mid_of at (at + w - at) xs) i 0)
-number_fits_lem xs at w i r h k l f n =
-    let item : (i < w) × (get_or (mid_of at (at + w - at) xs) i 0 ≡ get_or xs (at + i) 0) = item_at xs at w i h k in
+-- a number of i bytes, fewer than eight, leaves room for one more
+pub number_fits_lem : (xs : List ℕ) (at w i r b : ℕ) → i < w → w ≤ 8 → Number xs at i r → Fits w8 b → Fits w64 (r * 256 + b)
+number_fits_lem xs at w i r b h k n l =
     let top : i + 1 ≤ 8 = omega arith in
-    record { fits = omega (arith, byte_room i r (get_or xs (at + i) 0) n.below f, pow-le-pow_right (zero-lt-suc 255) top) }
+    record { fits = omega (arith, byte_room i r b n.below l, pow-le-pow_right (zero-lt-suc 255) top) }
+
+-- the next byte of the part
+pub item_fits : (xs : List ℕ) (at w i r : ℕ) → i < length (mid_of at (at + w - at) xs) → at + w ≤ length xs → w ≤ 8
+    → Fits w8 (get_or xs (at + i) 0) → Number xs at i r → Fits w64 (r * 256 + get_or (mid_of at (at + w - at) xs) i 0)
+item_fits xs at w i r h k l f n =
+    let item : (i < w) × (get_or (mid_of at (at + w - at) xs) i 0 ≡ get_or xs (at + i) 0) = item_at xs at w i h k in
+    rw item.1 (number_fits_lem xs at w i r (get_or xs (at + i) 0) item.0 l n f)
 
 pub number_scales : (xs : List ℕ) (at w i r : ℕ) → i < length (mid_of at (at + w - at) xs) → at + w ≤ length xs → w ≤ 8
     → Fits w8 (get_or xs (at + i) 0) → Number xs at i r → Fits w64 (r * 256)
-number_scales xs at w i r h k l f n = record { fits = omega (arith, number_fits_lem xs at w i r h k l f n) }
+number_scales xs at w i r h k l f n = record { fits = omega (arith, item_fits xs at w i r h k l f n) }
 
 pub number_turn : (xs : List ℕ) (at w i r : ℕ) → i < length (mid_of at (at + w - at) xs) → at + w ≤ length xs → Fits w8 (get_or xs (at + i) 0) → Number xs at i r
     → Number xs at (i + 1) (r * 256 + get_or (mid_of at (at + w - at) xs) i 0)
@@ -140,6 +145,12 @@ copy_back d place src to from n i h k long l same =
     ext_get_or 0 place (part src from n) (as_many ∙ sym (length_part src from n k))
     (λ j m. same j (omega arith) ∙ ap (λ (r : List ℕ). get_or r j 0) bytes) in
     ap (put_mid to (to + n - to) d) is ∙ part_back d (part src from n) to n (length_part src from n k) h
+
+-- a row whose first places are v, all of them passed
+pub filled : (ys : List ℕ) (n i v : ℕ) → length ys ≡ n → n ≤ i → ((k : ℕ) → k < i → get_or ys k 0 ≡ v) → ys ≡ replicate n v
+filled ys n i v e h same =
+    ext_get_or 0 ys (replicate n v) (e ∙ sym (length-replicate n v))
+    (λ k l. same k (omega arith) ∙ sym (get_or-replicate n k v 0 (omega arith)))
 
 pub fill_back : (d last : List ℕ) (at n v : ℕ) → at + n ≤ length d → last ≡ replicate (length (mid_of at (at + n - at) d)) v
     → put_mid at (at + n - at) d last ≡ patch d at (replicate n v)

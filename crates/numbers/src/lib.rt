@@ -42,10 +42,12 @@ pub fn copy(dst: &mut [u8], to: usize, src: &[u8], from: usize, n: usize)
     }
 }
 
-// Makes n bytes of dst from `at` on v.
+// Makes n bytes of dst from `at` on v. By a loop, which the compiler makes one `memset` of: std's `fill` stores the last byte by itself.
 pub fn fill(dst: &mut [u8], at: usize, n: usize, v: u8)
     requires { at + n ≤ length dst.old }
     ensures { dst.new ≡ patch dst.old at (replicate n v) }
 {
-    dst[at..at + n].fill(v);
+    for b in &mut dst[at..at + n] {
+        *b = v;
+    }
 }

@@ -1,6 +1,6 @@
 -- What a fetch copies: each block from where it lies, on the card or in the window of the disk, is the block's contents, and the record is that which
 -- stands for the recipe. Assumes nothing.
-use Prim.Native.Nat.{ℕ, zero, suc, ◌+◌, ◌*◌, ◌-◌, ◌/◌, ◌≤◌, ◌<◌}
+use Prim.Native.Nat.{ℕ, zero, suc, ◌+◌, ◌*◌, ◌-◌, ◌/◌, ◌≤◌, ◌<◌, min}
 use mathlib.Core.List.{List, [], ◌++◌}
 use mathlib.Core.Bool.{true, false, cond}
 use mathlib.Core.Path.{◌≡◌, refl, sym, ap, subst, ◌∙◌}
@@ -8,7 +8,7 @@ use mathlib.Core.Logic.{◌⊎◌, inl, inr}
 use native.Mathlib.Nat.{add-mul, suc-mul, mul-le-mul_right, div-eq_of_lt-le}
 use native.Mathlib.Numerals.{add-one}
 use native.Mathlib.Omega.{arith}
-use lib.ListN.{length, take, drop, replicate, length-replicate}
+use lib.ListN.{length, get_or, take, drop, replicate, length-replicate}
 use lib.Seq.{take-append-add}
 use lib.Dec.{eqb}
 use borrow.Author.Tests.{eq-eqb, ne_eqb, ltb-true}
@@ -362,6 +362,10 @@ window_wrong c d n r o there none w wrong win =
     wrong (long ∙ ap (λ (k : ℕ). 4 * k) (sym (there.size_is none)))
 
 -- ---- the record copied block by block
+
+-- what stands at place i is block i
+pub nth_is : (e : List Found) (i : ℕ) → i < 3 → get_or e i (Refused 0) ≡ nth_of e i
+nth_is e i l = let m : i ≡ min i 3 = omega arith in ap (λ (k : ℕ). get_or e k (Refused 0)) m
 
 module _ (c w : List ℕ) (size : ℕ) (e : List Found) (re : Reachable c w size e) (n : ℕ) (low : 512 ≤ size) (few : n ≤ 1528) where
   -- the blocks passed

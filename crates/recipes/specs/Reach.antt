@@ -1,5 +1,5 @@
 -- What the recipe calls find before they store or copy anything: where a recipe's blocks lie, and what they hold.
-use Rattle.std.specs.Prelude.{ℕ, ◌+◌, ◌*◌, ◌-◌, ◌/◌, ◌≤◌, ◌<◌, List, [], true, ◌≡◌, length, get_or}
+use Rattle.std.specs.Prelude.{ℕ, ◌+◌, ◌*◌, ◌-◌, ◌/◌, ◌≤◌, ◌<◌, min, List, [], true, ◌≡◌, length, get_or}
 use Rattle.numbers.specs.Bytes.{part}
 use Rattle.protocol.specs.Below.{each_below}
 use Rattle.protocol.specs.Layout.{good_geometry, geometry_of, block_size, disk_place}
@@ -61,9 +61,9 @@ pub record Reached (c w : List ℕ) (at size : ℕ) (f : Found) : Type 0 where
   pub on_disk : (p n : ℕ) → f ≡ Disk p n → at + n ≤ length w
   pub long : length (held_in c w at f) ≡ size
 
--- block i of four
+-- block i of four, the last of them for each i from 3 on
 abbrev pub nth_of : List Found → ℕ → Found
-nth_of e i = get_or e i (Refused 0)
+nth_of e i = get_or e (min i 3) (Refused 0)
 
 unfoldable pub block_in : List ℕ → List ℕ → ℕ → List Found → ℕ → List ℕ
 block_in c w size e i = held_in c w (i * size) (nth_of e i)

@@ -404,6 +404,9 @@ turn_last g c a d p i h k x = list_ends g c i h k (λ (rs : List Run). Went rs a
 pub place_fits : (g : Geometry) (c : List ℕ) → Fitted g c → Fits w64 (g.blocks + 1)
 place_fits g c f = omega (arith, fitted_blocks g c f)
 
+pub count_fits_lem : (g : Geometry) (c : List ℕ) (i n m k : ℕ) → Fitted g c → n ≡ g.blocks → i ≤ n → m ≤ i → k ≤ 1 → Fits w64 (m + k)
+count_fits_lem g c i n m k f e l h z = omega (arith, fitted_blocks g c f)
+
 pub step_fits : (g : Geometry) (c : List ℕ) (at n : ℕ) → Fitted g c → n ≤ at → at ≤ g.blocks → Fits w64 (n + 1)
 step_fits g c at n f h k = omega (arith, fitted_blocks g c f)
 

@@ -287,6 +287,10 @@ pub window_number_misfits : (g : Geometry) (c : List ℕ) (j r : ℕ) → r ≡ 
 unfolding window_number_fits
 window_number_misfits g c j r e h = le-ltb _ _ (rw e at h)
 
+pub window_has_lem : (g : Geometry) (c : List ℕ) (b j r : ℕ) → r ≡ window_number g c j → r ≡ b → window_has g c b j ≡ true
+unfolding window_has
+window_has_lem g c b j r e h = eq-eqb _ _ (sym e ∙ h)
+
 pub has_test : (g : Geometry) (c : List ℕ) (b j r : ℕ) → r ≡ window_number g c j → eqb r b ≡ window_has g c b j
 unfolding window_has
 has_test g c b j r e = ap (λ (x : ℕ). eqb x b) e

@@ -144,18 +144,18 @@ impl Screen {
         }
     }
 
-    // A card that has the old recipe, the save opened on it and the calls before c made.
-    fn up_to(c: Call) -> Screen {
-        let mut s = Screen::new();
-        format::format(9, 8, 8, 16, &mut s.card);
-        s.map = made(&s.card);
-        s.commit_old();
-        s.map = made(&s.card);
-        s.open();
+    // The card anew, with the old recipe, the save opened on it and the calls before c made. In place, since a screen by value costs a sweep
+    // several copies of its arrays for each cut; no call here writes the disk.
+    fn up_to(&mut self, c: Call) {
+        self.card.fill(0);
+        format::format(9, 8, 8, 16, &mut self.card);
+        self.map = made(&self.card);
+        self.commit_old();
+        self.map = made(&self.card);
+        self.open();
         for j in 1..c.number() {
-            s.call(Call::Put(j), 0, AMPLE);
+            self.call(Call::Put(j), 0, AMPLE);
         }
-        s
     }
 
     // The power is back: the map is made, and the card recovered.
@@ -189,7 +189,9 @@ impl Screen {
 
 // The stores of call c where it is not cut.
 fn stores_of(c: Call) -> u64 {
-    match Screen::up_to(c).call(c, 0, AMPLE) {
+    let mut s = Screen::new();
+    s.up_to(c);
+    match s.call(c, 0, AMPLE) {
         Answer::Done(n) => n,
         _ => 0,
     }
@@ -222,8 +224,9 @@ fn sweep(c: Call, choice: u8, stores: u64) -> Tally {
         new: 0,
         torn: 0,
     };
+    let mut s = Screen::new();
     for allowance in 0..stores {
-        let mut s = Screen::up_to(c);
+        s.up_to(c);
         let answer = s.call(c, choice, allowance);
         s.start();
         t.cuts += u64::from(matches!(answer, Answer::Cut));
@@ -313,7 +316,8 @@ fn finishes(rt: &impl Print, s: &mut Screen) -> io::Result<()> {
 // record of a save that the recovery abandoned.
 fn refusals(rt: &impl Print) -> io::Result<()> {
     println!(rt; "-- refusals while the save is pending")?;
-    let mut s = Screen::up_to(Call::Put(3));
+    let mut s = Screen::new();
+    s.up_to(Call::Put(3));
     show_record(rt, &s)?;
     show_commit(rt, &mut s)?;
     show_read(rt, &s)?;
@@ -325,7 +329,8 @@ fn refusals(rt: &impl Print) -> io::Result<()> {
 // Call c cut at this allowance, and made again with the record and the map that it handed back.
 fn again(rt: &impl Print, title: &str, c: Call, allowance: u64) -> io::Result<Screen> {
     println!(rt; "-- {title}")?;
-    let mut s = Screen::up_to(c);
+    let mut s = Screen::new();
+    s.up_to(c);
     println!(rt; "{c} allowance {allowance} {}", s.call(c, 0, allowance))?;
     show_record(rt, &s)?;
     show_call(rt, &mut s, c)?;

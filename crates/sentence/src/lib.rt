@@ -2,7 +2,7 @@
 #![tactic(auto)]
 
 use faults::Fault;
-use listing::Grouped;
+use listing::{Grouped, Ungrouped};
 use std::fmt;
 
 // Document 01's "Who can cause a refusal".
@@ -35,18 +35,43 @@ impl fmt::Display for OfEntries {
         match self.0 {
             Fault::Flags(i) => write!(
                 f,
-                "the flag byte of entry {i} is not 80, 82 or 83, nor with version 2 86 or 87"
+                "the flag byte of entry {} is not 80, 82 or 83, nor with version 2 86 or 87",
+                Ungrouped(i)
             ),
-            Fault::NotZero(i) => write!(f, "entry {i} has flag byte 00 and is not all zero"),
-            Fault::Number(i) => write!(f, "the number of entry {i} is not below D"),
-            Fault::Current(i) => write!(f, "the current block of entry {i} is not below N"),
+            Fault::NotZero(i) => write!(
+                f,
+                "entry {} has flag byte 00 and is not all zero",
+                Ungrouped(i)
+            ),
+            Fault::Number(i) => write!(f, "the number of entry {} is not below D", Ungrouped(i)),
+            Fault::Current(i) => write!(
+                f,
+                "the current block of entry {} is not below N",
+                Ungrouped(i)
+            ),
             Fault::Previous(i) => write!(
                 f,
-                "the previous block of entry {i} is neither below N nor FRESH"
+                "the previous block of entry {} is neither below N nor FRESH",
+                Ungrouped(i)
             ),
-            Fault::SameNumber(i, j) => write!(f, "entries {j} and {i} have equal numbers"),
-            Fault::SameCurrent(i, j) => write!(f, "entries {j} and {i} have equal current blocks"),
-            Fault::SameSettled(i, j) => write!(f, "entries {j} and {i} have equal settled blocks"),
+            Fault::SameNumber(i, j) => write!(
+                f,
+                "entries {} and {} have equal numbers",
+                Ungrouped(j),
+                Ungrouped(i)
+            ),
+            Fault::SameCurrent(i, j) => write!(
+                f,
+                "entries {} and {} have equal current blocks",
+                Ungrouped(j),
+                Ungrouped(i)
+            ),
+            Fault::SameSettled(i, j) => write!(
+                f,
+                "entries {} and {} have equal settled blocks",
+                Ungrouped(j),
+                Ungrouped(i)
+            ),
             _ => Ok(()),
         }
     }
@@ -76,7 +101,8 @@ impl fmt::Display for Told {
             Fault::Tail => write!(f, "Tail is not below S"),
             Fault::WindowNumber(p) => write!(
                 f,
-                "the number in slot {p}, in the window, is not below D"
+                "the number in slot {}, in the window, is not below D",
+                Ungrouped(p)
             ),
             fault => write!(f, "{}", OfEntries(fault)),
         }
@@ -86,7 +112,8 @@ impl fmt::Display for Told {
 // A refusal by a call that takes versions from low to high, with its number and the fault behind it, in one line.
 pub fn fault(out: &impl Print, number: u8, fault: Fault, low: u64, high: u64) {
     let _ = println!(out;
-        "refused with {number}: {}. Cause: {}.",
+        "refused with {}: {}. Cause: {}.",
+        Ungrouped(u64::from(number)),
         Told { fault, low, high },
         cause(number)
     );
@@ -107,7 +134,8 @@ fn unmet(number: u8) -> &'static str {
 // A refusal that is no fault of the card by itself: 3, 7, 8, 10, 11 or 14.
 pub fn refusal(out: &impl Print, number: u8) {
     let _ = println!(out;
-        "refused with {number}: {}. Cause: {}.",
+        "refused with {}: {}. Cause: {}.",
+        Ungrouped(u64::from(number)),
         unmet(number),
         cause(number)
     );

@@ -4,7 +4,7 @@ ghost use Rattle.std.specs.Prelude.{◌≤◌, ◌<◌};
 use cardfile::{err, fetch, is_long_enough, load, open, open_update, refuse};
 use faults::Fault;
 use image::Repair;
-use listing::{Grouped, fail, say};
+use listing::{Grouped, Ungrouped, fail, say};
 use lookup::Found;
 use protocol::{Geometry, Outcome};
 use std::fs::File;
@@ -38,7 +38,8 @@ pub fn show(rt: &HostRuntime, path: &[u8]) {
 // "block 3, held by the card from byte 256 on"
 fn held(rt: &HostRuntime, b: u64, by: &str, at: usize) {
     let _ = println!(rt;
-        "block {b}, held by the {by} from byte {} on",
+        "block {}, held by the {by} from byte {} on",
+        Ungrouped(b),
         Grouped(at as u64)
     );
 }

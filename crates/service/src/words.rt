@@ -1,5 +1,6 @@
 // The program's arguments. Each command answers nothing where its arguments could not be read.
-ghost use Rattle.std.specs.Prelude.{◌≤◌, length, IfSome};
+ghost use Rattle.std.specs.Prelude.{◌≡◌, ◌≤◌, length, IfSome};
+ghost use Rattle.service.specs.Words.{word_of};
 
 use crate::files;
 use arguments::{is_whole, number};
@@ -22,14 +23,17 @@ pub enum Word {
     Other,
 }
 
-fn spoken(s: &[u8]) -> Word {
+// The command that a word names, by the word whole.
+fn spoken(s: &[u8]) -> Word
+    ensures { result ≡ word_of s.now }
+{
     match s {
-        b"show" => Word::Show,
-        b"block" => Word::Block,
-        b"preview" => Word::Preview,
-        b"recover" => Word::Recover,
-        b"upgrade" => Word::Upgrade,
-        b"format" => Word::Format,
+        _ if text::same(s, b"show") => Word::Show,
+        _ if text::same(s, b"block") => Word::Block,
+        _ if text::same(s, b"preview") => Word::Preview,
+        _ if text::same(s, b"recover") => Word::Recover,
+        _ if text::same(s, b"upgrade") => Word::Upgrade,
+        _ if text::same(s, b"format") => Word::Format,
         _ => Word::Other,
     }
 }

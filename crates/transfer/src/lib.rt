@@ -150,7 +150,8 @@ fn touch_done(answer: Answer, table: &mut [u8], x: u8)
     requires { (is_arranged table.old ≡ true) × (x < 128) }
     ensures { table.new ≡ turned answer table.old (to_front x table.old) }
 {
-    if let Answer::Done(_) = answer {
+    let done = matches!(answer, Answer::Done(_));
+    if done {
         recency::to_front(table, x);
     }
 }

@@ -1,6 +1,6 @@
 -- `make_chosen` makes the chosen units. The invariant: those of the units passed are made.
 use Prim.Native.Nat.{ℕ, ◌<◌}
-use mathlib.Core.Path.{◌≡◌, sym, ◌∙◌}
+use mathlib.Core.Path.{◌≡◌, ◌∙◌}
 use native.Mathlib.Omega.{arith}
 use lib.ListN.{get_or, take, length-take}
 use lib.Seq.{get_or-take}
@@ -20,7 +20,7 @@ loop-i-preserved c =
     let byte : get_or (take c.args.count c.args.choice.now) i 0 ≡ get_or c.args.choice.now i 0 = get_or-take _ _ _ _ l in
     elim c.if-chosen-eq1.branch [
       | then-chosen-eq1 w ↦
-          w.dst-is ∙ chosen_turn _ _ c.requires.0 c.requires.1 _ l m _ _ _ _ _ _ _ (c.loop-i.invariant m) (sym byte ∙ w.if-chosen-eq1.true) (search rules)
+          w.dst-is ∙ chosen_turn _ _ c.requires.0 c.requires.1 _ l m _ _ _ _ _ _ _ (c.loop-i.invariant m) (omega (arith, byte, c.type_inv.choice i)) (search rules)
       | else-chosen-eq1 w ↦
-          w.dst-is ∙ chosen_passed m _ _ _ _ _ _ _ _ _ l (c.loop-i.invariant m) (λ e. w.if-chosen-eq1.false (byte ∙ e))
+          w.dst-is ∙ chosen_passed m _ _ _ _ _ _ _ _ _ l (c.loop-i.invariant m) (λ e. omega (arith, byte, c.type_inv.choice i))
     ]
