@@ -24,6 +24,7 @@ pub enum Word {
 }
 
 // The command that a word names, by the word whole.
+#[tactic(auto, unfolding(crate::specs::Words::word_of))]
 fn spoken(s: &[u8]) -> Word
     ensures { result ≡ word_of s.now }
 {

@@ -1,4 +1,4 @@
--- `spoken` tells the command that a word names: the words are asked for in turn.
+-- `spoken` tells the command that a word names. A check finds the answers; that of the first word stands, so that what its edit loses is named.
 use mathlib.Core.Path.{sym, ◌∙◌}
 use Rattle.service.specs.Words.{word_of}
 use Rattle.service.proofs.words.spoken.Goals as goal
@@ -6,27 +6,3 @@ use Rattle.service.proofs.words.spoken.Goals as goal
 pub returns-then-same : goal.returns-then-same
 unfolding word_of
 returns-then-same c = rw (sym c.same.ensures ∙ c.if-same.true)
-
-pub returns-then-same-2 : goal.returns-then-same-2
-unfolding word_of
-returns-then-same-2 c = rw (sym c.same.ensures ∙ c.if-same.false, sym c.same-2.ensures ∙ c.if-same-2.true)
-
-pub returns-then-same-3 : goal.returns-then-same-3
-unfolding word_of
-returns-then-same-3 c = rw (sym c.same.ensures ∙ c.if-same.false, sym c.same-2.ensures ∙ c.if-same-2.false, sym c.same-3.ensures ∙ c.if-same-3.true)
-
-pub returns-then-same-4 : goal.returns-then-same-4
-unfolding word_of
-returns-then-same-4 c = rw (sym c.same.ensures ∙ c.if-same.false, sym c.same-2.ensures ∙ c.if-same-2.false, sym c.same-3.ensures ∙ c.if-same-3.false, sym c.same-4.ensures ∙ c.if-same-4.true)
-
-pub returns-then-same-5 : goal.returns-then-same-5
-unfolding word_of
-returns-then-same-5 c = rw (sym c.same.ensures ∙ c.if-same.false, sym c.same-2.ensures ∙ c.if-same-2.false, sym c.same-3.ensures ∙ c.if-same-3.false, sym c.same-4.ensures ∙ c.if-same-4.false, sym c.same-5.ensures ∙ c.if-same-5.true)
-
-pub returns-then-same-6 : goal.returns-then-same-6
-unfolding word_of
-returns-then-same-6 c = rw (sym c.same.ensures ∙ c.if-same.false, sym c.same-2.ensures ∙ c.if-same-2.false, sym c.same-3.ensures ∙ c.if-same-3.false, sym c.same-4.ensures ∙ c.if-same-4.false, sym c.same-5.ensures ∙ c.if-same-5.false, sym c.same-6.ensures ∙ c.if-same-6.true)
-
-pub returns-else-same-6 : goal.returns-else-same-6
-unfolding word_of
-returns-else-same-6 c = rw (sym c.same.ensures ∙ c.if-same.false, sym c.same-2.ensures ∙ c.if-same-2.false, sym c.same-3.ensures ∙ c.if-same-3.false, sym c.same-4.ensures ∙ c.if-same-4.false, sym c.same-5.ensures ∙ c.if-same-5.false, sym c.same-6.ensures ∙ c.if-same-6.false)
